@@ -1,0 +1,155 @@
+-- Laws of the questions in turn, and of a record that none refuses. Assumes nothing.
+use mathlib.Core.Path.{_≡_, refl, sym, ap, _∙_}
+use mathlib.Core.Bool.{Bool, true, false, cond, not, _&&_, and-true, and-false, true≢false, false≢true}
+use mathlib.Core.Logic.{_⊎_, inl, inr, ⊎-elim}
+use mathlib.Core.List.{List, [], _∷_, _++_}
+use Prim.Native.Nat.{ℕ, _+_, _-_, _^_, _≤_, _<_}
+use native.Mathlib.Omega.{arith}
+use lib.Dec.{eqb, leb, ltb}
+use lib.ListN.{length, drop}
+use borrow.Author.Tests.{leb-true, ltb-true, lt-ltb, eqb-true, eqb-false, ne-eqb, eq-eqb, le-leb}
+use Rattle.record.specs.Below.{all, count}
+use Rattle.record.specs.Members.{faulty, quorum, leader, has, within, meets, idRound, idMember}
+use Rattle.record.specs.Refusals.{numberOf, Question, firstNo}
+use Rattle.record.specs.Layout.{strongOf, timeoutsOf, noVotesOf, weakCountOf, weakOf}
+use Rattle.record.specs.Questions.{roundOk, masksOk, strongOk, lacksLeader, quorumIf, timeoutsOk, noVotesOk, weakIdOk, rises, slotOk, weakOk, recordQuestions, bodyRefusal}
+use Rattle.record.specs.Admitted.{Admitted, AdmittedLaw}
+use Rattle.record.specs.declared.refusal.Refusal.{Refusal}
+use Rattle.record.specs.declared.refusal.Refusal.the-variants.{None}
+use Rattle.record.proofs.Booleans.{which, and-left, and-right, and-both, cond-true, cond-false}
+use Rattle.record.proofs.Below.{all-elim}
+use Rattle.record.proofs.Masks.{within-lt, meets-count}
+
+-- ---- the first no
+
+-- a question answered yes is passed over, and one answered no gives its refusal
+pub next : {t : Bool} {r : Refusal} (why : Refusal) (rest : List Question) → t ≡ true → r ≡ firstNo rest → r ≡ firstNo ((t, why) ∷ rest)
+unfolding firstNo
+next {t = true} why rest e h = h
+next {t = false} why rest e h = absurd (false≢true e)
+
+pub stop : {t : Bool} (why : Refusal) (rest : List Question) → t ≡ false → why ≡ firstNo ((t, why) ∷ rest)
+unfolding firstNo
+stop {t = true} why rest e = absurd (true≢false e)
+stop {t = false} why rest e = refl
+
+pub done : None ≡ firstNo []
+unfolding firstNo
+done = refl
+
+-- where questions 4 to 6 are answered yes, those from 7 on decide
+pub known : (n round source : ℕ) (body : List ℕ) {r : Refusal} → 1 ≤ round → round ≤ 32 → source < n → length body ≡ 10
+    → r ≡ firstNo (drop 3 (recordQuestions n round source body)) → r ≡ bodyRefusal n round source body
+unfolding bodyRefusal roundOk
+known n round source body l h k e d =
+    next _ _ (eq-eqb _ _ e) (next _ _ (and-both (le-leb 1 round l) (le-leb round 32 h)) (next _ _ (lt-ltb source n k) d))
+
+pub round-range : (round : ℕ) → roundOk round ≡ true → (1 ≤ round) × (round ≤ 32)
+unfolding roundOk
+round-range round e = (leb-true _ _ (and-left (leb 1 round) _ e), leb-true _ _ (and-right (leb 1 round) _ e))
+
+-- question 10's mask, where the source leads its round and where not
+pub wanted-leading : (n : ℕ) (lack leads : Bool) (mask : ℕ) → leads ≡ true → quorumIf n lack mask ≡ quorumIf n (lack && leads) mask
+wanted-leading n lack leads mask e = ap (λ (b : Bool). quorumIf n b mask) (sym (ap (λ (b : Bool). lack && b) e ∙ and-true lack))
+
+pub wanted-not : (n : ℕ) (lack leads : Bool) (mask : ℕ) → leads ≡ false → eqb mask 0 ≡ quorumIf n (lack && leads) mask
+unfolding quorumIf
+wanted-not n lack leads mask e = sym (cond-false _ _ (ap (λ (b : Bool). lack && b) e ∙ and-false lack))
+
+-- ---- an admitted record
+
+pub both-yes : (t : Bool) (why : Refusal) (rest : List Question) → (numberOf why ≡ 0 → ⊥) → numberOf (firstNo ((t, why) ∷ rest)) ≡ 0 → (t ≡ true) × (numberOf (firstNo rest) ≡ 0)
+unfolding firstNo
+both-yes true why rest h e = (refl, e)
+both-yes false why rest h e = absurd (h e)
+
+-- ---- questions 7 to 11, answered yes
+
+masks-range : (n : ℕ) (body : List ℕ) → masksOk n body ≡ true → (strongOf body < 2 ^ n) × (timeoutsOf body < 2 ^ n) × (noVotesOf body < 2 ^ n)
+unfolding masksOk
+masks-range n body e =
+    let rest : (within n (timeoutsOf body) && within n (noVotesOf body)) ≡ true = and-right (within n (strongOf body)) _ e in (
+      within-lt n _ (and-left _ _ e),
+      within-lt n _ (and-left _ _ rest),
+      within-lt n _ (and-right (within n (timeoutsOf body)) _ rest),
+    )
+
+-- a mask below 2 ^ n that meets the quorum
+met : (n m : ℕ) → m < 2 ^ n → meets n m ≡ true → quorum n ≤ count n (has m)
+met n m l e = leb-true _ _ (sym (meets-count n m l) ∙ e)
+
+strong-none : (n round strong : ℕ) → strongOk n round strong ≡ true → round ≡ 1 → strong ≡ 0
+unfolding strongOk
+strong-none n round strong e h = eqb-true strong 0 (sym (cond-true (eqb strong 0) (meets n strong) (eq-eqb round 1 h)) ∙ e)
+
+strong-many : (n round strong : ℕ) → strong < 2 ^ n → strongOk n round strong ≡ true → 2 ≤ round → quorum n ≤ count n (has strong)
+unfolding strongOk
+strong-many n round strong l e h = met n strong l (sym (cond-false (eqb strong 0) (meets n strong) (ne-eqb round 1 (λ d. omega arith))) ∙ e)
+
+lacking : (n round strong : ℕ) → 2 ≤ round → has strong (leader n (round - 1)) ≡ false → lacksLeader n round strong ≡ true
+unfolding lacksLeader
+lacking n round strong l e = and-both (le-leb 2 round l) (ap not e)
+
+wanted : (n : ℕ) (t : Bool) (mask : ℕ) → mask < 2 ^ n → quorumIf n t mask ≡ true → t ≡ true → quorum n ≤ count n (has mask)
+unfolding quorumIf
+wanted n t mask l e h = met n mask l (sym (cond-true (meets n mask) (eqb mask 0) h) ∙ e)
+
+-- what a used slot holds
+used : (n round : ℕ) (body : List ℕ) → weakOk n round body ≡ true → (i : ℕ) → i < 5 → i < weakCountOf body
+    → (rises body i && weakIdOk n round (weakOf body i)) ≡ true
+unfolding weakOk slotOk
+used n round body e i l h =
+    let s : slotOk n round body i ≡ true = all-elim 5 (slotOk n round body) (and-right (leb (weakCountOf body) (faulty n)) _ e) i l in
+    sym (cond-true (rises body i && weakIdOk n round (weakOf body i)) (eqb (weakOf body i) 0) (lt-ltb i (weakCountOf body) h)) ∙ s
+
+weak-id : (n round x : ℕ) → weakIdOk n round x ≡ true → (idMember x < n) × (1 ≤ idRound x) × (idRound x + 2 ≤ round)
+unfolding weakIdOk
+weak-id n round x e =
+    let rest : (leb 1 (idRound x) && leb (idRound x + 2) round) ≡ true = and-right (ltb (idMember x) n) _ e in
+    (ltb-true _ _ (and-left _ _ e), leb-true _ _ (and-left _ _ rest), leb-true _ _ (and-right (leb 1 (idRound x)) _ rest))
+
+rising : (body : List ℕ) (i : ℕ) → rises body (i + 1) ≡ true → weakOf body i < weakOf body (i + 1)
+unfolding rises
+rising body i e =
+    rw (sub-add i) at (ltb-true (weakOf body (i + 1 - 1)) (weakOf body (i + 1)) (sym (cond-false true _ (ne-eqb (i + 1) 0 (λ d. omega arith))) ∙ e))
+  where
+    sub-add : (k : ℕ) → k + 1 - 1 ≡ k
+    sub-add k = omega arith
+
+weak-count : (n round : ℕ) (body : List ℕ) → weakOk n round body ≡ true → weakCountOf body ≤ faulty n
+unfolding weakOk
+weak-count n round body e = leb-true _ _ (and-left (leb (weakCountOf body) (faulty n)) _ e)
+
+-- A record with the number 0 is admitted.
+pub admitted : AdmittedLaw
+unfolding bodyRefusal timeoutsOk noVotesOk
+admitted n round source body e =
+    let q4 = both-yes _ _ _ (eqb-false 4 0 refl) e in
+    let q5 = both-yes _ _ _ (eqb-false 5 0 refl) (q4 .1) in
+    let q6 = both-yes _ _ _ (eqb-false 6 0 refl) (q5 .1) in
+    let q7 = both-yes _ _ _ (eqb-false 7 0 refl) (q6 .1) in
+    let q8 = both-yes _ _ _ (eqb-false 8 0 refl) (q7 .1) in
+    let q9 = both-yes _ _ _ (eqb-false 9 0 refl) (q8 .1) in
+    let q10 = both-yes _ _ _ (eqb-false 10 0 refl) (q9 .1) in
+    let q11 = both-yes _ _ _ (eqb-false 11 0 refl) (q10 .1) in
+    let r = round-range round (q5 .0) in
+    let m = masks-range n body (q7 .0) in
+    let u = used n round body (q11 .0) in
+    record {
+      size = eqb-true _ _ (q4 .0);
+      round-low = r .0;
+      round-high = r .1;
+      source-low = ltb-true _ _ (q6 .0);
+      strong-low = m .0;
+      timeouts-low = m .1;
+      no-votes-low = m .2;
+      strong-first = strong-none n round (strongOf body) (q8 .0);
+      strong-later = strong-many n round (strongOf body) (m .0) (q8 .0);
+      timeout-quorum = λ l d. wanted n _ (timeoutsOf body) (m .1) (q9 .0) (lacking n round (strongOf body) l d);
+      no-vote-quorum = λ l d s. wanted n _ (noVotesOf body) (m .2) (q10 .0) (and-both (lacking n round (strongOf body) l d) (eq-eqb _ _ s));
+      weak-few = weak-count n round body (q11 .0);
+      weak-member = λ i l h. weak-id n round (weakOf body i) (and-right (rises body i) _ (u i l h)) .0;
+      weak-low = λ i l h. weak-id n round (weakOf body i) (and-right (rises body i) _ (u i l h)) .1;
+      weak-high = λ i l h. weak-id n round (weakOf body i) (and-right (rises body i) _ (u i l h)) .2;
+      weak-rising = λ i l h. rising body i (and-left (rises body (i + 1)) _ (u (i + 1) l h));
+    }

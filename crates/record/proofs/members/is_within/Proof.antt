@@ -1,0 +1,23 @@
+use Rattle.record.proofs.Masks.{within-wide, within-shift}
+use mathlib.Core.Path.{sym}
+use native.Mathlib.Omega.{arith}
+use borrow.Author.Needs.{needs}
+use Rattle.record.proofs.members.is_within.Statement.{statement}
+use Rattle.record.proofs.members.is_within.Tie as tie
+use Rattle.record.proofs.members.is_within.Reads as reads
+use Rattle.record.proofs.members.is_within.Lts as lts
+
+-- src/members.rt:54:9
+returns : tie.Need-returns
+returns c = sym (within-wide _ _ (omega arith) (omega arith))
+
+-- src/members.rt:56:5
+shr-result : tie.Need-shr-result
+shr-result c = search needs
+
+-- src/members.rt:50:1
+returns-2 : tie.Need-returns-2
+returns-2 c = within-shift _ _
+
+pub is-within-spec : {M : Type 1} → statement M
+is-within-spec = tie.close (tie.spec returns shr-result returns-2)

@@ -1,0 +1,32 @@
+use Rattle.record.specs.declared.questions.Terms.{Terms}
+use Rattle.record.specs.Members.{has}
+use Rattle.record.proofs.Masks.{leader-small}
+use mathlib.Core.Bool.{not}
+use mathlib.Core.Path.{_∙_, ap}
+use native.Mathlib.Omega.{arith}
+use Prim.Native.Nat.{_-_}
+use Rattle.record.specs.Questions.{lacksLeader, termsOf}
+use borrow.Author.Tests.{le-leb, lt-leb}
+use borrow.Author.Needs.{needs}
+use Rattle.record.proofs.questions.lacks_leader.Statement.{statement}
+use Rattle.record.proofs.questions.lacks_leader.Tie as tie
+use Rattle.record.proofs.questions.lacks_leader.Reads as reads
+use Rattle.record.proofs.questions.lacks_leader.Lts as lts
+use Rattle.record.proofs.members.Members.has.Reads as has-reads
+
+-- src/questions.rt:93:9
+returns : tie.Need-returns
+unfolding lacksLeader
+returns c = simp (lt-leb _ _ (c .if1 .taken))
+
+-- src/questions.rt:99:6
+has-requires : tie.Need-has-requires
+has-requires c κs = omega (arith, ap (λ (t : Terms). t .previous) (c .before .pre .0), leader-small (c .before .args .terms .n) (c .before .args .round - 1) (omega arith))
+
+-- src/questions.rt:88:1
+returns-2 : tie.Need-returns-2
+unfolding lacksLeader
+returns-2 c = simp (le-leb _ _ (c .before .if1 .left)) (ap not (c .has .ensures ∙ ap (λ (t : Terms). has (c .before .before .args .strong) (t .previous)) (c .before .before .pre .0)))
+
+pub lacks-leader-spec : {M : Type 1} → statement M
+lacks-leader-spec = tie.close (tie.spec returns has-requires returns-2)

@@ -1,0 +1,26 @@
+use Rattle.record.proofs.Turn.{wanted-leading, wanted-not}
+use mathlib.Core.Path.{_∙_}
+use mathlib.Core.Bool.{and-true, and-false}
+use Rattle.record.specs.Questions.{quorumIf}
+use borrow.Author.Tests.{eq-eqb, ne-eqb}
+use borrow.Author.Needs.{needs}
+use Rattle.record.proofs.questions.no_votes_ok.Statement.{statement}
+use Rattle.record.proofs.questions.no_votes_ok.Tie as tie
+use Rattle.record.proofs.questions.no_votes_ok.Reads as reads
+use Rattle.record.proofs.questions.no_votes_ok.Lts as lts
+use Rattle.record.proofs.questions.quorum_if.Reads as quorum-if-reads
+
+-- src/questions.rt:118:9
+quorum-if-requires : tie.Need-quorum-if-requires
+quorum-if-requires c κs = search needs
+
+-- src/questions.rt:118:9
+returns : tie.Need-returns
+returns c = c .quorum-if .ensures ∙ wanted-leading _ _ _ _ (eq-eqb _ _ (c .before .if1 .taken))
+
+-- src/questions.rt:114:1
+returns-2 : tie.Need-returns-2
+returns-2 c = wanted-not (c .before .before .args .terms .n) (c .before .before .args .lack) _ (c .before .before .args .no-votes) (ne-eqb _ _ (c .if1 .left))
+
+pub no-votes-ok-spec : {M : Type 1} → statement M
+no-votes-ok-spec = tie.close (tie.spec quorum-if-requires returns returns-2)

@@ -1,0 +1,7 @@
+pub mod Below
+pub mod Members
+pub mod Refusals
+pub mod Layout
+pub mod Questions
+pub mod Admitted
+pub mod Claims

@@ -1,0 +1,53 @@
+-- The group: its n members, quorums, leaders, masks of members, and the ids of vertices.
+use mathlib.Core.Bool.{Bool, _&&_}
+use Prim.Native.Nat.{ℕ, _+_, _-_, _*_, _/_, _%_, _^_}
+use lib.Bits.{bitOr}
+use lib.Count.{ones}
+use lib.Dec.{eqb, leb, ltb}
+use Rattle.record.specs.declared.members.Members.{Members}
+
+-- n is 4, 7, 10, 13 or 16
+unfoldable pub legal : ℕ → Bool
+legal n = leb 4 n && (leb n 16 && eqb (n % 3) 1)
+
+-- f, the most members of n that may be faulty
+abbrev pub faulty : ℕ → ℕ
+faulty n = (n - 1) / 3
+
+-- 2f + 1
+abbrev pub quorum : ℕ → ℕ
+quorum n = 2 * faulty n + 1
+
+-- the leader of round r
+unfoldable pub leader : ℕ → ℕ → ℕ
+leader n r = (r - 1) % n
+
+-- member p is in the mask m: bit p of m is set
+unfoldable pub has : ℕ → ℕ → Bool
+has m p = eqb (m / 2 ^ p % 2) 1
+
+-- the mask m with member p added
+abbrev pub add : ℕ → ℕ → ℕ
+add m p = bitOr m (2 ^ p)
+
+-- the mask m has no bit at n or above
+unfoldable pub within : ℕ → ℕ → Bool
+within n m = ltb m (2 ^ n)
+
+-- the mask m has at least 2f + 1 bits
+unfoldable pub meets : ℕ → ℕ → Bool
+meets n m = leb (quorum n) (ones m)
+
+-- the members m with member p added
+abbrev pub with : Members → ℕ → Members
+with m p = record { bits = add (m .bits) p; n = m .n }
+
+-- the id (01: ref) of the vertex of round r and member p, and its round and member
+abbrev pub idOf : ℕ → ℕ → ℕ
+idOf r p = 16 * r + p
+
+abbrev pub idRound : ℕ → ℕ
+idRound x = x / 16
+
+abbrev pub idMember : ℕ → ℕ
+idMember x = x % 16

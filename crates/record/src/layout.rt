@@ -1,0 +1,24 @@
+// The words of a record: round, source, and a body of ten words.
+pub const RECORD_SIZE: usize = 12;
+
+pub const BODY_SIZE: usize = 10;
+
+pub const WEAK_SLOTS: usize = 5;
+
+// Of a record.
+pub const ROUND: usize = 0;
+
+pub const SOURCE: usize = 1;
+
+pub const BODY: usize = 2;
+
+// Of a body.
+pub const STRONG: usize = 0;
+
+pub const TIMEOUTS: usize = 1;
+
+pub const NO_VOTES: usize = 2;
+
+pub const WEAK_COUNT: usize = 4;
+
+pub const WEAK: usize = 5;

@@ -1,0 +1,236 @@
+// Questions 4 to 11: each a small function, and the checks that ask them in turn.
+ghost use mathlib.Core.Path.{_≡_};
+ghost use mathlib.Core.Bool.{_&&_};
+ghost use Prim.Native.Nat.{_<_, _≤_};
+ghost use lib.Dec.{eqb};
+ghost use lib.ListN.{length};
+ghost use Rattle.record.specs.Members.{within};
+ghost use Rattle.record.specs.Questions.{roundOk, strongOk, lacksLeader, quorumIf, weakIdOk, rises, slotOk, weakOk, bodyRefusal, recordRefusal, termsOf};
+use super::layout::BODY;
+use super::layout::BODY_SIZE;
+use super::layout::NO_VOTES;
+use super::layout::RECORD_SIZE;
+use super::layout::ROUND;
+use super::layout::SOURCE;
+use super::layout::STRONG;
+use super::layout::TIMEOUTS;
+use super::layout::WEAK;
+use super::layout::WEAK_COUNT;
+use super::layout::WEAK_SLOTS;
+use super::members::Members;
+use super::members::faulty_of;
+use super::members::is_within;
+use super::members::leader_of;
+use super::refusal::Refusal;
+
+// What the questions need of the group and the round, worked out once for all records of a round.
+pub struct Terms {
+    pub n: u32,
+    pub previous: u32,
+    pub leader: u32,
+}
+
+pub fn terms_of(n: u32, round: u32) -> Terms
+    requires { ⌜ (0 < n) × (1 ≤ round) ⌝ }
+    ensures { λ r. ⌜ r ≡ termsOf n round ⌝ }
+{
+    let leader = leader_of(n, round);
+    if round == 1 {
+        return Terms {
+            n,
+            previous: 0,
+            leader,
+        };
+    }
+    let previous = leader_of(n, round - 1);
+    Terms {
+        n,
+        previous,
+        leader,
+    }
+}
+
+// 5
+fn round_ok(round: u32) -> bool
+    ensures { λ r. ⌜ r ≡ roundOk round ⌝ }
+{
+    if round < 1 {
+        return false;
+    }
+    round <= 32
+}
+
+// 7
+fn masks_ok(n: u32, strong: u32, timeouts: u32, no_votes: u32) -> bool
+    ensures { λ r. ⌜ r ≡ (within n strong && (within n timeouts && within n «no_votes»)) ⌝ }
+{
+    if !is_within(n, strong) {
+        return false;
+    }
+    if !is_within(n, timeouts) {
+        return false;
+    }
+    is_within(n, no_votes)
+}
+
+// 8
+fn strong_ok(n: u32, round: u32, strong: u32) -> bool
+    ensures { λ r. ⌜ r ≡ strongOk n round strong ⌝ }
+{
+    if round == 1 {
+        return strong == 0;
+    }
+    let members = Members { bits: strong, n };
+    members.meets_quorum()
+}
+
+// The strong mask lacks the previous leader.
+fn lacks_leader(terms: Terms, round: u32, strong: u32) -> bool
+    requires { ⌜ (terms ≡ termsOf (terms .n) round) × (round ≤ 32) ⌝ }
+    ensures { λ r. ⌜ r ≡ lacksLeader (terms .n) round strong ⌝ }
+{
+    if round < 2 {
+        return false;
+    }
+    let members = Members {
+        bits: strong,
+        n: terms.n,
+    };
+    !members.has(terms.previous)
+}
+
+// The mask is a quorum where it is wanted, and 0 where not: 9, of the timeout mask.
+fn quorum_if(n: u32, wanted: bool, mask: u32) -> bool
+    ensures { λ r. ⌜ r ≡ quorumIf n wanted mask ⌝ }
+{
+    if wanted {
+        let members = Members { bits: mask, n };
+        return members.meets_quorum();
+    }
+    mask == 0
+}
+
+// 10
+fn no_votes_ok(terms: Terms, source: u32, lack: bool, no_votes: u32) -> bool
+    ensures { λ r. ⌜ r ≡ quorumIf (terms .n) (lack && eqb source (terms .leader)) «no_votes» ⌝ }
+{
+    if source == terms.leader {
+        return quorum_if(terms.n, lack, no_votes);
+    }
+    no_votes == 0
+}
+
+fn weak_id_ok(n: u32, round: u32, x: u32) -> bool
+    ensures { λ r. ⌜ r ≡ weakIdOk n round x ⌝ }
+{
+    if n <= x % 16 {
+        return false;
+    }
+    if x / 16 < 1 {
+        return false;
+    }
+    x / 16 + 2 <= round
+}
+
+fn rises_at(body: &[u32], i: usize) -> bool
+    requires { ⌜ (length (now body) ≡ 10) × (i < 5) ⌝ }
+    ensures { λ r. ⌜ r ≡ rises (now (body .entry)) i ⌝ }
+{
+    if i == 0 {
+        return true;
+    }
+    body[WEAK + (i - 1)] < body[WEAK + i]
+}
+
+fn wide(x: u32) -> usize
+    ensures { λ r. ⌜ r ≡ x ⌝ }
+{
+    x as usize
+}
+
+fn slot_ok(n: u32, round: u32, body: &[u32], i: usize) -> bool
+    requires { ⌜ (length (now body) ≡ 10) × (i < 5) ⌝ }
+    ensures { λ r. ⌜ r ≡ slotOk n round (now (body .entry)) i ⌝ }
+{
+    let x = body[WEAK + i];
+    if wide(body[WEAK_COUNT]) <= i {
+        return x == 0;
+    }
+    if !rises_at(body, i) {
+        return false;
+    }
+    weak_id_ok(n, round, x)
+}
+
+// 11
+fn weak_ok(n: u32, round: u32, body: &[u32]) -> bool
+    requires { ⌜ length (now body) ≡ 10 ⌝ }
+    ensures { λ r. ⌜ r ≡ weakOk n round (now (body .entry)) ⌝ }
+{
+    let most = faulty_of(n);
+    if most < body[WEAK_COUNT] {
+        return false;
+    }
+    let mut i: usize = 0;
+    while i < WEAK_SLOTS {
+        if !slot_ok(n, round, body, i) {
+            return false;
+        }
+        i += 1;
+    }
+    true
+}
+
+// 7 to 11 in turn, of a body of which 4 to 6 are known to be answered yes, with the round's terms.
+pub fn check_known(terms: Terms, round: u32, source: u32, body: &[u32]) -> Refusal
+    requires { ⌜ (terms ≡ termsOf (terms .n) round) × (1 ≤ round) × (round ≤ 32) × (source < terms .n) × (length (now body) ≡ 10) ⌝ }
+    ensures { λ r. ⌜ r ≡ bodyRefusal (terms .n) round source (now (body .entry)) ⌝ }
+{
+    let n = terms.n;
+    let strong = body[STRONG];
+    let timeouts = body[TIMEOUTS];
+    let no_votes = body[NO_VOTES];
+    if !masks_ok(n, strong, timeouts, no_votes) {
+        return Refusal::MaskBits;
+    }
+    if !strong_ok(n, round, strong) {
+        return Refusal::Strong;
+    }
+    let lack = lacks_leader(terms, round, strong);
+    if !quorum_if(n, lack, timeouts) {
+        return Refusal::Timeouts;
+    }
+    if !no_votes_ok(terms, source, lack, no_votes) {
+        return Refusal::NoVotes;
+    }
+    if !weak_ok(n, round, body) {
+        return Refusal::Weak;
+    }
+    Refusal::None
+}
+
+// 4 to 11 in turn, of a body whose round and source are given.
+pub fn check_body(n: u32, round: u32, source: u32, body: &[u32]) -> Refusal
+    ensures { λ r. ⌜ r ≡ bodyRefusal n round source (now (body .entry)) ⌝ }
+{
+    if body.len() != BODY_SIZE {
+        return Refusal::RecordSize;
+    }
+    if !round_ok(round) {
+        return Refusal::Round;
+    }
+    if n <= source {
+        return Refusal::Source;
+    }
+    check_known(terms_of(n, round), round, source, body)
+}
+
+// 4 to 11 in turn, of a whole record.
+pub fn check(n: u32, rec: &[u32]) -> Refusal
+    ensures { λ r. ⌜ r ≡ recordRefusal n (now (rec .entry)) ⌝ }
+{
+    if rec.len() != RECORD_SIZE {
+        return Refusal::RecordSize;
+    }
+    check_body(n, rec[ROUND], rec[SOURCE], &rec[BODY..RECORD_SIZE])
+}

@@ -1,0 +1,11 @@
+pub mod Paths
+pub mod Commit
+pub mod Lists
+pub mod Chain
+pub mod Journal
+pub mod Agreement
+pub mod Frontier
+pub mod History
+pub mod Masks
+pub mod Laws
+pub mod Witness

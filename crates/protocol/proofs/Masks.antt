@@ -1,0 +1,345 @@
+-- Histories as masks: what each step of filling them adds, and that the filled masks name exactly the history.
+use mathlib.Core.Path.{_≡_, refl, sym, ap, ap₂, _∙_}
+use mathlib.Core.Bool.{Bool, true, false, _&&_, _||_}
+use mathlib.Core.Logic.{_⊎_, inl, inr, ⊎-elim}
+use mathlib.Core.List.{List}
+use Prim.Native.Nat.{ℕ, zero, suc, _-_, _^_, _≤_, _<_}
+use native.Mathlib.Nat.{eq-or-lt-of-le}
+use native.Mathlib.Numerals.{unary-clauses}
+use native.Mathlib.Omega.{arith}
+use lib.Bits.{bitOr}
+use lib.Dec.{eqb}
+use lib.ListN.{length, getD, take, replicate, length-set, length-take, length-replicate, List·getD-eq-default}
+use lib.Seq.{getD-set-same, getD-set-other, getD-take}
+use borrow.Author.Tests.{eqb-true, eqb-false, eq-eqb}
+use Rattle.record.specs.Below.{any}
+use Rattle.record.specs.Members.{legal, has, idOf, idRound, idMember}
+use Rattle.record.specs.Layout.{strongOf, weakCountOf, weakOf}
+use Rattle.record.proofs.Booleans.{which, never, and-left, and-right, and-both, and-fails-right, or-cases, or-left, or-right, bool-ext}
+use Rattle.record.proofs.Below.{any-intro, any-elim, any-false}
+use Rattle.record.proofs.Masks.{legal-range, has-zero, has-one, has-or}
+use Rattle.protocol.specs.Dag.{Records, held}
+use Rattle.protocol.specs.Paths.{path, historyUpTo, history}
+use Rattle.protocol.specs.Premises.{WellFormed}
+use Rattle.protocol.specs.Masks.{join, joinWeak, joinParents, joinRound, fill, historyMasks, HistoryClaim, StrongHistoryClaim}
+use Rattle.protocol.proofs.Lists.{or-false, or-assoc}
+use Rattle.protocol.proofs.Paths.{parent-held, path-self, path-edge}
+use Rattle.protocol.proofs.Frontier.{first-edge, path-here, path-le}
+use Rattle.protocol.proofs.History.{id-round, id-member, Edges, edges, by-self, by-strong, by-cases, none-yet, history-strong, history-weak}
+
+-- the masks have member q in round t
+abbrev pub marked : List ℕ → ℕ → ℕ → Bool
+marked h t q = has (getD h (t - 1) 0) q
+
+-- one of the first k weak ids of the body is that of round t and member q
+unfoldable pub weakParent : List ℕ → ℕ → ℕ → ℕ → Bool
+weakParent body k t q = any k (λ i. eqb (idRound (weakOf body i)) t && eqb (idMember (weakOf body i)) q)
+
+-- the vertex of round t and member q is a parent of that of round r with this body
+unfoldable pub parent : List ℕ → ℕ → ℕ → ℕ → Bool
+parent body r t q = (eqb (r - 1) t && has (strongOf body) q) || weakParent body (weakCountOf body) t q
+
+-- ---- what each step adds
+
+-- no step changes the number of masks
+pub join-length : (h : List ℕ) (t m : ℕ) → length (join h t m) ≡ length h
+unfolding join
+join-length h t m = length-set h (t - 1) _
+
+-- bits joined in round t are there, and no others
+pub join-marked : (h : List ℕ) (t m s q : ℕ) → length h ≡ 32 → 1 ≤ t → t ≤ 32 → 1 ≤ s → marked (join h t m) s q ≡ (marked h s q || (eqb t s && has m q))
+unfolding join
+join-marked h t m s q z lt ht ls = go (which (eqb t s))
+  where
+    go : (eqb t s ≡ true) ⊎ (eqb t s ≡ false) → marked (join h t m) s q ≡ (marked h s q || (eqb t s && has m q))
+    go (inl e) =
+        rw (e, ← eqb-true t s e)
+        (ap (λ (x : ℕ). has x q) (getD-set-same h (t - 1) (bitOr (getD h (t - 1) 0) m) 0 (omega arith)) ∙ has-or (getD h (t - 1) 0) m q)
+    go (inr e) =
+        rw e
+        (ap (λ (x : ℕ). has x q) (getD-set-other h (t - 1) (s - 1) (bitOr (getD h (t - 1) 0) m) 0 (λ d. eqb-false t s e (omega arith)))
+        ∙ sym (or-false (marked h s q)))
+
+pub joinWeak-length : (h body : List ℕ) (k : ℕ) → length (joinWeak h body k) ≡ length h
+unfolding joinWeak
+joinWeak-length h body zero = refl
+joinWeak-length h body (suc k) = join-length (joinWeak h body k) _ _ ∙ joinWeak-length h body k
+
+pub joinParents-length : (v : Records) (h : List ℕ) (r p : ℕ) → length (joinParents v h r p) ≡ length h
+unfolding joinParents
+joinParents-length v h r p = joinWeak-length _ (v r p) _ ∙ join-length h (r - 1) _
+
+pub joinRound-length : (v : Records) (h : List ℕ) (r k : ℕ) → length (joinRound v h r k) ≡ length h
+unfolding joinRound
+joinRound-length v h r zero = refl
+joinRound-length v h r (suc k) = go (which (has (getD (joinRound v h r k) (r - 1) 0) k)) (joinRound-length v h r k)
+  where
+    go : (has (getD (joinRound v h r k) (r - 1) 0) k ≡ true) ⊎ (has (getD (joinRound v h r k) (r - 1) 0) k ≡ false)
+        → length (joinRound v h r k) ≡ length h → length (joinRound v h r (suc k)) ≡ length h
+    go (inl e) ih = rw e (joinParents-length v (joinRound v h r k) r k ∙ ih)
+    go (inr e) ih = rw e ih
+
+pub fill-length : (n : ℕ) (v : Records) (h : List ℕ) (k : ℕ) → length (fill n v h k) ≡ length h
+unfolding fill
+fill-length n v h zero = refl
+fill-length n v h (suc k) = fill-length n v (joinRound v h (suc (suc k)) n) k ∙ joinRound-length v h (suc (suc k)) n
+
+-- so for weak parents
+pub joinWeak-marked : (h body : List ℕ) (k s q : ℕ) → length h ≡ 32 → ((i : ℕ) → i < k → (1 ≤ idRound (weakOf body i)) × (idRound (weakOf body i) ≤ 32)) → 1 ≤ s
+    → marked (joinWeak h body k) s q ≡ (marked h s q || weakParent body k s q)
+unfolding joinWeak weakParent any
+joinWeak-marked h body zero s q z b l = sym (or-false (marked h s q))
+joinWeak-marked h body (suc k) s q z b l =
+    join-marked (joinWeak h body k) (idRound (weakOf body k)) (2 ^ idMember (weakOf body k)) s q (joinWeak-length h body k ∙ z) (b k (omega arith) .0) (b k (omega arith) .1) l
+    ∙ ap₂ _||_ (joinWeak-marked h body k s q z (λ i li. b i (omega arith)) l) (ap (λ (x : Bool). eqb (idRound (weakOf body k)) s && x) (has-one (idMember (weakOf body k)) q))
+    ∙ or-assoc (marked h s q) _ _
+
+module _ (n : ℕ) (v : Records) (high : n ≤ 16) (E : Edges n v) where
+  -- and for all parents of a vertex
+  pub joinParents-marked : (h : List ℕ) (r p s q : ℕ) → length h ≡ 32 → 2 ≤ r → r ≤ 32 → 1 ≤ s
+      → marked (joinParents v h r p) s q ≡ (marked h s q || parent (v r p) r s q)
+  unfolding joinParents parent
+  joinParents-marked h r p s q z l k ls =
+      joinWeak-marked (join h (r - 1) (strongOf (v r p))) (v r p) (weakCountOf (v r p)) s q (join-length h (r - 1) _ ∙ z)
+      (λ i li. let w = E .weak-low r p i li in (w .0, omega arith)) ls
+      ∙ ap (λ (b : Bool). b || weakParent (v r p) (weakCountOf (v r p)) s q) (join-marked h (r - 1) (strongOf (v r p)) s q z (omega arith) (omega arith) ls)
+      ∙ or-assoc (marked h s q) _ _
+
+  -- a parent is of a lower round, and a member of the group
+  parent-low : (r p s q : ℕ) → parent (v r p) r s q ≡ true → (1 ≤ s) × (s < r) × (q < n)
+  unfolding parent weakParent
+  parent-low r p s q e = ⊎-elim
+      (λ d.
+      let b = E .strong-low r p q (and-right (eqb (r - 1) s) _ d) in
+      let x = eqb-true (r - 1) s (and-left _ _ d) in
+      (omega arith, omega arith, b .1))
+      (λ d.
+      let w = any-elim (weakCountOf (v r p)) (λ i. eqb (idRound (weakOf (v r p) i)) s && eqb (idMember (weakOf (v r p) i)) q) d in
+      let b = E .weak-low r p (w .0) (w .1) in
+      let x = eqb-true (idRound (weakOf (v r p) (w .0))) s (and-left _ _ (w .2)) in
+      let y = eqb-true (idMember (weakOf (v r p) (w .0))) q (and-right (eqb (idRound (weakOf (v r p) (w .0))) s) _ (w .2)) in
+      (omega (arith, b .0), omega (arith, b .1), omega (arith, b .2)))
+      (or-cases (eqb (r - 1) s && has (strongOf (v r p)) q) _ e)
+
+  -- the parents of a round's vertices that the masks have, of members below k
+  parentsOf : List ℕ → ℕ → ℕ → ℕ → ℕ → Bool
+  parentsOf h r k s q = any k (λ x. marked h r x && parent (v r x) r s q)
+
+  no-parents : (h : List ℕ) (r k s q : ℕ) → r ≤ s → parentsOf h r k s q ≡ false
+  unfolding parentsOf
+  no-parents h r k s q l = any-false k _ (λ x lx. and-fails-right (marked h r x) (none x (which (parent (v r x) r s q))))
+    where
+      none : (x : ℕ) → (parent (v r x) r s q ≡ true) ⊎ (parent (v r x) r s q ≡ false) → parent (v r x) r s q ≡ false
+      none x (inl e) = absurd (omega (arith, parent-low r x s q e .1))
+      none x (inr e) = e
+
+  joinRound-marked : (h : List ℕ) (r k s q : ℕ) → length h ≡ 32 → 2 ≤ r → r ≤ 32 → 1 ≤ s
+      → marked (joinRound v h r k) s q ≡ (marked h s q || parentsOf h r k s q)
+  unfolding joinRound parentsOf any
+  joinRound-marked h r zero s q z l u ls = sym (or-false (marked h s q))
+  joinRound-marked h r (suc k) s q z l u ls = go (which (marked h r k)) (joinRound-marked h r k r k z l u (omega arith)) (joinRound-marked h r k s q z l u ls)
+    where
+      go : (marked h r k ≡ true) ⊎ (marked h r k ≡ false) → marked (joinRound v h r k) r k ≡ (marked h r k || parentsOf h r k r k)
+          → marked (joinRound v h r k) s q ≡ (marked h s q || parentsOf h r k s q) → marked (joinRound v h r (suc k)) s q ≡ (marked h s q || parentsOf h r (suc k) s q)
+      go (inl e) here ih =
+          rw (here ∙ or-left _ e, e)
+          (joinParents-marked (joinRound v h r k) r k s q (joinRound-length v h r k ∙ z) l u ls
+          ∙ ap (λ (b : Bool). b || parent (v r k) r s q) ih ∙ or-assoc (marked h s q) _ _)
+      go (inr e) here ih =
+          rw (here ∙ ap₂ _||_ e (no-parents h r k r k (omega arith)), e) (ih ∙ ap (λ (b : Bool). marked h s q || b) (sym (or-false (parentsOf h r k s q))))
+
+  -- ---- filling
+
+  module _ (k : ℕ) (h : List ℕ) (z : length h ≡ 32) (u : suc (suc k) ≤ 32) where
+    round-keeps : (s q : ℕ) → 1 ≤ s → marked h s q ≡ true → marked (joinRound v h (suc (suc k)) n) s q ≡ true
+    round-keeps s q ls e = joinRound-marked h (suc (suc k)) n s q z (omega arith) u ls ∙ or-left _ e
+
+    -- the round's own masks, and those of higher ones, are final
+    round-final : (s q : ℕ) → suc (suc k) ≤ s → marked (joinRound v h (suc (suc k)) n) s q ≡ true → marked h s q ≡ true
+    round-final s q l e = ⊎-elim (λ d. d) (λ d. never d (no-parents h (suc (suc k)) n s q l))
+        (or-cases _ _ (sym (joinRound-marked h (suc (suc k)) n s q z (omega arith) u (omega arith)) ∙ e))
+
+    round-parents : (x s q : ℕ) → x < n → marked h (suc (suc k)) x ≡ true → parent (v (suc (suc k)) x) (suc (suc k)) s q ≡ true
+        → marked (joinRound v h (suc (suc k)) n) s q ≡ true
+    unfolding parentsOf
+    round-parents x s q lx e d =
+        joinRound-marked h (suc (suc k)) n s q z (omega arith) u (parent-low (suc (suc k)) x s q d .0)
+        ∙ or-right (marked h s q) (any-intro n _ x lx (and-both e d))
+
+  -- with each vertex of a round above low the masks have its parents
+  abbrev Closed : ℕ → List ℕ → Type 0
+  Closed low h = (r x s q : ℕ) → low < r → r ≤ 32 → x < n → marked h r x ≡ true → parent (v r x) r s q ≡ true → marked h s q ≡ true
+
+  fill-keeps : (k : ℕ) (h : List ℕ) → length h ≡ 32 → suc k ≤ 32 → (s q : ℕ) → 1 ≤ s → marked h s q ≡ true → marked (fill n v h k) s q ≡ true
+  unfolding fill
+  fill-keeps zero h z u s q ls e = e
+  fill-keeps (suc k) h z u s q ls e =
+      fill-keeps k (joinRound v h (suc (suc k)) n) (joinRound-length v h (suc (suc k)) n ∙ z) (omega arith) s q ls (round-keeps k h z u s q ls e)
+
+  fill-closed : (k : ℕ) (h : List ℕ) → length h ≡ 32 → suc k ≤ 32 → Closed (suc k) h → Closed 1 (fill n v h k)
+  unfolding fill
+  fill-closed zero h z u C = C
+  fill-closed (suc k) h z u C = fill-closed k (joinRound v h (suc (suc k)) n) (joinRound-length v h (suc (suc k)) n ∙ z) (omega arith) next
+    where
+      next : Closed (suc k) (joinRound v h (suc (suc k)) n)
+      next r x s q l lr lx e d = go (eq-or-lt-of-le l)
+        where
+          e′ : marked h r x ≡ true
+          e′ = round-final k h z u r x (omega arith) e
+
+          go : (suc (suc k) ≡ r) ⊎ (suc (suc k) < r) → marked (joinRound v h (suc (suc k)) n) s q ≡ true
+          go (inl y) = round-parents k h z u x s q lx (rw y e′) (rw y d)
+          go (inr y) = round-keeps k h z u s q (parent-low r x s q d .0) (C r x s q y lr lx e′ d)
+
+  -- and nothing that a closed set with the first masks does not have
+  fill-sound : (H : ℕ → ℕ → Bool) → ((r x s q : ℕ) → x < n → H r x ≡ true → parent (v r x) r s q ≡ true → H s q ≡ true)
+      → (k : ℕ) (h : List ℕ) → length h ≡ 32 → suc k ≤ 32 → ((s q : ℕ) → 1 ≤ s → marked h s q ≡ true → H s q ≡ true)
+      → (s q : ℕ) → 1 ≤ s → marked (fill n v h k) s q ≡ true → H s q ≡ true
+  unfolding fill parentsOf
+  fill-sound H closed zero h z u S = S
+  fill-sound H closed (suc k) h z u S = fill-sound H closed k (joinRound v h (suc (suc k)) n) (joinRound-length v h (suc (suc k)) n ∙ z) (omega arith) next
+    where
+      next : (s q : ℕ) → 1 ≤ s → marked (joinRound v h (suc (suc k)) n) s q ≡ true → H s q ≡ true
+      next s q ls e = ⊎-elim (λ d. S s q ls d)
+          (λ d.
+          let w = any-elim n (λ x. marked h (suc (suc k)) x && parent (v (suc (suc k)) x) (suc (suc k)) s q) d in
+          closed (suc (suc k)) (w .0) s q (w .1) (S (suc (suc k)) (w .0) (omega arith) (and-left _ _ (w .2))) (and-right (marked h (suc (suc k)) (w .0)) _ (w .2)))
+          (or-cases _ _ (sym (joinRound-marked h (suc (suc k)) n s q z (omega arith) u ls) ∙ e))
+
+  -- closed masks have the history of each vertex that they have
+  closed-history : (h : List ℕ) → Closed 1 h → (k r p y : ℕ) → r ≤ 32 → p < n → marked h r p ≡ true → historyUpTo n v k r p y ≡ true
+      → marked h (idRound y) (idMember y) ≡ true
+  closed-history h C zero r p y lr lp e d = never d (none-yet n v r p y)
+  closed-history h C (suc k) r p y lr lp e d =
+      by-cases n v k r p y d
+      (λ q. rw (← q, id-round r p (omega arith), id-member r p (omega arith)) e)
+      (λ m lm s g.
+      let b = E .strong-low r p m s in
+      closed-history h C k (r - 1) m y (omega arith) lm (C r p (r - 1) m (omega (arith, b .0)) lr lp e (strong-parent r p m s)) g)
+      (λ i li g.
+      let b = E .weak-low r p i li in
+      closed-history h C k _ _ y (omega (arith, b .1)) (b .2) (C r p _ _ (omega (arith, b .0, b .1)) lr lp e (weak-parent r p i li)) g)
+    where
+      strong-parent : (r p m : ℕ) → has (strongOf (v r p)) m ≡ true → parent (v r p) r (r - 1) m ≡ true
+      strong-parent r p m s = unfold parent in or-left _ (and-both (eq-eqb (r - 1) (r - 1) refl) s)
+
+      weak-parent : (r p i : ℕ) → i < weakCountOf (v r p) → parent (v r p) r (idRound (weakOf (v r p) i)) (idMember (weakOf (v r p) i)) ≡ true
+      weak-parent r p i l = unfold parent weakParent in
+          or-right (eqb (r - 1) (idRound (weakOf (v r p) i)) && has (strongOf (v r p)) (idMember (weakOf (v r p) i)))
+          (any-intro (weakCountOf (v r p)) _ i l (and-both (eq-eqb (idRound (weakOf (v r p) i)) _ refl) (eq-eqb (idMember (weakOf (v r p) i)) _ refl)))
+
+  -- ---- the masks of a history
+
+  module _ (r p : ℕ) (lr : 1 ≤ r) (hr : r ≤ 32) (lp : p < n) where
+    first-masks : List ℕ
+    first-masks = join (replicate 32 0) r (2 ^ p)
+
+    first-length : length first-masks ≡ 32
+    unfolding first-masks
+    first-length = join-length (replicate 32 0) r (2 ^ p) ∙ length-replicate {A = ℕ} 32 0
+
+    first-marked : (s q : ℕ) → 1 ≤ s → marked first-masks s q ≡ (eqb r s && eqb p q)
+    unfolding first-masks
+    first-marked s q ls =
+        join-marked (replicate 32 0) r (2 ^ p) s q (length-replicate {A = ℕ} 32 0) lr hr ls
+        ∙ ap₂ (λ (a b : Bool). a || (eqb r s && b)) (ap (λ (x : ℕ). has x q) (zeros 32 (s - 1)) ∙ has-zero q) (has-one p q)
+      where
+        zeros : (k i : ℕ) → _≡_ {A = ℕ} (getD (replicate k 0) i 0) 0
+        zeros zero i = refl
+        zeros (suc k) zero = refl
+        zeros (suc k) (suc i) = zeros k i
+
+    history-closed : (t x s q : ℕ) → x < n → history n v r p (idOf t x) ≡ true → parent (v t x) t s q ≡ true → history n v r p (idOf s q) ≡ true
+    unfolding parent weakParent
+    history-closed t x s q lx e d = ⊎-elim
+        (λ c.
+        let a : t - 1 ≡ s = eqb-true (t - 1) s (and-left _ _ c) in
+        rw (← a) (history-strong n v high E r p t x q (omega arith) (omega arith) (and-right (eqb (t - 1) s) _ c) e))
+        (λ c.
+        let w = any-elim (weakCountOf (v t x)) (λ i. eqb (idRound (weakOf (v t x) i)) s && eqb (idMember (weakOf (v t x) i)) q) c in
+        let a : idRound (weakOf (v t x) (w .0)) ≡ s = eqb-true _ s (and-left _ _ (w .2)) in
+        let b : idMember (weakOf (v t x) (w .0)) ≡ q = eqb-true _ q (and-right (eqb (idRound (weakOf (v t x) (w .0))) s) _ (w .2)) in
+        let y : weakOf (v t x) (w .0) ≡ idOf s q = omega arith in
+        rw y at (history-weak n v high E r p t x (w .0) (omega arith) (omega arith) (w .1) e))
+        (or-cases (eqb (t - 1) s && has (strongOf (v t x)) q) _ d)
+
+    -- the filled masks name exactly the history
+    masks-history : (t q : ℕ) → 1 ≤ t → q < 16 → marked (historyMasks n v r p) t q ≡ history n v r p (idOf t q)
+    unfolding historyMasks first-masks
+    masks-history t q lt lq = bool-ext
+        (fill-sound (λ s q. history n v r p (idOf s q)) history-closed (r - 1) first-masks first-length (omega arith) start t q lt)
+        (λ e. rw (id-round t q lq, id-member t q lq) at (closed-history (fill n v first-masks (r - 1)) (fill-closed (r - 1) first-masks first-length (omega arith) top) r r p (idOf t q) hr lp
+        (fill-keeps (r - 1) first-masks first-length (omega arith) r p lr (first-marked r p lr ∙ and-both (eq-eqb r r refl) (eq-eqb p p refl))) e))
+      where
+        start : (s q : ℕ) → 1 ≤ s → marked first-masks s q ≡ true → history n v r p (idOf s q) ≡ true
+        start s q ls e =
+            let d : (eqb r s && eqb p q) ≡ true = sym (first-marked s q ls) ∙ e in
+            rw (← eqb-true r s (and-left _ _ d), ← eqb-true p q (and-right (eqb r s) _ d)) (by-self n v r r p lr)
+
+        top : Closed (suc (r - 1)) first-masks
+        top t x s q l lt lx e d =
+            absurd (omega (arith, eqb-true r t (and-left _ _ (sym (first-marked t x (omega arith)) ∙ e))))
+
+-- the claim for all edges
+pub history-claim : (n : ℕ) → HistoryClaim n
+history-claim n v g W r p h t q lt ht lq =
+    let a = W .admitted r p h in
+    masks-history n v (legal-range n g .high) (edges n v g W) r p (a .round-low) (a .round-high) (a .source-low) t q lt lq
+
+-- ---- bodies cut off before their weak ids
+
+cut-strong : (body : List ℕ) → strongOf (take 4 body) ≡ strongOf body
+unfolding strongOf
+cut-strong body = getD-take 4 body 0 0 (omega arith)
+
+cut-weak : (body : List ℕ) → weakCountOf (take 4 body) ≡ 0
+unfolding weakCountOf
+cut-weak body = List·getD-eq-default (take 4 body) 0 (rw (length-take 4 body) (omega arith))
+
+module _ (n : ℕ) (v : Records) (g : legal n ≡ true) (W : WellFormed n v) where
+  abbrev cut : Records
+  cut r p = take 4 (v r p)
+
+  cut-edges : Edges n cut
+  cut-edges = record {
+    strong-low = λ r p m e. edges n v g W .strong-low r p m (rw (cut-strong (v r p)) at e);
+    weak-low = λ r p i l. absurd (omega (arith, cut-weak (v r p)));
+  }
+
+  -- their histories are what paths reach
+  cut-history : (r p t q : ℕ) → p < 16 → q < 16 → held v r p ≡ true → history n cut r p (idOf t q) ≡ path n v r p t q
+  cut-history zero p t q lp lq h = none-yet n cut zero p (idOf t q) ∙ sym (no-path p t q)
+    where
+      no-path : (p t q : ℕ) → path n v zero p t q ≡ false
+      no-path p t q = unfold path in refl
+  cut-history (suc r) p t q lp lq h =
+      let ih : (m : ℕ) → m < n → has (strongOf (v (suc r) p)) m ≡ true → history n cut r m (idOf t q) ≡ path n v r m t q
+      = λ m lm s. cut-history r m t q (omega (arith, legal-range n g .high)) lq (parent-held n v W r p m s) in
+      bool-ext (forth ih) (back ih)
+    where
+      forth : ((m : ℕ) → m < n → has (strongOf (v (suc r) p)) m ≡ true → history n cut r m (idOf t q) ≡ path n v r m t q)
+          → history n cut (suc r) p (idOf t q) ≡ true → path n v (suc r) p t q ≡ true
+      forth ih e = by-cases n cut r (suc r) p (idOf t q) e
+          (λ d. let a : suc r ≡ t = omega arith in let b : p ≡ q = omega arith in rw (← a, ← b) (path-self n v (suc r) p (omega arith) h))
+          (λ m lm s d.
+          let s′ : has (strongOf (v (suc r) p)) m ≡ true = rw (cut-strong (v (suc r) p)) at s in
+          let d′ : path n v r m t q ≡ true = sym (ih m lm s′) ∙ (simp unary-clauses at d) in
+          path-edge n v r p m t q (path-le n v r m t q d′) lm s′ d′)
+          (λ i l d. absurd (omega (arith, cut-weak (v (suc r) p))))
+
+      back : ((m : ℕ) → m < n → has (strongOf (v (suc r) p)) m ≡ true → history n cut r m (idOf t q) ≡ path n v r m t q)
+          → path n v (suc r) p t q ≡ true → history n cut (suc r) p (idOf t q) ≡ true
+      back ih e = ⊎-elim
+          (λ d. let b : p ≡ q = path-here n v (suc r) p q (rw d at e) in let y : idOf (suc r) p ≡ idOf t q = omega arith in rw y at (by-self n cut (suc r) (suc r) p (omega arith)))
+          (λ l.
+          let w = first-edge n v r p t q (omega arith) e in
+          by-strong n cut r (suc r) p (w .0) (idOf t q) (w .1) (rw (cut-strong (v (suc r) p)) (w .2)) (simp unary-clauses (ih (w .0) (w .1) (w .2) ∙ w .3)))
+          (eq-or-lt-of-le (path-le n v (suc r) p t q e))
+
+-- the claim for strong edges alone
+pub strong-history-claim : (n : ℕ) → StrongHistoryClaim n
+strong-history-claim n v g W r p h t q lt ht lq =
+    let a = W .admitted r p h in
+    let k = legal-range n g .high in
+    masks-history n (cut n v g W) k (cut-edges n v g W) r p (a .round-low) (a .round-high) (a .source-low) t q lt lq
+    ∙ cut-history n v g W r p t q (omega (arith, a .source-low)) lq h

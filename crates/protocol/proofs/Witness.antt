@@ -1,0 +1,278 @@
+-- The witness: its premises by tests over the lists of records, and the rest by computation.
+use mathlib.Core.Path.{_≡_, refl, sym, ap, ap₂, _∙_}
+use mathlib.Core.Bool.{Bool, true, false, not, _&&_, _||_, false≢true}
+use mathlib.Core.Logic.{_⊎_, inl, inr, ⊎-elim}
+use mathlib.Core.List.{List, [], _∷_, _++_}
+use Prim.Native.Nat.{ℕ, zero, suc, _+_, _-_, _≤_, _<_}
+use native.Mathlib.Numerals.{unary-clauses}
+use native.Mathlib.Omega.{arith}
+use lib.Dec.{eqb, leb, ltb, lit≤}
+use lib.ListN.{length, getD}
+use borrow.Author.Tests.{leb-true, lt-ltb, le-leb, ltb-true, eqb-true, eq-eqb, not-true}
+use Rattle.record.specs.Below.{all, any, count, select}
+use Rattle.record.specs.Members.{legal, has, leader, idRound, idMember}
+use Rattle.record.specs.Layout.{roundOf, sourceOf, bodyOf, strongOf, timeoutsOf, noVotesOf, weakCountOf, weakOf}
+use Rattle.record.specs.Admitted.{Admitted}
+use Rattle.record.proofs.Booleans.{which, never, and-left, and-right, and-both, or-left, or-right}
+use Rattle.record.proofs.Below.{all-elim}
+use Rattle.record.proofs.Masks.{has-bound}
+use Rattle.protocol.specs.Dag.{present, held, votes, committed, lastUpTo, last}
+use Rattle.protocol.specs.Paths.{path}
+use Rattle.protocol.specs.Chain.{walk, chain}
+use Rattle.protocol.specs.Journal.{among, fresh, extend}
+use Rattle.protocol.specs.Premises.{WellFormed, Voter}
+use Rattle.protocol.specs.Masks.{join, joinWeak, joinParents, joinRound, fill, historyMasks}
+use Rattle.protocol.specs.Witness.{recordsOf, early, late, firstOf, vertexOf, dag, honest, Witness}
+use Rattle.protocol.proofs.Paths.{parent-present, no-vote-present, weak-present}
+use Rattle.protocol.proofs.Laws.{fresh-masks}
+
+-- ---- tests
+
+imp : Bool → Bool → Bool
+imp a b = not a || b
+
+imp-elim : (a b : Bool) → imp a b ≡ true → a ≡ true → b ≡ true
+unfolding imp
+imp-elim true b e h = e
+imp-elim false b e h = absurd (false≢true h)
+
+same : List ℕ → List ℕ → Bool
+same [] [] = true
+same [] (y ∷ m) = false
+same (x ∷ l) [] = false
+same (x ∷ l) (y ∷ m) = eqb x y && same l m
+
+same-eq : (l m : List ℕ) → same l m ≡ true → l ≡ m
+unfolding same
+same-eq [] [] e = refl
+same-eq [] (y ∷ m) e = absurd (false≢true e)
+same-eq (x ∷ l) [] e = absurd (false≢true e)
+same-eq (x ∷ l) (y ∷ m) e = ap₂ (λ (z : ℕ) (k : List ℕ). z ∷ k) (eqb-true x y (and-left _ _ e)) (same-eq l m (and-right (eqb x y) _ e))
+
+-- every record of the list passes the test of its round, source and body
+every : (ℕ → ℕ → List ℕ → Bool) → List (List ℕ) → Bool
+every t [] = true
+every t (x ∷ l) = t (roundOf x) (sourceOf x) (bodyOf x) && every t l
+
+every-found : (t : ℕ → ℕ → List ℕ → Bool) (l : List (List ℕ)) → every t l ≡ true
+    → (r p : ℕ) → present (recordsOf l r p) ≡ true → t r p (recordsOf l r p) ≡ true
+unfolding every recordsOf
+every-found t [] e r p h = absurd (false≢true h)
+every-found t (x ∷ l) e r p h = go (which (eqb (roundOf x) r && eqb (sourceOf x) p)) (every-found t l (and-right (t (roundOf x) (sourceOf x) (bodyOf x)) _ e) r p)
+  where
+    go : ((eqb (roundOf x) r && eqb (sourceOf x) p) ≡ true) ⊎ ((eqb (roundOf x) r && eqb (sourceOf x) p) ≡ false)
+        → (present (recordsOf l r p) ≡ true → t r p (recordsOf l r p) ≡ true) → t r p (recordsOf (x ∷ l) r p) ≡ true
+    go (inl d) ih =
+        rw (d, ← eqb-true (roundOf x) r (and-left _ _ d), ← eqb-true (sourceOf x) p (and-right (eqb (roundOf x) r) _ d)) (and-left (t (roundOf x) (sourceOf x) (bodyOf x)) _ e)
+    go (inr d) ih = rw d (ih (rw d at h))
+
+-- what is found in a list is found in a longer one
+found-longer : (l m : List (List ℕ)) (r p : ℕ) → present (recordsOf l r p) ≡ true → recordsOf (l ++ m) r p ≡ recordsOf l r p
+unfolding recordsOf
+found-longer [] m r p h = absurd (false≢true h)
+found-longer (x ∷ l) m r p h = go (which (eqb (roundOf x) r && eqb (sourceOf x) p)) (found-longer l m r p)
+  where
+    go : ((eqb (roundOf x) r && eqb (sourceOf x) p) ≡ true) ⊎ ((eqb (roundOf x) r && eqb (sourceOf x) p) ≡ false)
+        → (present (recordsOf l r p) ≡ true → recordsOf (l ++ m) r p ≡ recordsOf l r p) → recordsOf (x ∷ (l ++ m)) r p ≡ recordsOf (x ∷ l) r p
+    go (inl d) ih = rw d
+    go (inr d) ih = rw d (ih (rw d at h))
+
+-- ---- admitted records of four members with at most one weak id
+
+quorumIn : ℕ → Bool
+quorumIn m = leb 3 (count 4 (has m))
+
+lacks : ℕ → List ℕ → Bool
+lacks r b = leb 2 r && not (has (strongOf b) (leader 4 (r - 1)))
+
+-- the tests of a record
+fits : ℕ → ℕ → List ℕ → List Bool
+fits r p b =
+    eqb (length b) 10
+    ∷ leb 1 r
+    ∷ leb r 32
+    ∷ ltb p 4
+    ∷ ltb (strongOf b) 16
+    ∷ ltb (timeoutsOf b) 16
+    ∷ ltb (noVotesOf b) 16
+    ∷ imp (eqb r 1) (eqb (strongOf b) 0)
+    ∷ imp (leb 2 r) (quorumIn (strongOf b))
+    ∷ imp (lacks r b) (quorumIn (timeoutsOf b))
+    ∷ imp (lacks r b && eqb p (leader 4 r)) (quorumIn (noVotesOf b))
+    ∷ leb (weakCountOf b) 1
+    ∷ imp (eqb (weakCountOf b) 1) (ltb (idMember (weakOf b 0)) 4)
+    ∷ imp (eqb (weakCountOf b) 1) (leb 1 (idRound (weakOf b 0)))
+    ∷ imp (eqb (weakCountOf b) 1) (leb (idRound (weakOf b 0) + 2) r)
+    ∷ []
+
+both : List Bool → Bool
+both [] = true
+both (b ∷ l) = b && both l
+
+pass : (l : List Bool) → both l ≡ true → (i : ℕ) → getD l i true ≡ true
+unfolding both
+pass [] e i = refl
+pass (b ∷ l) e zero = and-left b _ e
+pass (b ∷ l) e (suc i) = pass l (and-right b _ e) i
+
+fits-admitted : (r p : ℕ) (b : List ℕ) → both (fits r p b) ≡ true → Admitted 4 r p b
+unfolding fits quorumIn lacks
+fits-admitted r p b e = record {
+  size = eqb-true (length b) 10 (pass t e 0);
+  round-low = leb-true 1 r (pass t e 1);
+  round-high = leb-true r 32 (pass t e 2);
+  source-low = ltb-true p 4 (pass t e 3);
+  strong-low = ltb-true (strongOf b) 16 (pass t e 4);
+  timeouts-low = ltb-true (timeoutsOf b) 16 (pass t e 5);
+  no-votes-low = ltb-true (noVotesOf b) 16 (pass t e 6);
+  strong-first = λ h. eqb-true (strongOf b) 0 (imp-elim _ _ (pass t e 7) (eq-eqb r 1 h));
+  strong-later = λ h. leb-true 3 _ (imp-elim _ _ (pass t e 8) (le-leb 2 r h));
+  timeout-quorum = λ h d. leb-true 3 _ (imp-elim _ _ (pass t e 9) (and-both (le-leb 2 r h) (ap not d)));
+  no-vote-quorum = λ h d s. leb-true 3 _ (imp-elim _ _ (pass t e 10) (and-both (and-both (le-leb 2 r h) (ap not d)) (eq-eqb p (leader 4 r) s)));
+  weak-few = few;
+  weak-member = λ i k l. ltb-true _ 4 (rw (first i l) (imp-elim _ _ (pass t e 12) (one i l)));
+  weak-low = λ i k l. leb-true 1 _ (rw (first i l) (imp-elim _ _ (pass t e 13) (one i l)));
+  weak-high = λ i k l. leb-true _ r (rw (first i l) (imp-elim _ _ (pass t e 14) (one i l)));
+  weak-rising = λ i k l. absurd (omega (arith, few));
+}
+  where
+    t : List Bool
+    t = fits r p b
+
+    few : weakCountOf b ≤ 1
+    few = leb-true (weakCountOf b) 1 (pass t e 11)
+
+    first : (i : ℕ) → i < weakCountOf b → i ≡ 0
+    first i l = omega (arith, few)
+
+    one : (i : ℕ) → i < weakCountOf b → eqb (weakCountOf b) 1 ≡ true
+    one i l = eq-eqb (weakCountOf b) 1 (omega (arith, few))
+
+-- ---- the premises
+
+module _ (l : List (List ℕ)) where
+  -- the record is admitted and its parents are in the list
+  kept : ℕ → ℕ → List ℕ → Bool
+  kept r p b =
+      both (fits r p b)
+      && (all 4 (λ m. imp (has (strongOf b) m) (held (recordsOf l) (r - 1) m))
+      && all 1 (λ i. imp (ltb i (weakCountOf b)) (held (recordsOf l) (idRound (weakOf b i)) (idMember (weakOf b i)))))
+
+  kept-formed : every kept l ≡ true → WellFormed 4 (recordsOf l)
+  unfolding kept
+  kept-formed e = record {
+    admitted = ok;
+    strong-held = λ r p m s.
+        let h = parent-present _ m s in
+        let k : m < 4 = has-bound 4 (strongOf (recordsOf l r p)) m (ok r p h .strong-low) s in
+        imp-elim _ _ (all-elim 4 _ (and-left _ _ (rest r p h)) m k) s;
+    weak-held = λ r p i c.
+        let h = weak-present _ i c in
+        imp-elim _ _ (all-elim 1 _ (and-right (all 4 (λ m. imp (has (strongOf (recordsOf l r p)) m) (held (recordsOf l) (r - 1) m))) _ (rest r p h)) i (omega (arith, ok r p h .weak-few)))
+        (lt-ltb i _ c);
+  }
+    where
+      ok : (r p : ℕ) → held (recordsOf l) r p ≡ true → Admitted 4 r p (recordsOf l r p)
+      ok r p h = fits-admitted r p _ (and-left (both (fits r p (recordsOf l r p))) _ (every-found kept l e r p h))
+
+      rest : (r p : ℕ) → held (recordsOf l) r p ≡ true
+          → (all 4 (λ m. imp (has (strongOf (recordsOf l r p)) m) (held (recordsOf l) (r - 1) m))
+          && all 1 (λ i. imp (ltb i (weakCountOf (recordsOf l r p)))
+          (held (recordsOf l) (idRound (weakOf (recordsOf l r p) i)) (idMember (weakOf (recordsOf l r p) i))))) ≡ true
+      rest r p h = and-right (both (fits r p (recordsOf l r p))) _ (every-found kept l e r p h)
+
+formed : (i : Bool) → WellFormed 4 (dag i .vertex)
+unfolding dag recordsOf early late vertexOf every kept both fits quorumIn lacks imp leader has count all strongOf timeoutsOf noVotesOf weakCountOf weakOf
+formed true = kept-formed (vertexOf true) refl
+formed false = kept-formed (vertexOf false) refl
+
+one-vertex : (i j : Bool) (r p : ℕ) → held (dag i .vertex) r p ≡ true → held (dag j .vertex) r p ≡ true → dag i .vertex r p ≡ dag j .vertex r p
+unfolding dag vertexOf
+one-vertex true true r p h k = refl
+one-vertex true false r p h k = found-longer early late r p k
+one-vertex false true r p h k = sym (found-longer early late r p h)
+one-vertex false false r p h k = refl
+
+-- a first message of an honest member is its vertex
+told : Bool → ℕ → ℕ → List ℕ → Bool
+told j r p b = imp (honest p) (imp (held (dag j .vertex) r p) (same b (dag j .vertex r p)))
+
+all-told : (i j : Bool) → every (told j) (firstOf i) ≡ true
+unfolding dag recordsOf early late firstOf vertexOf every told imp same
+all-told true true = refl
+all-told true false = refl
+all-told false true = refl
+all-told false false = refl
+
+one-record : (i j : Bool) (r p : ℕ) → honest p ≡ true → present (dag i .first r p) ≡ true → held (dag j .vertex) r p ≡ true → dag i .first r p ≡ dag j .vertex r p
+unfolding dag told
+one-record i j r p g h k =
+    same-eq _ _ (imp-elim (held (dag j .vertex) r p) _ (imp-elim (honest p) _ (every-found (told j) (firstOf i) (all-told i j) r p h) g) k)
+
+-- member q votes neither by a vertex nor by a first message of round r
+silent : Bool → ℕ → ℕ → Bool
+silent i r q = not (votes 4 (r - 1) (dag i .vertex r q) || votes 4 (r - 1) (dag i .first r q))
+
+-- no honest member of the record's no-vote mask votes
+apart : Bool → ℕ → ℕ → List ℕ → Bool
+apart i r p b = all 4 (λ q. imp (has (noVotesOf b) q) (imp (honest q) (silent i r q)))
+
+all-apart : (i j : Bool) → every (apart i) (vertexOf j) ≡ true
+unfolding dag recordsOf early late firstOf vertexOf every apart silent imp all has leader strongOf noVotesOf
+all-apart true true = refl
+all-apart true false = refl
+all-apart false true = refl
+all-apart false false = refl
+
+no-both : (i j : Bool) (r p m : ℕ) → honest p ≡ true → Voter 4 (dag i) r p → has (noVotesOf (dag j .vertex (suc r) m)) p ≡ true → ⊥
+unfolding apart silent dag
+no-both i j r p m g v s =
+    let h : present (recordsOf (vertexOf j) (suc r) m) ≡ true = no-vote-present _ p s in
+    let k : p < 4 = has-bound 4 _ p (formed j .admitted (suc r) m h .no-votes-low) s in
+    let t = all-elim 4 (λ q. imp (has (noVotesOf (recordsOf (vertexOf j) (suc r) m)) q) (imp (honest q) (silent i (suc r) q)))
+    (every-found (apart i) (vertexOf j) (all-apart i j) (suc r) m h) p k in
+    let u : not (votes 4 r (dag i .vertex (suc r) p) || votes 4 r (dag i .first (suc r) p)) ≡ true = simp unary-clauses at (imp-elim (honest p) _ (imp-elim _ _ t s) g) in
+    never (⊎-elim (λ x. or-left _ x) (λ x. or-right (votes 4 r (dag i .vertex (suc r) p)) x) v) (not-true _ u)
+
+-- ---- the journals, by the masks of the histories
+
+chain-first : chain 4 (dag true .vertex) 0 (last 4 (dag true)) ≡ 3 ∷ 4 ∷ []
+unfolding dag recordsOf early late firstOf vertexOf lastUpTo committed leader has count strongOf chain walk path any
+chain-first = refl
+
+chain-second : chain 4 (dag false .vertex) 0 (last 4 (dag false)) ≡ 3 ∷ []
+unfolding dag recordsOf early late firstOf vertexOf lastUpTo committed leader has count strongOf chain walk path any
+chain-second = refl
+
+fresh-three : (i : Bool) → fresh 4 (dag i .vertex) [] 3 ≡ 16 ∷ 17 ∷ 18 ∷ 19 ∷ 32 ∷ 34 ∷ 35 ∷ 50 ∷ []
+unfolding dag recordsOf early late vertexOf leader legal has strongOf weakCountOf weakOf among select historyMasks fill joinRound joinParents joinWeak join
+fresh-three true = fresh-masks 4 (dag true .vertex) refl (formed true) [] 3 refl
+fresh-three false = fresh-masks 4 (dag false .vertex) refl (formed false) [] 3 refl
+
+fresh-four : fresh 4 (dag true .vertex) (16 ∷ 17 ∷ 18 ∷ 19 ∷ 32 ∷ 34 ∷ 35 ∷ 50 ∷ []) 4 ≡ 33 ∷ 48 ∷ 49 ∷ 51 ∷ 67 ∷ []
+unfolding dag recordsOf early late vertexOf leader legal has strongOf weakCountOf weakOf among select historyMasks fill joinRound joinParents joinWeak join
+fresh-four = fresh-masks 4 (dag true .vertex) refl (formed true) (16 ∷ 17 ∷ 18 ∷ 19 ∷ 32 ∷ 34 ∷ 35 ∷ 50 ∷ []) 4 refl
+
+-- The witness.
+pub witness : Witness
+unfolding dag recordsOf early late firstOf vertexOf lastUpTo committed leader has count legal strongOf noVotesOf chain walk path any extend
+witness = record {
+  premises = record {
+    members = refl;
+    well-formed = formed;
+    few-faulty = lit≤ tt;
+    one-vertex = one-vertex;
+    one-record = one-record;
+    no-both = no-both;
+  };
+  two-faced = (refl, refl);
+  skipped = (refl, refl, refl);
+  by-vertices = refl;
+  by-messages = (refl, refl);
+  leaders-first = refl;
+  leaders-second = refl;
+  journal-first =
+      ap (extend 4 (dag true .vertex) []) chain-first ∙ ap (λ (j : List ℕ). j ++ fresh 4 (dag true .vertex) j 4) (fresh-three true)
+      ∙ ap (λ (l : List ℕ). 16 ∷ 17 ∷ 18 ∷ 19 ∷ 32 ∷ 34 ∷ 35 ∷ 50 ∷ l) fresh-four;
+  journal-second = ap (extend 4 (dag false .vertex) []) chain-second ∙ fresh-three false;
+}

@@ -1,0 +1,51 @@
+-- What a member holds: vertices and first messages. Votes, and the rounds that are committed directly.
+use mathlib.Core.Bool.{Bool, true, false, cond, _&&_, _||_}
+use mathlib.Core.List.{List, [], _∷_}
+use Prim.Native.Nat.{ℕ, zero, suc}
+use lib.Dec.{leb}
+use Rattle.record.specs.Below.{count}
+use Rattle.record.specs.Members.{quorum, leader, has}
+use Rattle.record.specs.Layout.{strongOf}
+
+-- the body of the record of each round and member, and [] where there is none
+abbrev pub Records : Type 0
+Records = ℕ → ℕ → List ℕ
+
+pub record Dag : Type 0 where
+  pub vertex : Records
+  pub first : Records
+
+-- there is a record
+abbrev pub present : List ℕ → Bool
+present [] = false
+present (w ∷ body) = true
+
+-- the vertex of round r and member p is there
+abbrev pub held : Records → ℕ → ℕ → Bool
+held v r p = present (v r p)
+
+-- ---- of n members
+
+module _ (n : ℕ) where
+  -- a record of round r + 1 votes for the leader of round r
+  abbrev pub votes : ℕ → List ℕ → Bool
+  votes r body = has (strongOf body) (leader n r)
+
+  -- at least 2f + 1 members satisfy s
+  abbrev pub enough : (ℕ → Bool) → Bool
+  enough s = leb (quorum n) (count n s)
+
+  -- Round r is committed directly: its leader's vertex is there, and a quorum of vertices, or a quorum of first messages, of the next round votes for it.
+  unfoldable pub committed : Dag → ℕ → Bool
+  committed d r =
+      held (d .vertex) r (leader n r)
+      && (enough (λ p. votes r (d .vertex (suc r) p)) || enough (λ p. votes r (d .first (suc r) p)))
+
+  -- the highest directly committed round among 1 .. k, or 0
+  unfoldable pub lastUpTo : Dag → ℕ → ℕ
+  lastUpTo d zero = 0
+  lastUpTo d (suc k) = cond (committed d (suc k)) (suc k) (lastUpTo d k)
+
+  -- the last directly committed round
+  abbrev pub last : Dag → ℕ
+  last d = lastUpTo d 31

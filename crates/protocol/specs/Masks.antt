@@ -1,0 +1,60 @@
+-- The same sets as masks, for programs: what strong paths reach one round further down, and a history as 32 masks filled by falling round.
+use mathlib.Core.Path.{_≡_}
+use mathlib.Core.Bool.{true, cond}
+use mathlib.Core.List.{List}
+use Prim.Native.Nat.{ℕ, zero, suc, _-_, _^_, _≤_, _<_}
+use lib.Bits.{bitOr}
+use lib.ListN.{getD, set, take, replicate}
+use Rattle.record.specs.Members.{legal, has, idOf, idRound, idMember}
+use Rattle.record.specs.Layout.{strongOf, weakCountOf, weakOf}
+use Rattle.protocol.specs.Dag.{Records, held}
+use Rattle.protocol.specs.Paths.{path, history}
+use Rattle.protocol.specs.Premises.{WellFormed}
+
+-- the union of the strong masks of round r's vertices of the members below k in the mask m
+unfoldable pub parents : Records → ℕ → ℕ → ℕ → ℕ
+parents v r m zero = 0
+parents v r m (suc k) = cond (has m k) (bitOr (parents v r m k) (strongOf (v r k))) (parents v r m k)
+
+-- the masks h, one for each round from 1, with the bits m added in round t
+unfoldable pub join : List ℕ → ℕ → ℕ → List ℕ
+join h t m = set h (t - 1) (bitOr (getD h (t - 1) 0) m)
+
+-- the first k weak parents of a body added
+unfoldable pub joinWeak : List ℕ → List ℕ → ℕ → List ℕ
+joinWeak h body zero = h
+joinWeak h body (suc k) = join (joinWeak h body k) (idRound (weakOf body k)) (2 ^ idMember (weakOf body k))
+
+-- all parents of the vertex of round r and member p added
+unfoldable pub joinParents : Records → List ℕ → ℕ → ℕ → List ℕ
+joinParents v h r p = joinWeak (join h (r - 1) (strongOf (v r p))) (v r p) (weakCountOf (v r p))
+
+-- the parents of those vertices of round r, of members below k, that the masks have
+unfoldable pub joinRound : Records → List ℕ → ℕ → ℕ → List ℕ
+joinRound v h r zero = h
+joinRound v h r (suc k) = cond (has (getD (joinRound v h r k) (r - 1) 0) k) (joinParents v (joinRound v h r k) r k) (joinRound v h r k)
+
+module _ (n : ℕ) where
+  -- so for the rounds k + 1, k, .. 2
+  unfoldable pub fill : Records → List ℕ → ℕ → List ℕ
+  fill v h zero = h
+  fill v h (suc k) = fill v (joinRound v h (suc (suc k)) n) k
+
+  -- the history of the vertex of round r and member p, as masks
+  unfoldable pub historyMasks : Records → ℕ → ℕ → List ℕ
+  historyMasks v r p = fill v (join (replicate 32 0) r (2 ^ p)) (r - 1)
+
+  -- the members that paths from the vertex of round r and member p reach in round t, from those that they reach in round t + 1
+  abbrev pub ParentsClaim : Type 0
+  ParentsClaim = (v : Records) → WellFormed n v → (r p t m : ℕ) → p < n → 1 ≤ t → t < r
+      → ((q : ℕ) → q < n → has m q ≡ path n v r p (suc t) q) → (q : ℕ) → q < n → has (parents v (suc t) m n) q ≡ path n v r p t q
+
+  -- the masks name exactly the history
+  abbrev pub HistoryClaim : Type 0
+  HistoryClaim = (v : Records) → legal n ≡ true → WellFormed n v → (r p : ℕ) → held v r p ≡ true
+      → (t q : ℕ) → 1 ≤ t → t ≤ 32 → q < 16 → has (getD (historyMasks v r p) (t - 1) 0) q ≡ history n v r p (idOf t q)
+
+  -- and with strong edges alone, which are those of bodies cut off before their weak ids, exactly what paths reach
+  abbrev pub StrongHistoryClaim : Type 0
+  StrongHistoryClaim = (v : Records) → legal n ≡ true → WellFormed n v → (r p : ℕ) → held v r p ≡ true
+      → (t q : ℕ) → 1 ≤ t → t ≤ 32 → q < 16 → has (getD (historyMasks (λ r p. take 4 (v r p)) r p) (t - 1) 0) q ≡ path n v r p t q

@@ -1,0 +1,69 @@
+-- The premises can be met: two DAGs of four members, of which member 1 is faulty. The leaders of rounds 1 and 2 are skipped.
+use mathlib.Core.Path.{_≡_}
+use mathlib.Core.Bool.{Bool, true, false, cond, not, _&&_}
+use mathlib.Core.List.{List, [], _∷_, _++_}
+use Prim.Native.Nat.{ℕ}
+use lib.Dec.{eqb}
+use Rattle.record.specs.Members.{has}
+use Rattle.record.specs.Layout.{roundOf, sourceOf, bodyOf, strongOf, noVotesOf}
+use Rattle.protocol.specs.Dag.{Records, Dag, held, votes, enough, committed}
+use Rattle.protocol.specs.Chain.{leaders}
+use Rattle.protocol.specs.Journal.{journal}
+use Rattle.protocol.specs.Premises.{Premises}
+
+-- the bodies of a list of records
+unfoldable pub recordsOf : List (List ℕ) → Records
+recordsOf [] r p = []
+recordsOf (x ∷ l) r p = cond (eqb (roundOf x) r && eqb (sourceOf x) p) (bodyOf x) (recordsOf l r p)
+
+-- the record of a round and a source with these masks of strong parents, timeouts and no-votes, and one with a weak id
+abbrev pub plain : ℕ → ℕ → ℕ → ℕ → ℕ → List ℕ
+plain r p strong timeouts noVotes = r ∷ p ∷ strong ∷ timeouts ∷ noVotes ∷ 0 ∷ 0 ∷ 0 ∷ 0 ∷ 0 ∷ 0 ∷ 0 ∷ []
+
+abbrev pub withWeak : ℕ → ℕ → ℕ → ℕ → ℕ → ℕ → List ℕ
+withWeak r p strong timeouts noVotes weak = r ∷ p ∷ strong ∷ timeouts ∷ noVotes ∷ 0 ∷ 1 ∷ weak ∷ 0 ∷ 0 ∷ 0 ∷ 0 ∷ []
+
+-- What both DAGs hold: round 1, and two rounds of members 0, 2 and 3 (mask 13) that vote for neither leader. The leader of round 3 carries no-votes against
+-- that of round 2, and has a weak edge to that of round 1 (id 16).
+unfoldable pub early : List (List ℕ)
+early =
+    plain 1 0 0 0 0 ∷ plain 1 1 0 0 0 ∷ plain 1 2 0 0 0 ∷ plain 1 3 0 0 0
+    ∷ plain 2 0 14 14 0 ∷ plain 2 2 14 14 0 ∷ plain 2 3 14 14 0
+    ∷ plain 3 0 13 13 0 ∷ withWeak 3 2 13 13 13 16 ∷ plain 3 3 13 13 0 ∷ []
+
+-- What the first holds besides: two rounds of member 1, by which strong edges lead from the leader of round 4 to that of round 2, and two more rounds of the others.
+unfoldable pub late : List (List ℕ)
+late =
+    plain 2 1 15 0 0 ∷ plain 3 1 15 0 0
+    ∷ plain 4 0 13 0 0 ∷ plain 4 2 13 0 0 ∷ plain 4 3 15 0 0
+    ∷ plain 5 0 13 0 0 ∷ plain 5 2 13 0 0 ∷ plain 5 3 13 0 0 ∷ []
+
+-- The first messages of each: member 1 votes for the leader of round 3 to the second alone.
+unfoldable pub firstOf : Bool → List (List ℕ)
+firstOf true = plain 4 1 11 13 0 ∷ []
+firstOf false = plain 4 0 13 0 0 ∷ plain 4 1 13 0 0 ∷ plain 4 2 13 0 0 ∷ []
+
+unfoldable pub vertexOf : Bool → List (List ℕ)
+vertexOf true = early ++ late
+vertexOf false = early
+
+unfoldable pub dag : Bool → Dag
+dag i = record { vertex = recordsOf (vertexOf i); first = recordsOf (firstOf i) }
+
+abbrev pub honest : ℕ → Bool
+honest p = not (eqb p 1)
+
+pub record Witness : Type 0 where
+  pub premises : Premises 4 dag honest
+  -- member 1 votes in one DAG and not in the other
+  pub two-faced : (votes 4 3 (dag true .first 4 1) ≡ false) × (votes 4 3 (dag false .first 4 1) ≡ true)
+  -- the vertex of the leader of round 2 is there, the next leader has no edge to it, and a no-vote certificate in its place
+  pub skipped : (held (dag true .vertex) 2 1 ≡ true) × (has (strongOf (dag true .vertex 3 2)) 1 ≡ false) × (noVotesOf (dag true .vertex 3 2) ≡ 13)
+  -- the first DAG commits round 4 by vertices, the second round 3 by first messages alone
+  pub by-vertices : enough 4 (λ p. votes 4 4 (dag true .vertex 5 p)) ≡ true
+  pub by-messages : (enough 4 (λ p. votes 4 3 (dag false .vertex 4 p)) ≡ false) × (committed 4 (dag false) 3 ≡ true)
+  -- the leader lists: one is longer, and neither has round 1 or 2
+  pub leaders-first : leaders 4 (dag true) ≡ 50 ∷ 67 ∷ []
+  pub leaders-second : leaders 4 (dag false) ≡ 50 ∷ []
+  pub journal-first : journal 4 (dag true) ≡ 16 ∷ 17 ∷ 18 ∷ 19 ∷ 32 ∷ 34 ∷ 35 ∷ 50 ∷ 33 ∷ 48 ∷ 49 ∷ 51 ∷ 67 ∷ []
+  pub journal-second : journal 4 (dag false) ≡ 16 ∷ 17 ∷ 18 ∷ 19 ∷ 32 ∷ 34 ∷ 35 ∷ 50 ∷ []

@@ -1,0 +1,114 @@
+-- Laws of the clauses of well-formedness. Assumes nothing.
+use mathlib.Core.Path.{_≡_, refl, sym, ap, _∙_}
+use mathlib.Core.Bool.{Bool, true, false, _&&_, _||_, and-true}
+use mathlib.Core.List.{List, [], _∷_}
+use mathlib.Core.Logic.{⊎-elim}
+use Prim.Native.Nat.{ℕ, zero, suc, _+_, _-_, _≤_, _<_}
+use native.Mathlib.Omega.{arith}
+use lib.Dec.{eqb, leb, ltb}
+use lib.ListN.{length, getD, take, drop}
+use borrow.Author.Tests.{leb-true, le-ltb, ltb-false}
+use Rattle.record.specs.Below.{all}
+use Rattle.record.specs.Members.{legal}
+use Rattle.record.proofs.Booleans.{which, and-left, and-right, and-fails-left, and-fails-right, or-left, or-right, or-cases, never, bool-ext}
+use Rattle.record.proofs.Below.{all-intro, all-elim}
+use Rattle.replica.specs.State.{memberCount, leaderCount, journalCount}
+use Rattle.replica.specs.WellFormed.{eachRound, masksWithin, leadersOk, journalOk, restZero, every, clauses, wellFormed}
+use Rattle.replica.proofs.Laws.{part-zero}
+
+-- ---- the five parts of the test
+
+-- words 0 to 7, and the masks and cells
+abbrev pub headPart : List ℕ → Bool
+headPart l = every (take 4 (clauses l))
+
+abbrev pub bodyPart : List ℕ → Bool
+bodyPart l = every (take 4 (drop 4 (clauses l)))
+
+every-split : (k : ℕ) (bs : List Bool) → every bs ≡ (every (take k bs) && every (drop k bs))
+every-split zero bs = refl
+every-split (suc k) [] = refl
+every-split (suc k) (true ∷ bs) = every-split k bs
+every-split (suc k) (false ∷ bs) = refl
+
+pub well-parts : (l : List ℕ) → wellFormed l ≡ (headPart l && (bodyPart l && (leadersOk l && (journalOk l && restZero l))))
+unfolding wellFormed
+well-parts l =
+    every-split 4 (clauses l)
+    ∙ ap (λ (b : Bool). headPart l && b) (every-split 4 (drop 4 (clauses l))
+    ∙ ap (λ (b : Bool). bodyPart l && (leadersOk l && (journalOk l && b))) (and-true (restZero l)))
+
+-- where a part fails
+pub head-no : (l : List ℕ) → headPart l ≡ false → wellFormed l ≡ false
+head-no l e = well-parts l ∙ and-fails-left (bodyPart l && (leadersOk l && (journalOk l && restZero l))) e
+
+pub body-no : (l : List ℕ) → bodyPart l ≡ false → wellFormed l ≡ false
+body-no l e = well-parts l ∙ and-fails-right (headPart l) (and-fails-left (leadersOk l && (journalOk l && restZero l)) e)
+
+pub leaders-no : (l : List ℕ) → leadersOk l ≡ false → wellFormed l ≡ false
+leaders-no l e = well-parts l ∙ and-fails-right (headPart l) (and-fails-right (bodyPart l) (and-fails-left (journalOk l && restZero l) e))
+
+pub journal-no : (l : List ℕ) → journalOk l ≡ false → wellFormed l ≡ false
+journal-no l e =
+    well-parts l ∙ and-fails-right (headPart l) (and-fails-right (bodyPart l) (and-fails-right (leadersOk l) (and-fails-left (restZero l) e)))
+
+-- where the first four hold, the last decides
+last-part : (a b c d e : Bool) → a ≡ true → b ≡ true → c ≡ true → d ≡ true → (a && (b && (c && (d && e)))) ≡ e
+last-part a b c d e p q r s = rw (p, q, r, s)
+
+pub rest-decides : (l : List ℕ) → headPart l ≡ true → bodyPart l ≡ true → leadersOk l ≡ true → journalOk l ≡ true → wellFormed l ≡ restZero l
+rest-decides l p q r s = well-parts l ∙ last-part (headPart l) (bodyPart l) (leadersOk l) (journalOk l) (restZero l) p q r s
+
+-- what the parts give
+pub head-legal : (l : List ℕ) → headPart l ≡ true → legal (memberCount l) ≡ true
+head-legal l e = and-left (legal (memberCount l)) _ e
+
+pub body-masks : (l : List ℕ) → bodyPart l ≡ true → eachRound (masksWithin l) ≡ true
+body-masks l e = and-left (eachRound (masksWithin l)) _ e
+
+pub leaders-few : (l : List ℕ) → leadersOk l ≡ true → leaderCount l ≤ 32
+unfolding leadersOk
+leaders-few l e = leb-true (leaderCount l) 32 (and-left (leb (leaderCount l) 32) _ e)
+
+pub journal-few : (l : List ℕ) → journalOk l ≡ true → journalCount l ≤ 512
+unfolding journalOk
+journal-few l e = leb-true (journalCount l) 512 (and-left (leb (journalCount l) 512) _ e)
+
+-- the counts of a well-formed state
+pub counts : (l : List ℕ) → wellFormed l ≡ true → (leaderCount l ≤ 32) × (journalCount l ≤ 512)
+counts l e =
+    let a : (bodyPart l && (leadersOk l && (journalOk l && restZero l))) ≡ true = and-right (headPart l) _ (sym (well-parts l) ∙ e) in
+    let b : (leadersOk l && (journalOk l && restZero l)) ≡ true = and-right (bodyPart l) _ a in
+    let d : (journalOk l && restZero l) ≡ true = and-right (leadersOk l) _ b in
+    (leaders-few l (and-left (leadersOk l) _ b), journal-few l (and-left (journalOk l) _ d))
+
+-- ---- list words beyond the counts
+
+-- the words of a list of so many from the count on
+rest-words : (l : List ℕ) (at size count : ℕ) → count ≤ size
+    → all (size - count) (λ i. eqb (getD l (at + count + i) 0) 0) ≡ all size (λ i. ltb i count || eqb (getD l (at + i) 0) 0)
+rest-words l at size count h =
+    bool-ext
+    (λ e. all-intro size (λ i. ltb i count || eqb (getD l (at + i) 0) 0)
+    (λ i b. ⊎-elim
+    (λ t. or-left (eqb (getD l (at + i) 0) 0) t)
+    (λ t. let g : count ≤ i = ltb-false i count t in
+    let same : at + count + (i - count) ≡ at + i = omega arith in
+    let low : i - count < size - count = omega arith in
+    or-right (ltb i count) (rw same at (all-elim (size - count) (λ k. eqb (getD l (at + count + k) 0) 0) e (i - count) low)))
+    (which (ltb i count))))
+    (λ e. all-intro (size - count) (λ i. eqb (getD l (at + count + i) 0) 0)
+    (λ i b. let same : at + (count + i) ≡ at + count + i = omega arith in
+    rw same at (⊎-elim
+    (λ t. never t (le-ltb (count + i) count (omega arith)))
+    (λ t. t)
+    (or-cases (ltb (count + i) count) (eqb (getD l (at + (count + i)) 0) 0)
+    (all-elim size (λ k. ltb k count || eqb (getD l (at + k) 0) 0) e (count + i) (omega arith))))))
+
+-- the part from the count to the end of the list
+pub rest-part : (l : List ℕ) (at size count start end : ℕ) → count ≤ size → at + size ≤ length l → start ≡ at + count → end ≡ at + size
+    → all (length (take (end - start) (drop start l))) (λ i. eqb (getD (take (end - start) (drop start l)) i 0) 0)
+    ≡ all size (λ i. ltb i count || eqb (getD l (at + i) 0) 0)
+rest-part l at size count start end h k es ee =
+    let d : end - start ≡ size - count = omega arith in
+    rw (d, es) (part-zero l (at + count) (size - count) (omega arith) ∙ rest-words l at size count h)

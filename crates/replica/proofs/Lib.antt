@@ -1,0 +1,10 @@
+pub mod Laws
+pub mod Clauses
+pub mod Parents
+pub mod Cells
+pub mod Calls
+pub mod Words
+pub mod Marks
+pub mod Sound
+pub mod Vertices
+pub mod Opened

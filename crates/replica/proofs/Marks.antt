@@ -1,0 +1,176 @@
+-- Laws of the marks that the test of the journal sets, a mask for each round. Assumes nothing.
+use mathlib.Core.Path.{_≡_, refl, sym, ap, ap₂, _∙_}
+use mathlib.Core.Bool.{Bool, true, false, not, _&&_, _||_}
+use mathlib.Core.List.{List}
+use mathlib.Core.Logic.{⊎-elim}
+use Prim.Native.Nat.{ℕ, _+_, _-_, _^_, _≤_, _<_}
+use native.Mathlib.Omega.{arith}
+use lib.Bits.{bitOr}
+use lib.Dec.{eqb, leb, lit<}
+use lib.ListN.{length, getD, take, set, replicate, length-set, length-replicate, getD-replicate}
+use lib.Seq.{getD-set-same, getD-set-other}
+use borrow.Author.Tests.{eqb-true, eqb-false, eq-eqb, ne-eqb, le-leb, lt-leb}
+use Rattle.record.specs.Below.{all}
+use Rattle.record.specs.Members.{legal, has, idOf, idRound, idMember}
+use Rattle.record.specs.Questions.{roundOk}
+use Rattle.record.proofs.Booleans.{which, never, and-left, and-right, and-both, and-fails-left, and-fails-right, bool-ext}
+use Rattle.record.proofs.Below.{all-intro, all-elim, all-stop}
+use Rattle.record.proofs.Masks.{has-zero, has-add, add-lt, mask-ext}
+use Rattle.record.proofs.Turn.{round-range}
+use Rattle.protocol.specs.Journal.{idLimit, among}
+use Rattle.replica.specs.State.{memberCount, journalCount, orderedMask, journalWord, journalList, orderedId}
+use Rattle.replica.specs.WellFormed.{eachRound, masksWithin, entryOk, journalOk}
+use Rattle.replica.proofs.Words.{id-same, ordered-id, masks-small, legal-pow, journal-length, journal-at, journal-whole, among-none, among-more, among-index}
+
+-- the marks after i entries: bit p of mask r is set if the id of round r + 1 and member p is among them
+pub record Marked (l : List ℕ) (i : ℕ) (marks : List ℕ) : Type 0 where
+  pub long : length marks ≡ 32
+  pub small : (r : ℕ) → r < 32 → getD marks r 0 < 2 ^ 16
+  pub same : (r p : ℕ) → r < 32 → p < 16 → has (getD marks r 0) p ≡ among (take i (journalList l)) (idOf (r + 1) p)
+
+pub marked-none : (l : List ℕ) → Marked l 0 (replicate 32 0)
+marked-none l = record {
+  long = length-replicate {A = ℕ} 32 0;
+  small = λ r b. rw (getD-replicate {A = ℕ} 32 r 0 0 b) (lit< tt);
+  same = λ r p b h. rw (getD-replicate {A = ℕ} 32 r 0 0 b) (has-zero p ∙ sym (among-none (idOf (r + 1) p)));
+}
+
+-- the mark of an id
+pub mark-at : (l : List ℕ) (i : ℕ) (marks : List ℕ) (x at : ℕ) → Marked l i marks → 1 ≤ idRound x → idRound x ≤ 32 → at ≡ idRound x - 1
+    → has (getD marks at 0) (idMember x) ≡ among (take i (journalList l)) x
+mark-at l i marks x at m a b e =
+    let y : idOf (at + 1) (idMember x) ≡ x = omega arith in
+    m .same at (idMember x) (omega arith) (omega arith) ∙ ap (among (take i (journalList l))) y
+
+-- a mark more
+pub marked-more : (l : List ℕ) (i : ℕ) (marks : List ℕ) (x at : ℕ) → length l ≡ 5864 → journalCount l ≤ 512 → i < journalCount l → x ≡ journalWord l i
+    → Marked l i marks → 1 ≤ idRound x → idRound x ≤ 32 → at ≡ idRound x - 1
+    → Marked l (i + 1) (set marks at (bitOr (getD marks at 0) (2 ^ idMember x)))
+marked-more l i marks x at e f h ex m a b d = record {
+  long = length-set marks at _ ∙ m .long;
+  small = λ r k. ⊎-elim (λ t. small-same r (eqb-true r at t) k) (λ t. rw (getD-set-other marks at r (bitOr (getD marks at 0) (2 ^ idMember x)) 0 (eqb-false r at t)) (m .small r k)) (which (eqb r at));
+  same = λ r p k q. ⊎-elim (λ t. same-same r p (eqb-true r at t) q) (λ t. same-other r p k q (eqb-false r at t)) (which (eqb r at));
+}
+  where
+    low : at < 32
+    low = omega arith
+
+    added : (p : ℕ) → p < 16 → (r : ℕ) → among (take (i + 1) (journalList l)) (idOf (r + 1) p) ≡ (among (take i (journalList l)) (idOf (r + 1) p) || eqb x (idOf (r + 1) p))
+    added p q r =
+        among-more (journalList l) i (idOf (r + 1) p) (omega (arith, journal-length l e f))
+        ∙ ap (λ (z : ℕ). among (take i (journalList l)) (idOf (r + 1) p) || eqb z (idOf (r + 1) p)) (journal-at l i h ∙ sym ex)
+
+    small-same : (r : ℕ) → r ≡ at → r < 32 → getD (set marks at (bitOr (getD marks at 0) (2 ^ idMember x))) r 0 < 2 ^ 16
+    small-same r t k =
+        rw (t, getD-set-same marks at (bitOr (getD marks at 0) (2 ^ idMember x)) 0 (omega (arith, m .long)))
+        (add-lt 16 (getD marks at 0) (idMember x) (m .small at low) (omega arith))
+
+    same-same : (r p : ℕ) → r ≡ at → p < 16
+        → has (getD (set marks at (bitOr (getD marks at 0) (2 ^ idMember x))) r 0) p ≡ among (take (i + 1) (journalList l)) (idOf (r + 1) p)
+    same-same r p t q =
+        rw (t, getD-set-same marks at (bitOr (getD marks at 0) (2 ^ idMember x)) 0 (omega (arith, m .long)))
+        (has-add (getD marks at 0) (idMember x) p
+        ∙ ap₂ _||_ (m .same at p low q) (bool-ext
+        (λ s. let u : idMember x ≡ p = eqb-true (idMember x) p s in eq-eqb x (idOf (at + 1) p) (omega arith))
+        (λ s. let u : x ≡ idOf (at + 1) p = eqb-true x (idOf (at + 1) p) s in eq-eqb (idMember x) p (omega arith)))
+        ∙ sym (added p q at))
+
+    or-no : (c : Bool) → c ≡ (c || false)
+    or-no true = refl
+    or-no false = refl
+
+    same-other : (r p : ℕ) → r < 32 → p < 16 → (r ≡ at → ⊥)
+        → has (getD (set marks at (bitOr (getD marks at 0) (2 ^ idMember x))) r 0) p ≡ among (take (i + 1) (journalList l)) (idOf (r + 1) p)
+    same-other r p k q t =
+        rw (getD-set-other marks at r (bitOr (getD marks at 0) (2 ^ idMember x)) 0 t)
+        (m .same r p k q ∙ or-no (among (take i (journalList l)) (idOf (r + 1) p))
+        ∙ ap (λ (c : Bool). among (take i (journalList l)) (idOf (r + 1) p) || c) (sym (ne-eqb x (idOf (r + 1) p) (λ u. t (omega arith))))
+        ∙ sym (added p q r))
+
+-- ---- one entry
+
+pub entry-ok : (l : List ℕ) (i : ℕ) → orderedId l (journalWord l i) ≡ true → among (take i (journalList l)) (journalWord l i) ≡ false → entryOk l i ≡ true
+unfolding entryOk
+entry-ok l i a b = and-both a (ap not b)
+
+pub entry-strange : (l : List ℕ) (i : ℕ) → orderedId l (journalWord l i) ≡ false → entryOk l i ≡ false
+unfolding entryOk
+entry-strange l i a = and-fails-left (not (among (take i (journalList l)) (journalWord l i))) a
+
+pub entry-twice : (l : List ℕ) (i : ℕ) → among (take i (journalList l)) (journalWord l i) ≡ true → entryOk l i ≡ false
+unfolding entryOk
+entry-twice l i b = and-fails-right (orderedId l (journalWord l i)) (ap not b)
+
+pub entry-ordered : (l : List ℕ) (i : ℕ) → entryOk l i ≡ true → orderedId l (journalWord l i) ≡ true
+unfolding entryOk
+entry-ordered l i e = and-left (orderedId l (journalWord l i)) _ e
+
+-- ---- the journal
+
+pub journal-long : (l : List ℕ) → 512 < journalCount l → journalOk l ≡ false
+unfolding journalOk
+journal-long l h = and-fails-left _ (lt-leb (journalCount l) 512 h)
+
+pub journal-stop : (l : List ℕ) (i : ℕ) → i < journalCount l → entryOk l i ≡ false → journalOk l ≡ false
+unfolding journalOk
+journal-stop l i h e = and-fails-right (leb (journalCount l) 512) (and-fails-left _ (all-stop (journalCount l) (entryOk l) i h e))
+
+pub imply : (a b : Bool) → (a ≡ true → b ≡ true) → (not a || b) ≡ true
+imply true b h = h refl
+imply false b h = refl
+
+pub implied : (a b : Bool) → (not a || b) ≡ true → a ≡ true → b ≡ true
+implied true b e h = e
+implied false b e h = never h refl
+
+-- y is listed if it is ordered
+abbrev pub named : List ℕ → ℕ → Bool
+named l y = not (orderedId l y) || among (journalList l) y
+
+-- an entry of the journal is ordered
+pub among-ordered : (l : List ℕ) (y : ℕ) → length l ≡ 5864 → journalCount l ≤ 512 → all (journalCount l) (entryOk l) ≡ true → among (journalList l) y ≡ true → orderedId l y ≡ true
+among-ordered l y e f h a =
+    let w = among-index (journalList l) y a in
+    let k : w .0 < journalCount l = omega (arith, journal-length l e f) in
+    let z : journalWord l (w .0) ≡ y = sym (journal-at l (w .0) k) ∙ w .2 in
+    rw z at (entry-ordered l (w .0) (all-elim (journalCount l) (entryOk l) h (w .0) k))
+
+-- the marks of all entries decide
+pub journal-decides : (l marks : List ℕ) → length l ≡ 5864 → legal (memberCount l) ≡ true → eachRound (masksWithin l) ≡ true → journalCount l ≤ 512
+    → all (journalCount l) (entryOk l) ≡ true → Marked l (journalCount l) marks
+    → all 32 (λ i. eqb (getD marks i 0) (orderedMask l (i + 1))) ≡ journalOk l
+unfolding journalOk
+journal-decides l marks e g w f h m =
+    bool-ext there back ∙ sym (both (leb (journalCount l) 512) (all (journalCount l) (entryOk l)) (all idLimit (named l)) (le-leb (journalCount l) 512 f) h)
+  where
+    both : (a b c : Bool) → a ≡ true → b ≡ true → (a && (b && c)) ≡ c
+    both a b c p q = rw (p, q)
+
+    whole : (r p : ℕ) → r < 32 → p < 16 → has (getD marks r 0) p ≡ among (journalList l) (idOf (r + 1) p)
+    whole r p b q = m .same r p b q ∙ ap (λ (z : List ℕ). among z (idOf (r + 1) p)) (journal-whole l)
+
+    there-at : all 32 (λ i. eqb (getD marks i 0) (orderedMask l (i + 1))) ≡ true → (y : ℕ) → orderedId l y ≡ true → among (journalList l) y ≡ true
+    there-at t y o =
+        let q = round-range (idRound y) (and-left _ _ o) in
+        let k : (idRound y - 1) + 1 ≡ idRound y = omega arith in
+        let low : idRound y - 1 < 32 = omega arith in
+        let eq : getD marks (idRound y - 1) 0 ≡ orderedMask l (idRound y - 1 + 1) = eqb-true _ _ (all-elim 32 (λ i. eqb (getD marks i 0) (orderedMask l (i + 1))) t (idRound y - 1) low) in
+        let o₁ : has (orderedMask l (idRound y - 1 + 1)) (idMember y) ≡ true = ap (λ (z : ℕ). has (orderedMask l z) (idMember y)) k ∙ and-right (roundOk (idRound y)) (has (orderedMask l (idRound y)) (idMember y)) o in
+        ap (among (journalList l)) (sym (ap (λ (z : ℕ). idOf z (idMember y)) k ∙ id-same y))
+        ∙ sym (whole (idRound y - 1) (idMember y) low (omega arith))
+        ∙ ap (λ (z : ℕ). has z (idMember y)) eq ∙ o₁
+
+    there : all 32 (λ i. eqb (getD marks i 0) (orderedMask l (i + 1))) ≡ true → all idLimit (named l) ≡ true
+    there t = all-intro idLimit (named l) (λ y b. imply (orderedId l y) (among (journalList l) y) (there-at t y))
+
+    back-at : all idLimit (named l) ≡ true → (r : ℕ) → r < 32 → (p : ℕ) → p < 16 → has (getD marks r 0) p ≡ has (orderedMask l (r + 1)) p
+    back-at t r b p q =
+        whole r p b q
+        ∙ bool-ext (among-ordered l (idOf (r + 1) p) e f h) (implied (orderedId l (idOf (r + 1) p)) (among (journalList l) (idOf (r + 1) p)) (all-elim idLimit (named l) t (idOf (r + 1) p) (omega arith)))
+        ∙ ordered-id l (r + 1) p (omega arith) (omega arith) q
+
+    back : all idLimit (named l) ≡ true → all 32 (λ i. eqb (getD marks i 0) (orderedMask l (i + 1))) ≡ true
+    back t = all-intro 32 (λ i. eqb (getD marks i 0) (orderedMask l (i + 1))) (λ r b. eq-eqb (getD marks r 0) (orderedMask l (r + 1))
+        (mask-ext 16 (getD marks r 0) (orderedMask l (r + 1)) (m .small r b)
+        (legal-pow (memberCount l) (orderedMask l (r + 1)) g (masks-small l (r + 1) (all-elim 32 (λ k. masksWithin l (k + 1)) w r b) .ordered))
+        (back-at t r b)))

@@ -1,0 +1,28 @@
+-- The tests of the round, then the contracts of `held_mask` and `has`.
+use borrow.Author.Tests.{le-leb, lt-leb}
+use borrow.Author.Needs.{needs}
+use Rattle.record.specs.Questions.{roundOk}
+use Rattle.record.specs.Members.{has}
+use Rattle.replica.proofs.layout.is_held.Statement.{statement}
+use Rattle.replica.proofs.layout.is_held.Tie as tie
+
+returns : tie.Need-returns
+unfolding roundOk
+returns c = simp (lt-leb _ _ (c .if1 .taken))
+
+returns-2 : tie.Need-returns-2
+unfolding roundOk
+returns-2 c = simp (le-leb _ _ (c .before .if1 .left), lt-leb _ _ (c .if2 .taken))
+
+held-mask-requires : tie.Need-held-mask-requires
+held-mask-requires c κs = search needs
+
+has-requires : tie.Need-has-requires
+has-requires c κs = search needs
+
+returns-3 : tie.Need-returns-3
+unfolding roundOk
+returns-3 c = simp (le-leb _ _ (c .before .before .before .if1 .left), le-leb _ _ (c .before .before .if2 .left)) (rw (c .before .held-mask .ensures) at (c .has .ensures))
+
+pub is-held-spec : {M : Type 1} → statement M
+is-held-spec = tie.close (tie.spec returns returns-2 held-mask-requires has-requires returns-3)

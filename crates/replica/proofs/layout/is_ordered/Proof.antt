@@ -1,0 +1,29 @@
+-- The tests of the round, then the contracts of `ordered_mask` and `has`.
+use borrow.Author.Tests.{le-leb, lt-leb}
+use borrow.Author.Needs.{needs}
+use Rattle.record.specs.Questions.{roundOk}
+use Rattle.record.specs.Members.{has}
+use Rattle.replica.proofs.layout.is_ordered.Statement.{statement}
+use Rattle.replica.proofs.layout.is_ordered.Tie as tie
+
+returns : tie.Need-returns
+unfolding roundOk
+returns c = simp (lt-leb _ _ (c .if1 .taken))
+
+returns-2 : tie.Need-returns-2
+unfolding roundOk
+returns-2 c = simp (le-leb _ _ (c .before .if1 .left), lt-leb _ _ (c .if2 .taken))
+
+ordered-mask-requires : tie.Need-ordered-mask-requires
+ordered-mask-requires c κs = search needs
+
+has-requires : tie.Need-has-requires
+has-requires c κs = search needs
+
+returns-3 : tie.Need-returns-3
+unfolding roundOk
+returns-3 c = simp (le-leb _ _ (c .before .before .before .if1 .left), le-leb _ _ (c .before .before .if2 .left)) (rw (c .before .ordered-mask .ensures) at (c .has .ensures))
+
+pub is-ordered-spec : {M : Type 1} → statement M
+is-ordered-spec =
+    tie.close (tie.spec returns returns-2 ordered-mask-requires has-requires returns-3)

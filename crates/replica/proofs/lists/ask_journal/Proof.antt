@@ -1,0 +1,35 @@
+-- The questions in turn: `next`, `stop` and `done` of `Turn`.
+use borrow.Author.Tests.{eq-eqb, ne-eqb, le-leb, lt-leb}
+use borrow.Author.Needs.{needs}
+use Rattle.record.proofs.Booleans.{passed, failed}
+use Rattle.record.proofs.Turn.{next, stop, done}
+use Rattle.replica.specs.Lists.{askJournal}
+use Rattle.replica.proofs.lists.ask_journal.Statement.{statement}
+use Rattle.replica.proofs.lists.ask_journal.Tie as tie
+
+returns : tie.Need-returns
+unfolding askJournal
+returns c = stop _ _ (ne-eqb _ _ (c .if1 .taken))
+
+is-well-formed-requires : tie.Need-is-well-formed-requires
+is-well-formed-requires c κs = search needs
+
+returns-2 : tie.Need-returns-2
+unfolding askJournal
+returns-2 c = next _ _ (eq-eqb _ _ (c .before .before .if1 .left)) (stop _ _ (failed (c .before .is-well-formed .ensures) (c .if2 .taken)))
+
+shared-slice-read-if3 : tie.Need-shared-slice-read-if3
+shared-slice-read-if3 c = search needs
+
+returns-3 : tie.Need-returns-3
+unfolding askJournal
+returns-3 c = next _ _ (eq-eqb _ _ (c .before .before .before .before .if1 .left)) (next _ _ (passed (c .before .before .before .is-well-formed .ensures) (c .before .before .if2 .left)) (stop _ _ (lt-leb _ _ (c .if3 .taken))))
+
+returns-4 : tie.Need-returns-4
+unfolding askJournal
+returns-4 c = next _ _ (eq-eqb _ _ (c .before .before .before .before .if1 .left)) (next _ _ (passed (c .before .before .before .is-well-formed .ensures) (c .before .before .if2 .left)) (next _ _ (le-leb _ _ (c .if3 .left)) done))
+
+pub ask-journal-spec : {M : Type 1} → statement M
+ask-journal-spec =
+    tie.close
+    (tie.spec returns is-well-formed-requires returns-2 shared-slice-read-if3 returns-3 returns-4)

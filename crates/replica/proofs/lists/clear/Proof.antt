@@ -1,0 +1,56 @@
+-- Invariant: the first i words are 0, and the others as at entry.
+use mathlib.Core.List.{List, append-nil, _++_}
+use mathlib.Core.Path.{_≡_, ap, _∙_}
+use Prim.Native.Nat.{ℕ, _≤_, _-_}
+use native.Mathlib.Omega.{arith}
+use lib.ListN.{set, length, drop, replicate}
+use lib.Seq.{drop-length}
+use borrow.Author.Fill.{fill-none, fill-more}
+use borrow.Author.Needs.{needs}
+use Rattle.replica.proofs.lists.clear.Statement.{statement}
+use Rattle.replica.proofs.lists.clear.Tie as tie
+
+abbrev Inv-loop : tie.InvT-loop
+Inv-loop state₀ i₀ state i = (i ≤ length state₀) × (length state ≡ length state₀) × (state ≡ replicate i 0 ++ drop i state₀)
+
+abbrev μ-loop : tie.MeasureT-loop
+μ-loop state₀ i₀ state i = length state₀ - i
+
+loop-holds : tie.Need-loop-holds Inv-loop μ-loop
+loop-holds c = (omega arith, search needs, fill-none _ 0)
+
+mul-state : tie.Need-mul-state Inv-loop μ-loop
+mul-state c = search needs
+
+slice-write-state : tie.Need-slice-write-state Inv-loop μ-loop
+slice-write-state c = search needs
+
+add-i : tie.Need-add-i Inv-loop μ-loop
+add-i c = search needs
+
+loop-less : tie.Need-loop-less Inv-loop μ-loop
+loop-less c = search needs
+
+loop-again : tie.Need-loop-again Inv-loop μ-loop
+loop-again c = (omega arith, search needs, ap (λ (x : List ℕ). set x (c .before .loop .i) 0) (c .before .loop .inv .2) ∙ fill-more (c .before .loop .i) 0 (c .before .before .args .state .now) (omega arith))
+
+same-length : tie.Need-same-length Inv-loop μ-loop
+same-length c = search needs
+
+returns : tie.Need-returns Inv-loop μ-loop
+returns c = let e : c .before .loop .i ≡ length (c .before .before .args .state .now) = omega arith in c .before .loop .inv .2 ∙ rw (e, drop-length (c .before .before .args .state .now)) (append-nil _)
+
+pub clear-spec : {M : Type 1} → statement M
+clear-spec =
+    tie.close
+    (tie.spec
+    Inv-loop
+    μ-loop
+    loop-holds
+    mul-state
+    slice-write-state
+    add-i
+    loop-less
+    loop-again
+    same-length
+    returns)

@@ -1,0 +1,71 @@
+-- Invariant: the first i rounds' marks are their ordered masks.
+use mathlib.Core.Path.{_≡_, sym}
+use mathlib.Core.Bool.{true}
+use Prim.Native.Nat.{_≤_, _-_, _+_}
+use native.Mathlib.Omega.{arith}
+use lib.Dec.{eqb}
+use lib.ListN.{getD}
+use borrow.Author.Tests.{eq-eqb, ne-eqb}
+use borrow.Author.Needs.{needs}
+use Rattle.record.specs.Below.{all}
+use Rattle.record.proofs.Below.{all-none, all-more, all-stop}
+use Rattle.replica.specs.State.{orderedMask}
+use Rattle.replica.proofs.wellformed.all_marked.Statement.{statement}
+use Rattle.replica.proofs.wellformed.all_marked.Tie as tie
+
+abbrev Inv-loop : tie.InvT-loop
+Inv-loop state marks i₀ i = (i ≤ 32) × (all i (λ k. eqb (getD marks k 0) (orderedMask state (k + 1))) ≡ true)
+
+abbrev μ-loop : tie.MeasureT-loop
+μ-loop state marks i₀ i = 32 - i
+
+loop-holds : tie.Need-loop-holds Inv-loop μ-loop
+loop-holds c = (omega arith, all-none _)
+
+wide-requires : tie.Need-wide-requires Inv-loop μ-loop
+wide-requires c κs = search needs
+
+mul-if1 : tie.Need-mul-if1 Inv-loop μ-loop
+mul-if1 c = search needs
+
+array-read-if1 : tie.Need-array-read-if1 Inv-loop μ-loop
+array-read-if1 c = search needs
+
+add-ordered-mask : tie.Need-add-ordered-mask Inv-loop μ-loop
+add-ordered-mask c = search needs
+
+ordered-mask-requires : tie.Need-ordered-mask-requires Inv-loop μ-loop
+ordered-mask-requires c κs = search needs
+
+returns : tie.Need-returns Inv-loop μ-loop
+returns c = sym (all-stop 32 (λ k. eqb (getD (c .before .before .before .before .before .before .args .t2) k 0) (orderedMask (c .before .before .before .before .before .before .args .state .now) (k + 1))) (c .before .before .before .before .loop .i) (omega arith) (ne-eqb _ _ (rw (c .before .ordered-mask .ensures, c .before .before .wide .ensures) at (c .if1 .taken))))
+
+add-i : tie.Need-add-i Inv-loop μ-loop
+add-i c = search needs
+
+loop-less : tie.Need-loop-less Inv-loop μ-loop
+loop-less c = search needs
+
+loop-again : tie.Need-loop-again Inv-loop μ-loop
+loop-again c = (omega arith, all-more _ _ (c .before .before .before .before .loop .inv .1) (eq-eqb _ _ (rw (c .before .ordered-mask .ensures, c .before .before .wide .ensures) at (c .if1 .left))))
+
+returns-2 : tie.Need-returns-2 Inv-loop μ-loop
+returns-2 c = let e : c .before .loop .i ≡ 32 = omega arith in sym (rw e at (c .before .loop .inv .1))
+
+pub all-marked-spec : {M : Type 1} → statement M
+all-marked-spec =
+    tie.close
+    (tie.spec
+    Inv-loop
+    μ-loop
+    loop-holds
+    wide-requires
+    mul-if1
+    array-read-if1
+    add-ordered-mask
+    ordered-mask-requires
+    returns
+    add-i
+    loop-less
+    loop-again
+    returns-2)

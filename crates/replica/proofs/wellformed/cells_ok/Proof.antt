@@ -1,0 +1,58 @@
+-- Invariant: the first i rounds pass; `held-within` of `Cells` is what each round requires.
+use mathlib.Core.Path.{_≡_, sym}
+use mathlib.Core.Bool.{true}
+use Prim.Native.Nat.{_≤_, _-_, _+_}
+use native.Mathlib.Omega.{arith}
+use borrow.Author.Needs.{needs}
+use Rattle.record.specs.Below.{all}
+use Rattle.record.proofs.Booleans.{passed, failed}
+use Rattle.record.proofs.Below.{all-none, all-more, all-stop}
+use Rattle.replica.specs.WellFormed.{cellOk}
+use Rattle.replica.proofs.Cells.{held-within}
+use Rattle.replica.proofs.wellformed.cells_ok.Statement.{statement}
+use Rattle.replica.proofs.wellformed.cells_ok.Tie as tie
+
+abbrev Inv-loop : tie.InvT-loop
+Inv-loop state i₀ i = (i ≤ 32) × (all i (λ k. all 16 (cellOk state (k + 1))) ≡ true)
+
+abbrev μ-loop : tie.MeasureT-loop
+μ-loop state i₀ i = 32 - i
+
+loop-holds : tie.Need-loop-holds Inv-loop μ-loop
+loop-holds c = (omega arith, all-none _)
+
+add-round-cells-ok : tie.Need-add-round-cells-ok Inv-loop μ-loop
+add-round-cells-ok c = search needs
+
+round-cells-ok-requires : tie.Need-round-cells-ok-requires Inv-loop μ-loop
+round-cells-ok-requires c κs = (c .before .before .before .pre .0, c .before .before .before .pre .1, omega arith, omega arith, held-within _ (c .before .before .before .pre .2) _ (omega arith))
+
+returns : tie.Need-returns Inv-loop μ-loop
+returns c = sym (all-stop 32 (λ k. all 16 (cellOk (c .before .before .before .before .before .args .state .now) (k + 1))) (c .before .before .before .loop .i) (omega arith) (failed (c .before .round-cells-ok .ensures) (c .if1 .taken)))
+
+add-i : tie.Need-add-i Inv-loop μ-loop
+add-i c = search needs
+
+loop-less : tie.Need-loop-less Inv-loop μ-loop
+loop-less c = search needs
+
+loop-again : tie.Need-loop-again Inv-loop μ-loop
+loop-again c = (omega arith, all-more _ _ (c .before .before .before .loop .inv .1) (passed (c .before .round-cells-ok .ensures) (c .if1 .left)))
+
+returns-2 : tie.Need-returns-2 Inv-loop μ-loop
+returns-2 c = let e : c .before .loop .i ≡ 32 = omega arith in sym (rw e at (c .before .loop .inv .1))
+
+pub cells-ok-spec : {M : Type 1} → statement M
+cells-ok-spec =
+    tie.close
+    (tie.spec
+    Inv-loop
+    μ-loop
+    loop-holds
+    add-round-cells-ok
+    round-cells-ok-requires
+    returns
+    add-i
+    loop-less
+    loop-again
+    returns-2)

@@ -1,0 +1,71 @@
+-- The tests in turn; `part-zero` of `Laws` for the three zeros.
+use mathlib.Core.Bool.{and-true}
+use mathlib.Core.Path.{_∙_}
+use native.Mathlib.Omega.{arith}
+use borrow.Author.Tests.{lt-leb, le-leb}
+use borrow.Author.Needs.{needs}
+use Rattle.record.proofs.Booleans.{passed, failed}
+use Rattle.replica.proofs.Laws.{part-zero}
+use Rattle.replica.proofs.wellformed.head_ok.Statement.{statement}
+use Rattle.replica.proofs.wellformed.head_ok.Tie as tie
+
+shared-slice-read-is-legal : tie.Need-shared-slice-read-is-legal
+shared-slice-read-is-legal c = search needs
+
+is-legal-requires : tie.Need-is-legal-requires
+is-legal-requires c κs = search needs
+
+returns : tie.Need-returns
+returns c = simp (failed (c .before .is-legal .ensures) (c .if1 .taken))
+
+shared-slice-read-if2 : tie.Need-shared-slice-read-if2
+shared-slice-read-if2 c = search needs
+
+returns-2 : tie.Need-returns-2
+returns-2 c = simp (passed (c .before .before .before .is-legal .ensures) (c .before .before .if1 .left), lt-leb _ _ (c .if2 .taken))
+
+shared-slice-read-if3 : tie.Need-shared-slice-read-if3
+shared-slice-read-if3 c = search needs
+
+returns-3 : tie.Need-returns-3
+returns-3 c = simp (passed (c .before .before .before .before .before .is-legal .ensures) (c .before .before .before .before .if1 .left), le-leb _ _ (c .before .before .if2 .left), lt-leb _ _ (c .if3 .taken))
+
+shared-slice-read-if4 : tie.Need-shared-slice-read-if4
+shared-slice-read-if4 c = search needs
+
+returns-4 : tie.Need-returns-4
+returns-4 c = simp (passed (c .before .before .before .before .before .before .before .is-legal .ensures) (c .before .before .before .before .before .before .if1 .left), le-leb _ _ (c .before .before .before .before .if2 .left), le-leb _ _ (c .before .before .if3 .left), lt-leb _ _ (c .if4 .taken))
+
+sub-is-zero : tie.Need-sub-is-zero
+sub-is-zero c = search needs
+
+part-is-zero-start : tie.Need-part-is-zero-start
+part-is-zero-start c = search needs
+
+part-is-zero-end : tie.Need-part-is-zero-end
+part-is-zero-end c = search needs
+
+is-zero-requires : tie.Need-is-zero-requires
+is-zero-requires c κs = search needs
+
+returns-5 : tie.Need-returns-5
+returns-5 c = simp (passed (c .before .before .before .before .before .before .before .before .before .is-legal .ensures) (c .before .before .before .before .before .before .before .before .if1 .left), le-leb _ _ (c .before .before .before .before .before .before .if2 .left), le-leb _ _ (c .before .before .before .before .if3 .left), le-leb _ _ (c .before .before .if4 .left), and-true) (c .is-zero .ensures ∙ part-zero (c .before .before .before .before .before .before .before .before .before .before .before .before .args .state .now) 5 3 (omega arith))
+
+pub head-ok-spec : {M : Type 1} → statement M
+head-ok-spec =
+    tie.close
+    (tie.spec
+    shared-slice-read-is-legal
+    is-legal-requires
+    returns
+    shared-slice-read-if2
+    returns-2
+    shared-slice-read-if3
+    returns-3
+    shared-slice-read-if4
+    returns-4
+    sub-is-zero
+    part-is-zero-start
+    part-is-zero-end
+    is-zero-requires
+    returns-5)

@@ -1,0 +1,53 @@
+-- Invariant: the joined words are 0 exactly if each of the first i is: `zero-more` of `Laws`.
+use mathlib.Core.Path.{_≡_}
+use Prim.Native.Nat.{_≤_, _-_}
+use native.Mathlib.Omega.{arith}
+use lib.Dec.{eqb}
+use lib.ListN.{length, getD}
+use borrow.Author.Needs.{needs}
+use Rattle.record.specs.Below.{all}
+use Rattle.replica.proofs.Laws.{zero-more}
+use Rattle.replica.proofs.wellformed.is_zero.Statement.{statement}
+use Rattle.replica.proofs.wellformed.is_zero.Tie as tie
+
+abbrev Inv-loop : tie.InvT-loop
+Inv-loop part joined₀ i₀ joined i = (i ≤ length part) × (eqb joined 0 ≡ all i (λ k. eqb (getD part k 0) 0))
+
+abbrev μ-loop : tie.MeasureT-loop
+μ-loop part joined₀ i₀ joined i = length part - i
+
+loop-holds : tie.Need-loop-holds Inv-loop μ-loop
+unfolding all
+loop-holds c = (omega arith, search needs)
+
+mul-joined : tie.Need-mul-joined Inv-loop μ-loop
+mul-joined c = search needs
+
+shared-slice-read-joined : tie.Need-shared-slice-read-joined Inv-loop μ-loop
+shared-slice-read-joined c = search needs
+
+add-i : tie.Need-add-i Inv-loop μ-loop
+add-i c = search needs
+
+loop-less : tie.Need-loop-less Inv-loop μ-loop
+loop-less c = search needs
+
+loop-again : tie.Need-loop-again Inv-loop μ-loop
+loop-again c = (omega arith, zero-more (c .before .before .before .args .part .now) (c .before .before .loop .joined) (c .before .before .loop .i) (c .before .before .loop .inv .1))
+
+returns : tie.Need-returns Inv-loop μ-loop
+returns c = let e : c .before .loop .i ≡ length (c .before .before .args .part .now) = omega arith in rw e at (c .before .loop .inv .1)
+
+pub is-zero-spec : {M : Type 1} → statement M
+is-zero-spec =
+    tie.close
+    (tie.spec
+    Inv-loop
+    μ-loop
+    loop-holds
+    mul-joined
+    shared-slice-read-joined
+    add-i
+    loop-less
+    loop-again
+    returns)

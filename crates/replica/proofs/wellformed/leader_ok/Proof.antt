@@ -1,0 +1,69 @@
+-- The tests in turn; a held id has a round from 1 on.
+use borrow.Author.Tests.{eq-eqb, ne-eqb}
+use borrow.Author.Needs.{needs}
+use Rattle.record.proofs.Booleans.{passed, failed, and-left}
+use Rattle.record.proofs.Turn.{round-range}
+use Rattle.replica.specs.WellFormed.{leaderOk}
+use Rattle.replica.proofs.wellformed.leader_ok.Statement.{statement}
+use Rattle.replica.proofs.wellformed.leader_ok.Tie as tie
+
+add-x : tie.Need-add-x
+add-x c = search needs
+
+mul-x : tie.Need-mul-x
+mul-x c = search needs
+
+shared-slice-read-x : tie.Need-shared-slice-read-x
+shared-slice-read-x c = search needs
+
+is-held-requires : tie.Need-is-held-requires
+is-held-requires c κs = search needs
+
+returns : tie.Need-returns
+unfolding leaderOk
+returns c = simp (failed (c .before .is-held .ensures) (c .if1 .taken))
+
+leader-of-requires : tie.Need-leader-of-requires
+leader-of-requires c κs = (c .before .before .before .before .pre .2, round-range _ (and-left _ _ (passed (c .before .is-held .ensures) (c .if1 .left))) .0)
+
+returns-2 : tie.Need-returns-2
+unfolding leaderOk
+returns-2 c = simp (passed (c .before .before .before .is-held .ensures) (c .before .before .if1 .left), ne-eqb _ _ (rw (c .before .leader-of .ensures, c .before .before .before .before .before .before .pre .1) at (c .if2 .taken)))
+
+returns-3 : tie.Need-returns-3
+unfolding leaderOk
+returns-3 c = simp (passed (c .before .before .before .before .is-held .ensures) (c .before .before .before .if1 .left), eq-eqb _ _ (rw (c .before .before .leader-of .ensures, c .before .before .before .before .before .before .before .pre .1) at (c .before .if2 .left)), eq-eqb _ _ (c .if3 .taken))
+
+sub-result : tie.Need-sub-result
+sub-result c = search needs
+
+add-result : tie.Need-add-result
+add-result c = search needs
+
+mul-result : tie.Need-mul-result
+mul-result c = search needs
+
+shared-slice-read-result : tie.Need-shared-slice-read-result
+shared-slice-read-result c = search needs
+
+returns-4 : tie.Need-returns-4
+unfolding leaderOk
+returns-4 c = simp (passed (c .before .before .before .before .before .is-held .ensures) (c .before .before .before .before .if1 .left), eq-eqb _ _ (rw (c .before .before .before .leader-of .ensures, c .before .before .before .before .before .before .before .before .pre .1) at (c .before .before .if2 .left)), ne-eqb _ _ (c .before .if3 .left))
+
+pub leader-ok-spec : {M : Type 1} → statement M
+leader-ok-spec =
+    tie.close
+    (tie.spec
+    add-x
+    mul-x
+    shared-slice-read-x
+    is-held-requires
+    returns
+    leader-of-requires
+    returns-2
+    returns-3
+    sub-result
+    add-result
+    mul-result
+    shared-slice-read-result
+    returns-4)

@@ -1,0 +1,79 @@
+-- Invariant: the first i leaders pass.
+use mathlib.Core.Path.{_≡_, refl}
+use mathlib.Core.Bool.{true}
+use Prim.Native.Nat.{_≤_, _-_}
+use native.Mathlib.Omega.{arith}
+use borrow.Author.Tests.{le-leb, lt-leb}
+use borrow.Author.Needs.{needs}
+use Rattle.record.specs.Below.{all}
+use Rattle.record.proofs.Booleans.{passed, failed}
+use Rattle.record.proofs.Below.{all-none, all-more, all-stop}
+use Rattle.record.proofs.Masks.{legal-range}
+use Rattle.replica.specs.State.{memberCount, leaderCount}
+use Rattle.replica.specs.WellFormed.{leaderOk, leadersOk}
+use Rattle.replica.proofs.wellformed.leaders_ok.Statement.{statement}
+use Rattle.replica.proofs.wellformed.leaders_ok.Tie as tie
+
+abbrev Inv-loop : tie.InvT-loop
+Inv-loop state n count i₀ i = (i ≤ count) × (n ≡ memberCount state) × (count ≡ leaderCount state) × (count ≤ 32) × (all i (leaderOk state) ≡ true)
+
+abbrev μ-loop : tie.MeasureT-loop
+μ-loop state n count i₀ i = count - i
+
+shared-slice-read-n : tie.Need-shared-slice-read-n Inv-loop μ-loop
+shared-slice-read-n c = search needs
+
+shared-slice-read-wide : tie.Need-shared-slice-read-wide Inv-loop μ-loop
+shared-slice-read-wide c = search needs
+
+wide-requires : tie.Need-wide-requires Inv-loop μ-loop
+wide-requires c κs = search needs
+
+returns : tie.Need-returns Inv-loop μ-loop
+unfolding leadersOk
+returns c = simp (lt-leb _ _ (rw (c .before .wide .ensures) at (c .if1 .taken)))
+
+loop-holds : tie.Need-loop-holds Inv-loop μ-loop
+loop-holds c = (omega arith, refl, c .before .wide .ensures, omega arith, all-none _)
+
+leader-ok-requires : tie.Need-leader-ok-requires Inv-loop μ-loop
+leader-ok-requires c κs = let g = legal-range _ (c .before .before .before .before .before .before .before .pre .1) in (c .before .before .before .before .before .before .before .pre .0, c .before .loop .inv .1, omega arith, omega arith)
+
+returns-2 : tie.Need-returns-2 Inv-loop μ-loop
+unfolding leadersOk
+returns-2 c = simp (le-leb _ _ (rw (c .before .before .before .loop .inv .2) at (c .before .before .before .loop .inv .3)), all-stop _ (leaderOk (c .before .before .before .before .before .before .before .before .before .args .state .now)) (c .before .before .before .loop .i) (rw (c .before .before .before .loop .inv .2) at (c .before .before .loop-test .taken)) (failed (c .before .leader-ok .ensures) (c .if2 .taken)))
+
+add-i : tie.Need-add-i Inv-loop μ-loop
+add-i c = search needs
+
+loop-less : tie.Need-loop-less Inv-loop μ-loop
+loop-less c = search needs
+
+loop-again : tie.Need-loop-again Inv-loop μ-loop
+loop-again c = (omega arith, c .before .before .before .loop .inv .1, c .before .before .before .loop .inv .2, c .before .before .before .loop .inv .3, all-more _ _ (c .before .before .before .loop .inv .4) (passed (c .before .leader-ok .ensures) (c .if2 .left)))
+
+last-ok-requires : tie.Need-last-ok-requires Inv-loop μ-loop
+last-ok-requires c κs = (c .before .before .before .before .before .before .before .pre .0, c .before .loop .inv .2, c .before .loop .inv .3)
+
+returns-3 : tie.Need-returns-3 Inv-loop μ-loop
+unfolding leadersOk
+returns-3 c = let e : c .before .before .loop .i ≡ leaderCount (c .before .before .before .before .before .before .before .before .args .state .now) = omega arith in simp (le-leb _ _ (rw (c .before .before .loop .inv .2) at (c .before .before .loop .inv .3)), rw e at (c .before .before .loop .inv .4)) (c .last-ok .ensures)
+
+pub leaders-ok-spec : {M : Type 1} → statement M
+leaders-ok-spec =
+    tie.close
+    (tie.spec
+    Inv-loop
+    μ-loop
+    shared-slice-read-n
+    shared-slice-read-wide
+    wide-requires
+    returns
+    loop-holds
+    leader-ok-requires
+    returns-2
+    add-i
+    loop-less
+    loop-again
+    last-ok-requires
+    returns-3)

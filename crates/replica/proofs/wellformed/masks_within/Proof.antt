@@ -1,0 +1,57 @@
+-- Invariant: the first i rounds pass.
+use mathlib.Core.Path.{_≡_, sym}
+use mathlib.Core.Bool.{true}
+use Prim.Native.Nat.{_≤_, _-_, _+_}
+use native.Mathlib.Omega.{arith}
+use borrow.Author.Needs.{needs}
+use Rattle.record.specs.Below.{all}
+use Rattle.record.proofs.Booleans.{passed, failed}
+use Rattle.record.proofs.Below.{all-none, all-more, all-stop}
+use Rattle.replica.specs.WellFormed.{masksWithin}
+use Rattle.replica.proofs.wellformed.masks_within.Statement.{statement}
+use Rattle.replica.proofs.wellformed.masks_within.Tie as tie
+
+abbrev Inv-loop : tie.InvT-loop
+Inv-loop state i₀ i = (i ≤ 32) × (all i (λ k. masksWithin state (k + 1)) ≡ true)
+
+abbrev μ-loop : tie.MeasureT-loop
+μ-loop state i₀ i = 32 - i
+
+loop-holds : tie.Need-loop-holds Inv-loop μ-loop
+loop-holds c = (omega arith, all-none _)
+
+add-round-within : tie.Need-add-round-within Inv-loop μ-loop
+add-round-within c = search needs
+
+round-within-requires : tie.Need-round-within-requires Inv-loop μ-loop
+round-within-requires c κs = search needs
+
+returns : tie.Need-returns Inv-loop μ-loop
+returns c = sym (all-stop 32 (λ k. masksWithin (c .before .before .before .before .before .args .state .now) (k + 1)) (c .before .before .before .loop .i) (omega arith) (failed (c .before .round-within .ensures) (c .if1 .taken)))
+
+add-i : tie.Need-add-i Inv-loop μ-loop
+add-i c = search needs
+
+loop-less : tie.Need-loop-less Inv-loop μ-loop
+loop-less c = search needs
+
+loop-again : tie.Need-loop-again Inv-loop μ-loop
+loop-again c = (omega arith, all-more _ _ (c .before .before .before .loop .inv .1) (passed (c .before .round-within .ensures) (c .if1 .left)))
+
+returns-2 : tie.Need-returns-2 Inv-loop μ-loop
+returns-2 c = let e : c .before .loop .i ≡ 32 = omega arith in sym (rw e at (c .before .loop .inv .1))
+
+pub masks-within-spec : {M : Type 1} → statement M
+masks-within-spec =
+    tie.close
+    (tie.spec
+    Inv-loop
+    μ-loop
+    loop-holds
+    add-round-within
+    round-within-requires
+    returns
+    add-i
+    loop-less
+    loop-again
+    returns-2)

@@ -1,0 +1,66 @@
+-- Invariant: the first i rounds pass.
+use mathlib.Core.Path.{_≡_, sym}
+use mathlib.Core.Bool.{true}
+use Prim.Native.Nat.{_≤_, _-_, _+_}
+use native.Mathlib.Omega.{arith}
+use borrow.Author.Tests.{eq-eqb, ne-eqb}
+use borrow.Author.Needs.{needs}
+use Rattle.record.specs.Below.{all}
+use Rattle.record.proofs.Below.{all-none, all-more, all-stop}
+use Rattle.replica.specs.State.{orderedMask, heldMask}
+use Rattle.replica.specs.WellFormed.{subset}
+use Rattle.replica.proofs.wellformed.ordered_held.Statement.{statement}
+use Rattle.replica.proofs.wellformed.ordered_held.Tie as tie
+
+abbrev Inv-loop : tie.InvT-loop
+Inv-loop state i₀ i = (i ≤ 32) × (all i (λ k. subset (orderedMask state (k + 1)) (heldMask state (k + 1))) ≡ true)
+
+abbrev μ-loop : tie.MeasureT-loop
+μ-loop state i₀ i = 32 - i
+
+loop-holds : tie.Need-loop-holds Inv-loop μ-loop
+loop-holds c = (omega arith, all-none _)
+
+add-ordered-mask : tie.Need-add-ordered-mask Inv-loop μ-loop
+add-ordered-mask c = search needs
+
+ordered-mask-requires : tie.Need-ordered-mask-requires Inv-loop μ-loop
+ordered-mask-requires c κs = search needs
+
+add-held-mask : tie.Need-add-held-mask Inv-loop μ-loop
+add-held-mask c = search needs
+
+held-mask-requires : tie.Need-held-mask-requires Inv-loop μ-loop
+held-mask-requires c κs = search needs
+
+returns : tie.Need-returns Inv-loop μ-loop
+returns c = sym (all-stop 32 (λ k. subset (orderedMask (c .before .before .before .before .before .before .args .state .now) (k + 1)) (heldMask (c .before .before .before .before .before .before .args .state .now) (k + 1))) (c .before .before .before .before .loop .i) (omega arith) (ne-eqb _ _ (rw (c .before .before .ordered-mask .ensures, c .before .held-mask .ensures) at (c .if1 .taken))))
+
+add-i : tie.Need-add-i Inv-loop μ-loop
+add-i c = search needs
+
+loop-less : tie.Need-loop-less Inv-loop μ-loop
+loop-less c = search needs
+
+loop-again : tie.Need-loop-again Inv-loop μ-loop
+loop-again c = (omega arith, all-more _ _ (c .before .before .before .before .loop .inv .1) (eq-eqb _ _ (rw (c .before .before .ordered-mask .ensures, c .before .held-mask .ensures) at (c .if1 .left))))
+
+returns-2 : tie.Need-returns-2 Inv-loop μ-loop
+returns-2 c = let e : c .before .loop .i ≡ 32 = omega arith in sym (rw e at (c .before .loop .inv .1))
+
+pub ordered-held-spec : {M : Type 1} → statement M
+ordered-held-spec =
+    tie.close
+    (tie.spec
+    Inv-loop
+    μ-loop
+    loop-holds
+    add-ordered-mask
+    ordered-mask-requires
+    add-held-mask
+    held-mask-requires
+    returns
+    add-i
+    loop-less
+    loop-again
+    returns-2)

@@ -1,0 +1,66 @@
+-- Invariant: the first i rounds pass.
+use mathlib.Core.Path.{_≡_, sym}
+use mathlib.Core.Bool.{true}
+use Prim.Native.Nat.{_≤_, _-_, _+_}
+use native.Mathlib.Omega.{arith}
+use borrow.Author.Tests.{eq-eqb, ne-eqb}
+use borrow.Author.Needs.{needs}
+use Rattle.record.specs.Below.{all}
+use Rattle.record.proofs.Below.{all-none, all-more, all-stop}
+use Rattle.replica.specs.State.{votesMask, heardMask}
+use Rattle.replica.specs.WellFormed.{subset}
+use Rattle.replica.proofs.wellformed.votes_heard.Statement.{statement}
+use Rattle.replica.proofs.wellformed.votes_heard.Tie as tie
+
+abbrev Inv-loop : tie.InvT-loop
+Inv-loop state i₀ i = (i ≤ 32) × (all i (λ k. subset (votesMask state (k + 1)) (heardMask state (k + 1))) ≡ true)
+
+abbrev μ-loop : tie.MeasureT-loop
+μ-loop state i₀ i = 32 - i
+
+loop-holds : tie.Need-loop-holds Inv-loop μ-loop
+loop-holds c = (omega arith, all-none _)
+
+add-votes-mask : tie.Need-add-votes-mask Inv-loop μ-loop
+add-votes-mask c = search needs
+
+votes-mask-requires : tie.Need-votes-mask-requires Inv-loop μ-loop
+votes-mask-requires c κs = search needs
+
+add-heard-mask : tie.Need-add-heard-mask Inv-loop μ-loop
+add-heard-mask c = search needs
+
+heard-mask-requires : tie.Need-heard-mask-requires Inv-loop μ-loop
+heard-mask-requires c κs = search needs
+
+returns : tie.Need-returns Inv-loop μ-loop
+returns c = sym (all-stop 32 (λ k. subset (votesMask (c .before .before .before .before .before .before .args .state .now) (k + 1)) (heardMask (c .before .before .before .before .before .before .args .state .now) (k + 1))) (c .before .before .before .before .loop .i) (omega arith) (ne-eqb _ _ (rw (c .before .before .votes-mask .ensures, c .before .heard-mask .ensures) at (c .if1 .taken))))
+
+add-i : tie.Need-add-i Inv-loop μ-loop
+add-i c = search needs
+
+loop-less : tie.Need-loop-less Inv-loop μ-loop
+loop-less c = search needs
+
+loop-again : tie.Need-loop-again Inv-loop μ-loop
+loop-again c = (omega arith, all-more _ _ (c .before .before .before .before .loop .inv .1) (eq-eqb _ _ (rw (c .before .before .votes-mask .ensures, c .before .heard-mask .ensures) at (c .if1 .left))))
+
+returns-2 : tie.Need-returns-2 Inv-loop μ-loop
+returns-2 c = let e : c .before .loop .i ≡ 32 = omega arith in sym (rw e at (c .before .loop .inv .1))
+
+pub votes-heard-spec : {M : Type 1} → statement M
+votes-heard-spec =
+    tie.close
+    (tie.spec
+    Inv-loop
+    μ-loop
+    loop-holds
+    add-votes-mask
+    votes-mask-requires
+    add-heard-mask
+    heard-mask-requires
+    returns
+    add-i
+    loop-less
+    loop-again
+    returns-2)

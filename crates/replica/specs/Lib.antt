@@ -1,0 +1,5 @@
+pub mod Layout
+pub mod State
+pub mod WellFormed
+pub mod Outcome
+pub mod Lists

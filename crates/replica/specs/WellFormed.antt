@@ -1,0 +1,104 @@
+-- When a state is well formed (01: sound): a line for each clause of the paper, in its order.
+use mathlib.Core.Bool.{Bool, true, cond, not, _&&_, _||_}
+use mathlib.Core.List.{List, [], _∷_}
+use Prim.Native.Nat.{ℕ, _+_, _-_}
+use lib.Bits.{bitAnd}
+use lib.Dec.{eqb, leb, ltb}
+use lib.ListN.{getD, take}
+use Rattle.record.specs.Below.{all, any}
+use Rattle.record.specs.Members.{legal, leader, has, within, idRound, idMember}
+use Rattle.record.specs.Refusals.{numberOf}
+use Rattle.record.specs.Layout.{bodySize, strongOf, weakCountOf, weakOf}
+use Rattle.record.specs.Questions.{bodyRefusal}
+use Rattle.protocol.specs.Journal.{idLimit, among}
+use Rattle.replica.specs.Layout.{rounds, slots, zerosAt, zerosSize, leadersSize, journalSize, cellAt}
+use Rattle.replica.specs.State.{memberCount, currentRound, committedRound, leaderCount, journalCount, heldMask, heardMask, votesMask, timeoutsMask, noVotesMask, orderedMask, leaderWord, journalWord, journalList, cell, heldId, orderedId}
+
+-- every round from 1 to 32 satisfies t
+abbrev pub eachRound : (ℕ → Bool) → Bool
+eachRound t = all rounds (λ i. t (i + 1))
+
+-- the mask a lies within the mask b
+abbrev pub subset : ℕ → ℕ → Bool
+subset a b = eqb (bitAnd a b) a
+
+-- no mask of round r has a bit at n or above
+unfoldable pub masksWithin : List ℕ → ℕ → Bool
+masksWithin l r =
+    within (memberCount l) (heldMask l r)
+    && (within (memberCount l) (heardMask l r)
+    && (within (memberCount l) (votesMask l r)
+    && (within (memberCount l) (timeoutsMask l r)
+    && (within (memberCount l) (noVotesMask l r)
+    && within (memberCount l) (orderedMask l r)))))
+
+-- y is the id of a strong or weak parent of a body of round r
+unfoldable pub isParent : ℕ → List ℕ → ℕ → Bool
+isParent r body y = (eqb (idRound y + 1) r && has (strongOf body) (idMember y)) || any (weakCountOf body) (λ i. eqb (weakOf body i) y)
+
+-- y is the id of a parent that is not held
+unfoldable pub missing : List ℕ → ℕ → List ℕ → ℕ → Bool
+missing l r body y = isParent r body y && not (heldId l y)
+
+-- question 14: all strong and weak parents are held
+unfoldable pub parentsHeld : List ℕ → ℕ → List ℕ → Bool
+parentsHeld l r body = not (any idLimit (missing l r body))
+
+-- a held record passes questions 5 to 11 and 14, and a cell not held is zero
+unfoldable pub cellOk : List ℕ → ℕ → ℕ → Bool
+cellOk l r p =
+    cond (has (heldMask l r) p)
+    (eqb (numberOf (bodyRefusal (memberCount l) r p (cell l r p))) 0 && parentsHeld l r (cell l r p))
+    (all bodySize (λ i. eqb (getD l (cellAt r p + i) 0) 0))
+
+-- entry i of the leader list is a held leader's vertex, of a higher round than the entry before
+unfoldable pub leaderOk : List ℕ → ℕ → Bool
+leaderOk l i =
+    heldId l (leaderWord l i)
+    && (eqb (idMember (leaderWord l i)) (leader (memberCount l) (idRound (leaderWord l i)))
+    && cond (eqb i 0) true (ltb (idRound (leaderWord l (i - 1))) (idRound (leaderWord l i))))
+
+-- the last round of the leader list, 0 if it is empty
+unfoldable pub lastLeaderRound : List ℕ → ℕ
+lastLeaderRound l = cond (eqb (leaderCount l) 0) 0 (idRound (leaderWord l (leaderCount l - 1)))
+
+-- the leader list names held leader vertices by rising round; its last round is the committed round, so it is empty exactly if that is 0
+unfoldable pub leadersOk : List ℕ → Bool
+leadersOk l = leb (leaderCount l) leadersSize && (all (leaderCount l) (leaderOk l) && eqb (lastLeaderRound l) (committedRound l))
+
+-- entry i of the journal is an ordered vertex, and no entry before it is the same
+unfoldable pub entryOk : List ℕ → ℕ → Bool
+entryOk l i = orderedId l (journalWord l i) && not (among (take i (journalList l)) (journalWord l i))
+
+-- the journal names exactly the ordered vertices, each once
+unfoldable pub journalOk : List ℕ → Bool
+journalOk l = leb (journalCount l) journalSize && (all (journalCount l) (entryOk l) && all idLimit (λ y. not (orderedId l y) || among (journalList l) y))
+
+-- list words beyond the counts are 0
+unfoldable pub restZero : List ℕ → Bool
+restZero l =
+    all leadersSize (λ i. ltb i (leaderCount l) || eqb (leaderWord l i) 0)
+    && all journalSize (λ i. ltb i (journalCount l) || eqb (journalWord l i) 0)
+
+-- every clause holds
+abbrev pub every : List Bool → Bool
+every [] = true
+every (clause ∷ rest) = clause && every rest
+
+abbrev pub clauses : List ℕ → List Bool
+clauses l =
+    legal (memberCount l)
+    ∷ (leb 1 (currentRound l) && leb (currentRound l) 33)
+    ∷ leb (committedRound l) 31
+    ∷ all zerosSize (λ i. eqb (getD l (zerosAt + i) 0) 0)
+    ∷ eachRound (masksWithin l)
+    ∷ (eachRound (λ r. subset (votesMask l r) (heardMask l r)) && eqb (votesMask l 1) 0)
+    ∷ eachRound (λ r. subset (orderedMask l r) (heldMask l r))
+    ∷ eachRound (λ r. all slots (cellOk l r))
+    ∷ leadersOk l
+    ∷ journalOk l
+    ∷ restZero l
+    ∷ []
+
+unfoldable pub wellFormed : List ℕ → Bool
+wellFormed l = every (clauses l)

@@ -1,0 +1,30 @@
+// What the calls answer.
+ghost use mathlib.Core.Path.{_≡_};
+ghost use Rattle.replica.specs.Outcome.{refusedBy};
+use record::refusal::Refusal;
+
+pub struct Answer {
+    pub refusal: Refusal,
+    pub leaders: u32,
+    pub journal: u32,
+}
+
+// The number, and words 1 to 4 of the state.
+pub struct Status {
+    pub refusal: Refusal,
+    pub current_round: u32,
+    pub committed_round: u32,
+    pub leader_count: u32,
+    pub journal_count: u32,
+}
+
+// Refused: nothing was added.
+pub fn refuse(why: Refusal) -> Answer
+    ensures { λ r. ⌜ r ≡ refusedBy why ⌝ }
+{
+    Answer {
+        refusal: why,
+        leaders: 0,
+        journal: 0,
+    }
+}

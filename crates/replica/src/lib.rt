@@ -1,0 +1,5 @@
+// The replica state, its well-formedness, and the calls that admit nothing: opening, status and the lists.
+pub mod answer;
+pub mod layout;
+pub mod lists;
+pub mod wellformed;

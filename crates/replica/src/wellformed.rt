@@ -1,0 +1,370 @@
+// The test of question 3: a function for each clause of well-formedness.
+ghost use mathlib.Core.Path.{_≡_};
+ghost use mathlib.Core.Bool.{true};
+ghost use Prim.Native.Nat.{ℕ, _+_, _<_, _≤_};
+ghost use lib.Dec.{eqb};
+ghost use lib.ListN.{length, getD, take, drop};
+ghost use Rattle.record.specs.Below.{all};
+ghost use Rattle.record.specs.Members.{legal, within};
+ghost use Rattle.record.specs.Refusals.{numberOf};
+ghost use Rattle.record.specs.Questions.{bodyRefusal, termsOf};
+ghost use Rattle.replica.specs.Layout.{stateSize};
+ghost use Rattle.replica.specs.State.{memberCount, committedRound, leaderCount, heldMask, heardMask, votesMask, orderedMask, heldId};
+ghost use Rattle.replica.specs.WellFormed.{eachRound, subset, masksWithin, parentsHeld, cellOk, leaderOk, lastLeaderRound, leadersOk, journalOk, restZero, every, clauses, wellFormed};
+use super::layout::CELLS;
+use super::layout::COMMITTED_ROUND;
+use super::layout::CURRENT_ROUND;
+use super::layout::HEARD;
+use super::layout::HELD;
+use super::layout::JOURNAL;
+use super::layout::JOURNAL_COUNT;
+use super::layout::JOURNAL_SIZE;
+use super::layout::LEADER_COUNT;
+use super::layout::LEADERS;
+use super::layout::LEADERS_SIZE;
+use super::layout::MEMBER_COUNT;
+use super::layout::NO_VOTES;
+use super::layout::ORDERED;
+use super::layout::ROUNDS;
+use super::layout::SLOTS;
+use super::layout::TIMEOUTS;
+use super::layout::VOTES;
+use super::layout::ZEROS;
+use super::layout::cell_at;
+use super::layout::heard_mask;
+use super::layout::held_mask;
+use super::layout::is_held;
+use super::layout::is_ordered;
+use super::layout::masks_at;
+use super::layout::ordered_mask;
+use super::layout::votes_mask;
+use super::layout::wide;
+use record::layout::BODY_SIZE;
+use record::layout::STRONG;
+use record::layout::WEAK;
+use record::layout::WEAK_COUNT;
+use record::members::Members;
+use record::members::is_legal;
+use record::members::is_within;
+use record::members::leader_of;
+use record::members::power;
+use record::questions::Terms;
+use record::questions::check_known;
+use record::questions::terms_of;
+use record::refusal::number;
+
+// Every word of the part is 0. The words are joined before they are tested, so that no word costs a branch.
+fn is_zero(part: &[u32]) -> bool
+    ensures { λ r. ⌜ r ≡ all (length (now (part .entry))) (λ i. eqb (getD (now (part .entry)) i 0) 0) ⌝ }
+{
+    let mut joined: u32 = 0;
+    let mut i: usize = 0;
+    while i < part.len() {
+        joined = joined | part[i];
+        i += 1;
+    }
+    joined == 0
+}
+
+// Words 0 to 7: the member count, the current round, the committed round and the three zeros.
+fn head_ok(state: &[u32]) -> bool
+    requires { ⌜ length (now state) ≡ stateSize ⌝ }
+    ensures { λ r. ⌜ r ≡ every (take 4 (clauses (now (state .entry)))) ⌝ }
+{
+    if !is_legal(state[MEMBER_COUNT]) {
+        return false;
+    }
+    if state[CURRENT_ROUND] < 1 {
+        return false;
+    }
+    if 33 < state[CURRENT_ROUND] {
+        return false;
+    }
+    if 31 < state[COMMITTED_ROUND] {
+        return false;
+    }
+    is_zero(&state[ZEROS..8])
+}
+
+// No mask of the round has a bit at n or above.
+fn round_within(state: &[u32], round: u32) -> bool
+    requires { ⌜ (length (now state) ≡ stateSize) × (1 ≤ round) × (round ≤ 32) ⌝ }
+    ensures { λ r. ⌜ r ≡ masksWithin (now (state .entry)) round ⌝ }
+{
+    let at = masks_at(round);
+    let joined = state[at + HELD]
+        | state[at + HEARD]
+        | state[at + VOTES]
+        | state[at + TIMEOUTS]
+        | state[at + NO_VOTES]
+        | state[at + ORDERED];
+    is_within(state[MEMBER_COUNT], joined)
+}
+
+fn masks_within(state: &[u32]) -> bool
+    requires { ⌜ length (now state) ≡ stateSize ⌝ }
+    ensures { λ r. ⌜ r ≡ eachRound (masksWithin (now (state .entry))) ⌝ }
+{
+    let mut i: u32 = 0;
+    while i < ROUNDS {
+        if !round_within(state, i + 1) {
+            return false;
+        }
+        i += 1;
+    }
+    true
+}
+
+fn votes_heard(state: &[u32]) -> bool
+    requires { ⌜ length (now state) ≡ stateSize ⌝ }
+    ensures { λ r. ⌜ r ≡ eachRound (λ r. subset (votesMask (now (state .entry)) r) (heardMask (now (state .entry)) r)) ⌝ }
+{
+    let mut i: u32 = 0;
+    while i < ROUNDS {
+        let votes = votes_mask(state, i + 1);
+        if votes & heard_mask(state, i + 1) != votes {
+            return false;
+        }
+        i += 1;
+    }
+    true
+}
+
+fn ordered_held(state: &[u32]) -> bool
+    requires { ⌜ length (now state) ≡ stateSize ⌝ }
+    ensures { λ r. ⌜ r ≡ eachRound (λ r. subset (orderedMask (now (state .entry)) r) (heldMask (now (state .entry)) r)) ⌝ }
+{
+    let mut i: u32 = 0;
+    while i < ROUNDS {
+        let ordered = ordered_mask(state, i + 1);
+        if ordered & held_mask(state, i + 1) != ordered {
+            return false;
+        }
+        i += 1;
+    }
+    true
+}
+
+// Every weak parent of an admitted body is held.
+fn weak_held(state: &[u32], n: u32, body: &[u32]) -> bool
+    requires { ⌜ (length (now state) ≡ stateSize) × (length (now body) ≡ 10) × (getD (now body) 4 0 ≤ 5) ⌝ }
+    ensures { λ r. ⌜ r ≡ all (getD (now (body .entry)) 4 0) (λ i. heldId (now (state .entry)) (getD (now (body .entry)) (5 + i) 0)) ⌝ }
+{
+    let count = wide(body[WEAK_COUNT]);
+    let mut i: usize = 0;
+    while i < count {
+        if !is_held(state, n, body[WEAK + i]) {
+            return false;
+        }
+        i += 1;
+    }
+    true
+}
+
+// Question 14, of an admitted body.
+pub fn parents_held(state: &[u32], n: u32, round: u32, source: u32, body: &[u32]) -> bool
+    requires { ⌜ (length (now state) ≡ stateSize) × (legal n ≡ true) × (numberOf (bodyRefusal n round source (now body)) ≡ 0) ⌝ }
+    ensures { λ r. ⌜ r ≡ parentsHeld (now (state .entry)) round (now (body .entry)) ⌝ }
+{
+    if round < 2 {
+        return true;
+    }
+    let strong = body[STRONG];
+    if strong & held_mask(state, round - 1) != strong {
+        return false;
+    }
+    weak_held(state, n, body)
+}
+
+// A held record passes questions 5 to 11 and 14, and a cell not held is zero.
+fn cell_ok(state: &[u32], terms: Terms, round: u32, member: u32) -> bool
+    requires { ⌜ (length (now state) ≡ stateSize) × (terms ≡ termsOf (memberCount (now state)) round) × (legal (memberCount (now state)) ≡ true) × (1 ≤ round) × (round ≤ 32) × (member < 16) × (within (memberCount (now state)) (heldMask (now state) round) ≡ true) ⌝ }
+    ensures { λ r. ⌜ r ≡ cellOk (now (state .entry)) round member ⌝ }
+{
+    let n = terms.n;
+    let at = cell_at(round, member);
+    let end = at + BODY_SIZE;
+    let held = Members {
+        bits: held_mask(state, round),
+        n,
+    };
+    if !held.has(member) {
+        return is_zero(&state[at..end]);
+    }
+    if number(check_known(terms, round, member, &state[at..end])) != 0 {
+        return false;
+    }
+    parents_held(state, n, round, member, &state[at..end])
+}
+
+fn round_cells_ok(state: &[u32], round: u32) -> bool
+    requires { ⌜ (length (now state) ≡ stateSize) × (legal (memberCount (now state)) ≡ true) × (1 ≤ round) × (round ≤ 32) × (within (memberCount (now state)) (heldMask (now state) round) ≡ true) ⌝ }
+    ensures { λ r. ⌜ r ≡ all 16 (cellOk (now (state .entry)) round) ⌝ }
+{
+    let terms = terms_of(state[MEMBER_COUNT], round);
+    let mut p: u32 = 0;
+    while p < SLOTS {
+        if !cell_ok(state, terms, round, p) {
+            return false;
+        }
+        p += 1;
+    }
+    true
+}
+
+fn cells_ok(state: &[u32]) -> bool
+    requires { ⌜ (length (now state) ≡ stateSize) × (legal (memberCount (now state)) ≡ true) × (eachRound (masksWithin (now state)) ≡ true) ⌝ }
+    ensures { λ r. ⌜ r ≡ eachRound (λ r. all 16 (cellOk (now (state .entry)) r)) ⌝ }
+{
+    let mut i: u32 = 0;
+    while i < ROUNDS {
+        if !round_cells_ok(state, i + 1) {
+            return false;
+        }
+        i += 1;
+    }
+    true
+}
+
+// Entry i of the leader list is a held leader's vertex, of a higher round than the entry before.
+fn leader_ok(state: &[u32], n: u32, i: usize) -> bool
+    requires { ⌜ (length (now state) ≡ stateSize) × (n ≡ memberCount (now state)) × (0 < n) × (i < 32) ⌝ }
+    ensures { λ r. ⌜ r ≡ leaderOk (now (state .entry)) i ⌝ }
+{
+    let x = state[LEADERS + i];
+    if !is_held(state, n, x) {
+        return false;
+    }
+    if x % 16 != leader_of(n, x / 16) {
+        return false;
+    }
+    if i == 0 {
+        return true;
+    }
+    state[LEADERS + (i - 1)] / 16 < x / 16
+}
+
+// The round of the last of so many leaders is the committed round.
+fn last_ok(state: &[u32], count: usize) -> bool
+    requires { ⌜ (length (now state) ≡ stateSize) × (count ≡ leaderCount (now state)) × (count ≤ 32) ⌝ }
+    ensures { λ r. ⌜ r ≡ eqb (lastLeaderRound (now (state .entry))) (committedRound (now (state .entry))) ⌝ }
+{
+    if count == 0 {
+        return 0 == state[COMMITTED_ROUND];
+    }
+    state[LEADERS + (count - 1)] / 16 == state[COMMITTED_ROUND]
+}
+
+fn leaders_ok(state: &[u32]) -> bool
+    requires { ⌜ (length (now state) ≡ stateSize) × (legal (memberCount (now state)) ≡ true) ⌝ }
+    ensures { λ r. ⌜ r ≡ leadersOk (now (state .entry)) ⌝ }
+{
+    let n = state[MEMBER_COUNT];
+    let count = wide(state[LEADER_COUNT]);
+    if LEADERS_SIZE < count {
+        return false;
+    }
+    let mut i: usize = 0;
+    while i < count {
+        if !leader_ok(state, n, i) {
+            return false;
+        }
+        i += 1;
+    }
+    last_ok(state, count)
+}
+
+// Every round's marks are its ordered mask.
+fn all_marked(state: &[u32], marks: [u32; 32]) -> bool
+    requires { ⌜ length (now state) ≡ stateSize ⌝ }
+    ensures { λ r. ⌜ r ≡ all 32 (λ i. eqb (getD marks i 0) (orderedMask (now (state .entry)) (i + 1))) ⌝ }
+{
+    let mut i: u32 = 0;
+    while i < ROUNDS {
+        if marks[wide(i)] != ordered_mask(state, i + 1) {
+            return false;
+        }
+        i += 1;
+    }
+    true
+}
+
+// Each entry is ordered and, in the marks of its round, new; it is marked there.
+fn journal_ok(state: &[u32]) -> bool
+    requires { ⌜ (length (now state) ≡ stateSize) × (legal (memberCount (now state)) ≡ true) × (eachRound (masksWithin (now state)) ≡ true) ⌝ }
+    ensures { λ r. ⌜ r ≡ journalOk (now (state .entry)) ⌝ }
+{
+    let n = state[MEMBER_COUNT];
+    let count = wide(state[JOURNAL_COUNT]);
+    if JOURNAL_SIZE < count {
+        return false;
+    }
+    let mut marks = [0u32; 32];
+    let mut i: usize = 0;
+    while i < count {
+        let x = state[JOURNAL + i];
+        if !is_ordered(state, n, x) {
+            return false;
+        }
+        let at = wide(x / 16 - 1);
+        let marked = Members { bits: marks[at], n };
+        if marked.has(x % 16) {
+            return false;
+        }
+        marks[at] = marks[at] | power(x % 16);
+        i += 1;
+    }
+    all_marked(state, marks)
+}
+
+// List words beyond the counts are 0.
+fn rest_zero(state: &[u32]) -> bool
+    requires { ⌜ (length (now state) ≡ stateSize) × (getD (now state) 3 0 ≤ 32) × (getD (now state) 4 0 ≤ 512) ⌝ }
+    ensures { λ r. ⌜ r ≡ restZero (now (state .entry)) ⌝ }
+{
+    let leaders = LEADERS + wide(state[LEADER_COUNT]);
+    let journal = JOURNAL + wide(state[JOURNAL_COUNT]);
+    if !is_zero(&state[leaders..JOURNAL]) {
+        return false;
+    }
+    is_zero(&state[journal..CELLS])
+}
+
+// The masks and the cells.
+fn body_ok(state: &[u32]) -> bool
+    requires { ⌜ (length (now state) ≡ stateSize) × (legal (memberCount (now state)) ≡ true) ⌝ }
+    ensures { λ r. ⌜ r ≡ every (take 4 (drop 4 (clauses (now (state .entry))))) ⌝ }
+{
+    if !masks_within(state) {
+        return false;
+    }
+    if !votes_heard(state) {
+        return false;
+    }
+    if votes_mask(state, 1) != 0 {
+        return false;
+    }
+    if !ordered_held(state) {
+        return false;
+    }
+    cells_ok(state)
+}
+
+pub fn is_well_formed(state: &[u32]) -> bool
+    requires { ⌜ length (now state) ≡ stateSize ⌝ }
+    ensures { λ r. ⌜ r ≡ wellFormed (now (state .entry)) ⌝ }
+{
+    if !head_ok(state) {
+        return false;
+    }
+    if !body_ok(state) {
+        return false;
+    }
+    if !leaders_ok(state) {
+        return false;
+    }
+    if !journal_ok(state) {
+        return false;
+    }
+    rest_zero(state)
+}

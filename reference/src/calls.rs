@@ -1,0 +1,174 @@
+//! The calls. Each asks its questions in turn; a refused call leaves the state as it was.
+
+use std::ops::Range;
+
+use crate::answer::{self, Answer, Status};
+use crate::group::Group;
+use crate::layout::{JOURNAL, JOURNAL_COUNT, LEADER_COUNT, LEADER_LIST, STATE_WORDS};
+use crate::record::{first_refusal, is_round, Record};
+use crate::state::{status_words, well_formed_words, ReplicaState, RoundMasks};
+
+/// Opens a state for n members, whatever it held before. Asks 1 and 2.
+pub fn open(state: &mut [u32], n: u32) -> Answer {
+    if state.len() != STATE_WORDS {
+        return Answer::refused(answer::STATE_SIZE);
+    }
+    match Group::new(n) {
+        None => Answer::refused(answer::GROUP_SIZE),
+        Some(group) => {
+            write(state, &ReplicaState::opened(group));
+            Answer::default()
+        }
+    }
+}
+
+/// Takes a vertex that reliable broadcast has delivered. Asks 1 and 3 to 14.
+pub fn take_vertex(state: &mut [u32], record: &[u32]) -> Answer {
+    change(state, |next| {
+        let record = checked_record(next, record)?;
+        if let Some(held) = next.vertices.get(&record.id()) {
+            let same = *held == record;
+            return refuse(if same {
+                answer::NOT_NEW
+            } else {
+                answer::CONFLICT
+            });
+        }
+        if let Some(id) = record.parents().filter(|&id| !next.holds(id)).min() {
+            return Err(Answer::missing_parent(id));
+        }
+        next.vertices.insert(record.id(), record);
+        next.advance_current_round();
+        next.commit_all();
+        Ok(())
+    })
+}
+
+/// Takes a first message, seen before delivery. Asks 1 and 3 to 12.
+pub fn take_first_message(state: &mut [u32], record: &[u32]) -> Answer {
+    change(state, |next| {
+        let record = checked_record(next, record)?;
+        if next.heard.has(record.round, record.source) {
+            return refuse(answer::NOT_NEW);
+        }
+        next.heard.add(record.round, record.source);
+        if record.votes(next.group) {
+            next.votes.add(record.round, record.source);
+        }
+        next.commit_all();
+        Ok(())
+    })
+}
+
+/// Takes a member's timeout for a round (01: a timeout note). Asks 1, 3, 5, 6 and 12.
+pub fn take_timeout(state: &mut [u32], round: u32, signer: u32) -> Answer {
+    change(state, |next| {
+        take_note(next.group, &mut next.timeouts, round, signer)?;
+        next.advance_current_round();
+        Ok(())
+    })
+}
+
+/// Takes a member's no-vote for a round (01: a no-vote note). Asks 1, 3, 5, 6 and 12.
+pub fn take_no_vote(state: &mut [u32], round: u32, signer: u32) -> Answer {
+    change(state, |next| {
+        take_note(next.group, &mut next.no_votes, round, signer)
+    })
+}
+
+/// Reads the status (01: the head). Asks 1 and 3.
+pub fn status(state: &[u32]) -> Status {
+    match well_formed_words(state) {
+        Err(number) => Status {
+            number,
+            ..Status::default()
+        },
+        Ok(()) => status_words(state),
+    }
+}
+
+/// Asks for the leader list from entry k. Asks 1, 3 and 15.
+pub fn ask_leaders(state: &[u32], k: u32) -> u32 {
+    hand_leaders(state, k).0
+}
+
+/// Asks for the journal from entry k. Asks 1, 3 and 15.
+pub fn ask_journal(state: &[u32], k: u32) -> u32 {
+    hand_journal(state, k).0
+}
+
+/// Hands over the leader list from entry k: the asking call's number, and the part of the state.
+pub fn hand_leaders(state: &[u32], k: u32) -> (u32, &[u32]) {
+    hand_list(state, k, LEADER_LIST, LEADER_COUNT)
+}
+
+/// Hands over the journal from entry k: the asking call's number, and the part of the state.
+pub fn hand_journal(state: &[u32], k: u32) -> (u32, &[u32]) {
+    hand_list(state, k, JOURNAL, JOURNAL_COUNT)
+}
+
+fn hand_list(state: &[u32], k: u32, list: Range<usize>, count: usize) -> (u32, &[u32]) {
+    if let Err(number) = well_formed_words(state) {
+        return (number, &[]);
+    }
+    let entries = &state[list][..state[count] as usize];
+    match entries.get(k as usize..) {
+        Some(part) => (answer::ADMITTED, part),
+        None => (answer::LIST_START, &[]),
+    }
+}
+
+type Step = Result<(), Answer>;
+
+fn refuse(number: u32) -> Step {
+    Err(Answer::refused(number))
+}
+
+/// Asks 1 and 3, takes a step on the decoded state, and writes that back unless it was refused.
+fn change(state: &mut [u32], step: impl FnOnce(&mut ReplicaState) -> Step) -> Answer {
+    let mut next = match ReplicaState::decode(state) {
+        Err(number) => return Answer::refused(number),
+        Ok(next) => next,
+    };
+    let before = (next.leader_list.len(), next.journal.len());
+    if let Err(refusal) = step(&mut next) {
+        return refusal;
+    }
+    write(state, &next);
+    Answer {
+        leaders: (next.leader_list.len() - before.0) as u32,
+        journal: (next.journal.len() - before.1) as u32,
+        ..Answer::default()
+    }
+}
+
+fn write(state: &mut [u32], next: &ReplicaState) {
+    state
+        .iter_mut()
+        .zip(next.encode())
+        .for_each(|(word, new)| *word = new);
+}
+
+/// Questions 4 to 11.
+fn checked_record(state: &ReplicaState, words: &[u32]) -> Result<Record, Answer> {
+    let record = Record::from_words(words).ok_or(Answer::refused(answer::RECORD_SIZE))?;
+    match first_refusal(state.group, &record) {
+        Some(number) => Err(Answer::refused(number)),
+        None => Ok(record),
+    }
+}
+
+/// Questions 5, 6 and 12 for a timeout or no-vote, then its bit.
+fn take_note(group: Group, masks: &mut RoundMasks, round: u32, signer: u32) -> Step {
+    if !is_round(round) {
+        return refuse(answer::ROUND);
+    }
+    if signer >= group.n() {
+        return refuse(answer::MEMBER);
+    }
+    if masks.has(round, signer) {
+        return refuse(answer::NOT_NEW);
+    }
+    masks.add(round, signer);
+    Ok(())
+}

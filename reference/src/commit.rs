@@ -1,0 +1,94 @@
+//! What follows an admitted call: the current round, and the commits (000, figure 3).
+
+use std::collections::BTreeSet;
+
+use crate::group::{bit, has, members};
+use crate::layout::{member_of, round_of, vertex_id, LAST_COMMITTABLE_ROUND, LAST_ROUND};
+use crate::state::ReplicaState;
+
+impl ReplicaState {
+    /// Raises the current round after a vertex or a timeout.
+    pub fn advance_current_round(&mut self) {
+        let held = self.held();
+        let complete = |&round: &u32| {
+            self.group.is_quorum(held.get(round))
+                && (held.has(round, self.group.leader(round))
+                    || self.group.is_quorum(self.timeouts.get(round)))
+        };
+        if let Some(round) = (1..=LAST_ROUND).rev().find(complete) {
+            self.current_round = self.current_round.max(round + 1);
+        }
+    }
+
+    /// Commits the lowest committable round, again until none is committable.
+    pub fn commit_all(&mut self) {
+        while let Some(round) = self.lowest_committable_round() {
+            self.commit(round);
+        }
+    }
+
+    fn lowest_committable_round(&self) -> Option<u32> {
+        (self.committed_round + 1..=LAST_COMMITTABLE_ROUND)
+            .find(|&round| self.is_committable(round))
+    }
+
+    /// Whether a round above the committed one is committable (01: ready).
+    fn is_committable(&self, round: u32) -> bool {
+        let next = vertex_id(round + 1, 0)..vertex_id(round + 2, 0);
+        let voting = self
+            .vertices
+            .range(next)
+            .filter(|(_, record)| record.votes(self.group));
+        self.holds(self.group.leader_id(round))
+            && (self.group.is_quorum(self.votes.get(round + 1))
+                || voting.count() >= self.group.quorum() as usize)
+    }
+
+    /// Commits a committable round.
+    fn commit(&mut self, round: u32) {
+        let mut taken = vec![self.group.leader_id(round)];
+        let mut standing = self.group.leader_id(round);
+        for lower in (self.committed_round + 1..round).rev() {
+            let leader = self.group.leader_id(lower);
+            if self.holds(leader) && self.has_strong_path(standing, leader) {
+                taken.push(leader);
+                standing = leader;
+            }
+        }
+        taken.reverse();
+        self.committed_round = round;
+        self.leader_list.extend(&taken);
+        let mut ordered = self.ordered();
+        for leader in taken {
+            let added: Vec<u32> = self.history(leader).difference(&ordered).copied().collect();
+            ordered.extend(&added);
+            self.journal.extend(added);
+        }
+    }
+
+    /// Whether strong edges in a row lead from one held vertex to another of a lower round.
+    fn has_strong_path(&self, from: u32, to: u32) -> bool {
+        let mut reached = bit(member_of(from));
+        for round in (round_of(to) + 1..=round_of(from)).rev() {
+            reached = members(reached)
+                .filter_map(|member| self.vertices.get(&vertex_id(round, member)))
+                .fold(0, |below, record| below | record.strong);
+        }
+        has(reached, member_of(to))
+    }
+
+    /// A held vertex and all reached from it by strong and weak edges. Edges lead to lower rounds,
+    /// so when a vertex is looked at, from the highest id down, all edges to it have been seen.
+    fn history(&self, id: u32) -> BTreeSet<u32> {
+        let mut reached = vec![false; id as usize + 1];
+        reached[id as usize] = true;
+        for (&at, record) in self.vertices.range(..=id).rev() {
+            if reached[at as usize] {
+                record
+                    .parents()
+                    .for_each(|parent| reached[parent as usize] = true);
+            }
+        }
+        (0..=id).filter(|&at| reached[at as usize]).collect()
+    }
+}

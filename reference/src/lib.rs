@@ -1,0 +1,36 @@
+//! Ordering state of a Sailfish group: an independent second implementation.
+//!
+//! This crate was written from document 01 (`01-scope.md`) alone, without sight of the other
+//! implementation it is compared with. It favours clarity over speed: a call decodes the words of
+//! the state into maps and lists, computes the next state there, and encodes it back.
+//!
+//! Identifiers use the field's terms: state (01: sheet), vertex id (01: ref), well formed
+//! (01: sound), committable (01: ready), status (01: head), model (01: plain book).
+
+#![deny(warnings)]
+#![forbid(unsafe_code)]
+
+pub mod answer;
+pub mod call;
+pub mod calls;
+mod commit;
+pub mod group;
+pub mod layout;
+pub mod line;
+pub mod model;
+pub mod record;
+pub mod rng;
+pub mod sheetlog;
+pub mod simulate;
+mod state;
+pub mod well_formed;
+
+pub use answer::{Answer, Status};
+pub use call::Call;
+pub use calls::{
+    ask_journal, ask_leaders, hand_journal, hand_leaders, open, status, take_first_message,
+    take_no_vote, take_timeout, take_vertex,
+};
+pub use layout::STATE_WORDS;
+pub use model::Model;
+pub use well_formed::is_well_formed;

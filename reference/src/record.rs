@@ -1,0 +1,179 @@
+//! A record and the questions about it that need only the group: 5 to 11.
+
+use crate::answer;
+use crate::group::{has, members, Group};
+use crate::layout::{
+    member_of, round_of, vertex_id, CELL_WORDS, LAST_ROUND, RECORD_WORDS, WEAK_SLOTS,
+};
+
+/// The twelve words of a record, by name.
+#[derive(Clone, Copy, Debug, Default, PartialEq, Eq)]
+pub struct Record {
+    pub round: u32,
+    pub source: u32,
+    pub strong: u32,
+    pub timeouts: u32,
+    pub no_votes: u32,
+    pub tag: u32,
+    pub weak_count: u32,
+    pub weak: [u32; WEAK_SLOTS],
+}
+
+impl Record {
+    /// The record of these words, if they are twelve.
+    pub fn from_words(words: &[u32]) -> Option<Record> {
+        match words {
+            [round, source, cell @ ..] => Record::from_cell(*round, *source, cell),
+            _ => None,
+        }
+    }
+
+    /// The record that a cell's ten words stand for, given the cell's round and member.
+    pub fn from_cell(round: u32, source: u32, cell: &[u32]) -> Option<Record> {
+        let &[strong, timeouts, no_votes, tag, weak_count, ref weak @ ..] = cell else {
+            return None;
+        };
+        let weak = <[u32; WEAK_SLOTS]>::try_from(weak).ok()?;
+        Some(Record {
+            round,
+            source,
+            strong,
+            timeouts,
+            no_votes,
+            tag,
+            weak_count,
+            weak,
+        })
+    }
+
+    pub fn words(&self) -> [u32; RECORD_WORDS] {
+        let [a, b, c, d, e] = self.weak;
+        [
+            self.round,
+            self.source,
+            self.strong,
+            self.timeouts,
+            self.no_votes,
+            self.tag,
+            self.weak_count,
+            a,
+            b,
+            c,
+            d,
+            e,
+        ]
+    }
+
+    /// The last ten words, as kept in a cell.
+    pub fn cell(&self) -> [u32; CELL_WORDS] {
+        let [_, _, cell @ ..] = self.words();
+        cell
+    }
+
+    /// The vertex id; only for records that pass questions 5 and 6.
+    pub fn id(&self) -> u32 {
+        vertex_id(self.round, self.source)
+    }
+
+    /// The weak ids in use, and those not in use.
+    fn weak_parts(&self) -> (&[u32], &[u32]) {
+        self.weak
+            .split_at(self.weak.len().min(self.weak_count as usize))
+    }
+
+    /// Ids of the strong parents; only for records that pass questions 5 to 8.
+    pub fn strong_parents(&self) -> impl Iterator<Item = u32> {
+        let round = self.round;
+        members(self.strong).map(move |member| vertex_id(round - 1, member))
+    }
+
+    /// Ids of the weak parents.
+    pub fn weak_parents(&self) -> impl Iterator<Item = u32> + '_ {
+        self.weak_parts().0.iter().copied()
+    }
+
+    /// Ids of all parents; only for records that pass questions 5 to 8.
+    pub fn parents(&self) -> impl Iterator<Item = u32> + '_ {
+        self.strong_parents().chain(self.weak_parents())
+    }
+
+    /// Whether the record votes for the leader of the round before; from question 6 on.
+    pub fn votes(&self, group: Group) -> bool {
+        self.round >= 2 && has(self.strong, group.leader(self.round - 1))
+    }
+
+    /// Question 9's lack: there is a previous leader, and the strong mask lacks it.
+    pub fn lacks_previous_leader(&self, group: Group) -> bool {
+        self.round >= 2 && !has(self.strong, group.leader(self.round - 1))
+    }
+}
+
+/// The number of the first question from 5 to 11 that the record does not pass.
+pub fn first_refusal(group: Group, record: &Record) -> Option<u32> {
+    type Question = fn(Group, &Record) -> bool;
+    let questions: [(u32, Question); 7] = [
+        (answer::ROUND, |_, record| is_round(record.round)),
+        (answer::MEMBER, |group, record| record.source < group.n()),
+        (answer::MASK_BITS, masks_within_group),
+        (answer::STRONG, strong_mask_fits),
+        (answer::TIMEOUT, timeout_mask_fits),
+        (answer::NO_VOTE, no_vote_mask_fits),
+        (answer::WEAK, weak_ids_fit),
+    ];
+    questions
+        .into_iter()
+        .find(|(_, passes)| !passes(group, record))
+        .map(|(number, _)| number)
+}
+
+/// Question 5.
+pub fn is_round(round: u32) -> bool {
+    (1..=LAST_ROUND).contains(&round)
+}
+
+/// Question 7.
+fn masks_within_group(group: Group, record: &Record) -> bool {
+    [record.strong, record.timeouts, record.no_votes]
+        .into_iter()
+        .all(|mask| group.contains(mask))
+}
+
+/// Question 8.
+fn strong_mask_fits(group: Group, record: &Record) -> bool {
+    if record.round == 1 {
+        record.strong == 0
+    } else {
+        group.is_quorum(record.strong)
+    }
+}
+
+/// Question 9.
+fn timeout_mask_fits(group: Group, record: &Record) -> bool {
+    if record.lacks_previous_leader(group) {
+        group.is_quorum(record.timeouts)
+    } else {
+        record.timeouts == 0
+    }
+}
+
+/// Question 10.
+fn no_vote_mask_fits(group: Group, record: &Record) -> bool {
+    let leads_its_round = record.source == group.leader(record.round);
+    if record.lacks_previous_leader(group) && leads_its_round {
+        group.is_quorum(record.no_votes)
+    } else {
+        record.no_votes == 0
+    }
+}
+
+/// Question 11.
+fn weak_ids_fit(group: Group, record: &Record) -> bool {
+    let (used, unused) = record.weak_parts();
+    let in_range = |&id: &u32| {
+        member_of(id) < group.n() && round_of(id) >= 1 && round_of(id) + 2 <= record.round
+    };
+    record.weak_count <= group.f()
+        && used.is_sorted_by(|a, b| a < b)
+        && used.iter().all(in_range)
+        && unused.iter().all(|&id| id == 0)
+}

@@ -1,0 +1,55 @@
+//! Random lists of calls for replicas of one group, all drawn from a seed.
+//!
+//! First a world is drawn: the vertices that the members of a group make, round by round. Then
+//! each replica gets that world's vertices and messages in an order of its own, with losses,
+//! retries and calls that are to be refused in between.
+
+mod noise;
+mod options;
+mod replica;
+mod world;
+
+pub use options::Options;
+
+use crate::call::Call;
+use crate::group::Group;
+use crate::layout::LAST_ROUND;
+use crate::rng::Rng;
+use world::World;
+
+/// The calls of a simulated group.
+#[derive(Clone, Debug)]
+pub struct Run {
+    pub n: u32,
+    /// The mask of the faulty members, at most f.
+    pub faulty: u32,
+    /// The calls of each replica, each starting with its opening.
+    pub replicas: Vec<Vec<Call>>,
+}
+
+/// Simulates a group of n members for two replicas; an illegal n gives replicas without calls.
+pub fn simulate(seed: u64, n: u32, options: &Options) -> Run {
+    simulate_replicas(seed, n, options, 2)
+}
+
+/// Simulates a group of n members for any number of replicas.
+pub fn simulate_replicas(seed: u64, n: u32, options: &Options, replicas: usize) -> Run {
+    let Some(group) = Group::new(n) else {
+        return Run {
+            n,
+            faulty: 0,
+            replicas: vec![Vec::new(); replicas],
+        };
+    };
+    let mut rng = Rng::new(seed ^ (u64::from(n) << 56));
+    let rounds = options.rounds.clamp(1, LAST_ROUND);
+    let world = World::draw(&mut rng, group, rounds, options);
+    let replicas = (0..replicas)
+        .map(|_| replica::draw_calls(&mut rng, &world, options))
+        .collect();
+    Run {
+        n,
+        faulty: world.faulty,
+        replicas,
+    }
+}

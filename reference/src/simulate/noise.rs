@@ -1,0 +1,135 @@
+//! Calls between the ordinary ones, mostly to be refused: repeated, conflicting, damaged, out of
+//! range.
+
+use super::replica::Replica;
+use crate::call::Call;
+use crate::group::bit;
+use crate::layout::{vertex_id, LAST_ROUND, RECORD_WORDS};
+use crate::record::Record;
+use crate::rng::Rng;
+
+const ILLEGAL_SIZES: [u32; 9] = [0, 1, 3, 5, 8, 15, 17, 19, u32::MAX];
+const BAD_ROUNDS: [u32; 4] = [0, LAST_ROUND + 1, 1 << 28, u32::MAX];
+const EDGE_WORDS: [u32; 7] = [0, 1, 2, 15, 16, 0xFFFF, u32::MAX];
+
+impl Replica<'_> {
+    /// Adds one call of a kind drawn at random, if it keeps the premises.
+    pub fn add_noise(&mut self, rng: &mut Rng) {
+        let drawn = match rng.below(10) {
+            0 => rng.pick(&self.calls).cloned(),
+            1 => self.conflicting(rng),
+            2 => self.missing_parent(rng),
+            3 | 4 => self.damaged(rng),
+            5 => self.second_first_message(rng),
+            6 => Some(self.bad_note(rng)),
+            7 => rng.pick(&ILLEGAL_SIZES).map(|&n| Call::Open(n)),
+            8 => self.wrong_length(rng),
+            _ => self.untimely(rng),
+        };
+        if let Some(call) = drawn.filter(|call| self.keeps_premises(call)) {
+            self.calls.push(call);
+        }
+    }
+
+    /// A held vertex with another tag: 13.
+    fn conflicting(&self, rng: &mut Rng) -> Option<Call> {
+        let mut record = self.any_held(rng)?;
+        record.tag ^= 1 + rng.below(u32::MAX);
+        Some(vertex(&record))
+    }
+
+    /// A silent member's vertex with a strong or weak parent that nobody made: 14.
+    fn missing_parent(&self, rng: &mut Rng) -> Option<Call> {
+        let round = 2 + rng.below(self.world.rounds.saturating_sub(1));
+        let source = self.silent_member(rng, round)?;
+        let near = self.silent_member(rng, round - 1);
+        let far_round = 1 + rng.below(round.saturating_sub(2));
+        let far = self.silent_member(rng, far_round);
+        let strong = match near {
+            Some(parent) if rng.percent(60) => self.world.present[round as usize - 1] | bit(parent),
+            _ => self.world.present[round as usize - 1],
+        };
+        let mut record = self.world.complete(rng, round, source, strong);
+        if let Some(parent) = far.filter(|_| round > 2) {
+            record.weak_count = 1;
+            record.weak[0] = vertex_id(far_round, parent);
+        }
+        Some(vertex(&record))
+    }
+
+    /// A record of the world with a word changed.
+    fn damaged(&self, rng: &mut Rng) -> Option<Call> {
+        let mut words = self.any_record(rng)?.words();
+        let at = rng.below(RECORD_WORDS as u32) as usize;
+        words[at] = match rng.below(3) {
+            0 => words[at] ^ (1 << rng.below(u32::BITS)),
+            1 => *rng.pick(&EDGE_WORDS)?,
+            _ => rng.below(64),
+        };
+        let words = words.to_vec();
+        Some(if rng.percent(70) {
+            Call::Vertex(words)
+        } else {
+            Call::First(words)
+        })
+    }
+
+    /// A first message other than the one heard: 12.
+    fn second_first_message(&self, rng: &mut Rng) -> Option<Call> {
+        let record = self.any_record(rng)?;
+        let other =
+            self.world
+                .other_record(rng, record.round, record.source, self.world.group.all());
+        Some(Call::First(other.words().to_vec()))
+    }
+
+    /// A timeout or no-vote with a round or signer out of range: 5 or 6.
+    fn bad_note(&self, rng: &mut Rng) -> Call {
+        let n = self.world.group.n();
+        let signers = [n, n + 1, 31, 32, u32::MAX];
+        let bad_round = BAD_ROUNDS[rng.below(4) as usize];
+        let good_round = 1 + rng.below(LAST_ROUND);
+        let bad_signer = signers[rng.below(5) as usize];
+        let (round, signer) = match rng.below(3) {
+            0 => (bad_round, rng.below(n)),
+            1 => (good_round, bad_signer),
+            _ => (bad_round, bad_signer),
+        };
+        if rng.percent(50) {
+            Call::Timeout(round, signer)
+        } else {
+            Call::NoVote(round, signer)
+        }
+    }
+
+    /// A record with words too few or too many: 4, and as a line `?`.
+    fn wrong_length(&self, rng: &mut Rng) -> Option<Call> {
+        let mut words = self.any_record(rng)?.words().to_vec();
+        words.resize(rng.below(2 * RECORD_WORDS as u32) as usize, 0);
+        Some(if rng.percent(50) {
+            Call::Vertex(words)
+        } else {
+            Call::First(words)
+        })
+    }
+
+    /// A vertex of the world at a time of its own: mostly 12 or 14, and the rest admitted early.
+    fn untimely(&self, rng: &mut Rng) -> Option<Call> {
+        self.any_record(rng).map(|record| vertex(&record))
+    }
+
+    fn any_record(&self, rng: &mut Rng) -> Option<Record> {
+        let at = rng.below(self.world.vertices.len() as u32);
+        self.world.vertices.values().nth(at as usize).copied()
+    }
+
+    fn any_held(&self, rng: &mut Rng) -> Option<Record> {
+        let at = rng.below(self.held.len() as u32);
+        let id = self.held.iter().nth(at as usize)?;
+        self.world.vertices.get(id).copied()
+    }
+}
+
+fn vertex(record: &Record) -> Call {
+    Call::Vertex(record.words().to_vec())
+}

@@ -1,0 +1,89 @@
+//! What a simulated group is like.
+
+/// Chances are in percent unless said otherwise.
+#[derive(Clone, Debug)]
+pub struct Options {
+    /// Rounds that the group runs, from 1 to 32.
+    pub rounds: u32,
+    /// Faulty members; no more than f are drawn.
+    pub faulty: u32,
+    /// That a member makes no vertex in a round.
+    pub silent: u32,
+    /// That a vertex is slow: most members of the next round miss it.
+    pub slow: u32,
+    /// That a member misses a vertex that is not slow.
+    pub missed: u32,
+    /// That a replica never gets a first message, timeout or no-vote.
+    pub lost_messages: u32,
+    /// That a replica never gets a vertex, in a thousand; what builds on it is then refused.
+    pub lost_vertices: u32,
+    /// How far messages are delayed, in hundredths of a round.
+    pub spread: u32,
+    /// That a vertex whose parents are not held is given to the state before it is retried.
+    pub eager: u32,
+    /// That a call is followed by one that is to be refused.
+    pub noise: u32,
+    /// That a replica stops before the end of the run.
+    pub early_stop: u32,
+    /// Whether the premises of the agreement claim hold: a single vertex for a round and source,
+    /// honest first messages equal to the vertex, and no honest voter in a no-vote mask.
+    pub premises: bool,
+}
+
+impl Options {
+    /// Nobody is faulty and every vertex arrives: a full state at the end.
+    pub fn calm() -> Options {
+        Options {
+            rounds: 32,
+            faulty: 0,
+            silent: 0,
+            slow: 0,
+            missed: 3,
+            lost_messages: 10,
+            lost_vertices: 0,
+            spread: 80,
+            eager: 10,
+            noise: 5,
+            early_stop: 0,
+            premises: true,
+        }
+    }
+
+    /// Some trouble of every kind; most rounds commit.
+    pub fn typical() -> Options {
+        Options {
+            faulty: u32::MAX,
+            silent: 5,
+            slow: 10,
+            missed: 6,
+            lost_messages: 20,
+            spread: 150,
+            eager: 40,
+            noise: 20,
+            early_stop: 20,
+            ..Options::calm()
+        }
+    }
+
+    /// Many skipped leaders, lost messages and lost vertices.
+    pub fn rough() -> Options {
+        Options {
+            silent: 15,
+            slow: 30,
+            missed: 15,
+            lost_messages: 50,
+            lost_vertices: 2,
+            spread: 400,
+            noise: 50,
+            ..Options::typical()
+        }
+    }
+
+    /// As rough, and without the premises: only for comparing states, not for the claim.
+    pub fn wild() -> Options {
+        Options {
+            premises: false,
+            ..Options::rough()
+        }
+    }
+}

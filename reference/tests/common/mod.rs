@@ -1,0 +1,120 @@
+//! Helpers of the tests: short ways to write records, states and expectations.
+
+#![allow(dead_code)]
+
+use reference::record::Record;
+use reference::{hand_journal, hand_leaders, open, take_first_message, take_vertex, STATE_WORDS};
+
+pub type State = Vec<u32>;
+
+/// A state just opened.
+pub fn opened(n: u32) -> State {
+    let mut state = vec![0; STATE_WORDS];
+    assert_eq!(open(&mut state, n).number, 0);
+    state
+}
+
+/// A record without weak ids.
+pub fn record(round: u32, source: u32, strong: u32, timeouts: u32, no_votes: u32) -> Record {
+    Record {
+        round,
+        source,
+        strong,
+        timeouts,
+        no_votes,
+        ..Record::default()
+    }
+}
+
+/// A record without certificates and weak ids.
+pub fn plain(round: u32, source: u32, strong: u32) -> Record {
+    record(round, source, strong, 0, 0)
+}
+
+/// A record with weak ids.
+pub fn with_weak(mut record: Record, ids: &[u32]) -> Record {
+    record.weak_count = ids.len() as u32;
+    record
+        .weak
+        .iter_mut()
+        .zip(ids)
+        .for_each(|(slot, &id)| *slot = id);
+    record
+}
+
+/// Gives a vertex and returns the answer number.
+pub fn vertex(state: &mut State, record: Record) -> u32 {
+    take_vertex(state, &record.words()).number
+}
+
+/// Gives a first message and returns the answer number.
+pub fn first(state: &mut State, record: Record) -> u32 {
+    take_first_message(state, &record.words()).number
+}
+
+/// The vertex 1/source of the paper's state S, with its tag.
+pub fn tagged(source: u32, tag: u32) -> Record {
+    Record {
+        tag,
+        ..plain(1, source, 0)
+    }
+}
+
+/// The paper's state S: opened with 4, then vertices of round 1 from 0, 1, 2.
+pub fn state_s() -> State {
+    let mut state = opened(4);
+    for source in 0..3 {
+        assert_eq!(vertex(&mut state, tagged(source, 10 + source)), 0);
+    }
+    state
+}
+
+/// Gives vertices that are all to be admitted.
+pub fn vertices(state: &mut State, records: &[Record]) {
+    for &record in records {
+        assert_eq!(vertex(state, record), 0, "{record:?}");
+    }
+}
+
+/// Gives first messages that are all to be admitted.
+pub fn firsts(state: &mut State, records: &[Record]) {
+    for &record in records {
+        assert_eq!(first(state, record), 0, "{record:?}");
+    }
+}
+
+/// Leader list and journal from entry 0.
+pub fn lists(state: &[u32]) -> (Vec<u32>, Vec<u32>) {
+    (
+        hand_leaders(state, 0).1.to_vec(),
+        hand_journal(state, 0).1.to_vec(),
+    )
+}
+
+/// A state with leaders 16 33, journal 16 17 18 33, notes, and a record with a weak id.
+pub fn rich_state() -> State {
+    let mut state = state_s();
+    vertices(
+        &mut state,
+        &[
+            plain(1, 3, 0),
+            plain(2, 0, 7),
+            plain(2, 1, 7),
+            record(2, 3, 14, 7, 0),
+        ],
+    );
+    firsts(
+        &mut state,
+        &[
+            plain(3, 0, 11),
+            plain(3, 1, 11),
+            plain(3, 2, 11),
+            record(2, 2, 14, 7, 0),
+        ],
+    );
+    vertices(&mut state, &[with_weak(plain(3, 0, 11), &[19])]);
+    assert_eq!(reference::take_timeout(&mut state, 5, 2).number, 0);
+    assert_eq!(reference::take_no_vote(&mut state, 6, 3).number, 0);
+    assert_eq!(lists(&state), (vec![16, 33], vec![16, 17, 18, 33]));
+    state
+}

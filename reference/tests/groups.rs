@@ -1,0 +1,218 @@
+//! Simulated groups: after every call the state is well formed and its lists equal the model's,
+//! and the lists of two replicas are prefixes of one another.
+
+mod common;
+
+use std::collections::{BTreeMap, BTreeSet};
+
+use common::*;
+use reference::group::{has, Group};
+use reference::model::Lists;
+use reference::record::Record;
+use reference::simulate::{simulate, Options, Run};
+use reference::*;
+
+const SIZES: [u32; 5] = [4, 7, 10, 13, 16];
+
+/// What was seen over a number of runs.
+#[derive(Default)]
+struct Seen {
+    numbers: BTreeSet<u32>,
+    /// Calls that added more than one leader.
+    several_leaders: usize,
+    /// Committed rounds, and rounds among them whose leader is not in the list.
+    committed: u32,
+    skipped: u32,
+    /// Admitted vertices with weak ids.
+    weak: usize,
+    /// States with every cell of the group held.
+    full: usize,
+}
+
+/// Makes the calls of one replica, checking after each; returns its last state.
+fn follow(calls: &[Call], against_model: bool, seen: &mut Seen) -> State {
+    let mut state = vec![0; STATE_WORDS];
+    let mut model = Model::default();
+    let mut expected = Lists::default();
+    for call in calls {
+        let before = state.clone();
+        let answer = call.apply(&mut state);
+        seen.numbers.insert(answer.number);
+        model.feed(call, answer.number);
+        if answer.number == 0 {
+            check_growth(call, &before, &state, answer);
+            seen.several_leaders += usize::from(answer.leaders > 1);
+            seen.weak += usize::from(matches!(call, Call::Vertex(words) if words[6] > 0));
+            expected = model.lists();
+        } else {
+            assert_eq!(state, before, "{call:?}");
+        }
+        assert!(is_well_formed(&state), "{call:?}");
+        if against_model {
+            assert_eq!(leaders_of(&state), expected.leaders, "{call:?}");
+            assert_eq!(journal_of(&state), expected.journal, "{call:?}");
+        }
+    }
+    note_end(&state, seen);
+    state
+}
+
+/// The lists as they stand in a state that is known to be well formed.
+fn leaders_of(state: &State) -> &[u32] {
+    &state[200..][..state[3] as usize]
+}
+
+fn journal_of(state: &State) -> &[u32] {
+    &state[232..][..state[4] as usize]
+}
+
+/// The lists of an admitted call keep their entries and grow by what it answers.
+fn check_growth(call: &Call, before: &State, after: &State, answer: Answer) {
+    if matches!(call, Call::Open(_)) {
+        return;
+    }
+    assert!(
+        leaders_of(after).starts_with(leaders_of(before)),
+        "{call:?}"
+    );
+    assert!(
+        journal_of(after).starts_with(journal_of(before)),
+        "{call:?}"
+    );
+    assert_eq!(after[3] - before[3], answer.leaders, "{call:?}");
+    assert_eq!(after[4] - before[4], answer.journal, "{call:?}");
+}
+
+fn note_end(state: &State, seen: &mut Seen) {
+    let now = status(state);
+    seen.committed += now.committed_round;
+    seen.skipped += now.committed_round - now.leader_count;
+    let held: u32 = (0..32).map(|round| state[8 + 6 * round].count_ones()).sum();
+    seen.full += usize::from(held == 32 * state[0]);
+}
+
+/// Checks that the calls of a run keep the premises of the claim.
+fn check_premises(run: &Run) {
+    let group = Group::new(run.n).expect("the size is legal");
+    assert!(run.faulty.count_ones() <= group.f());
+    let (mut vertices, mut firsts) = (BTreeMap::new(), BTreeMap::new());
+    for calls in &run.replicas {
+        let mut state = vec![0; STATE_WORDS];
+        for call in calls {
+            if call.apply(&mut state).number != 0 {
+                continue;
+            }
+            match call {
+                Call::Vertex(words) => one_record(&mut vertices, words, true),
+                Call::First(words) => one_record(&mut firsts, words, !has(run.faulty, words[1])),
+                _ => {}
+            }
+        }
+    }
+    let honest = |record: &&Record| !has(run.faulty, record.source);
+    let messages: Vec<&Record> = vertices
+        .values()
+        .chain(firsts.values())
+        .filter(honest)
+        .collect();
+    for record in &messages {
+        assert!(vertices
+            .get(&record.id())
+            .is_none_or(|vertex| vertex == *record));
+        assert!(firsts
+            .get(&record.id())
+            .is_none_or(|message| message == *record));
+    }
+    for vertex in vertices.values().filter(|vertex| vertex.no_votes != 0) {
+        let votes_against = |record: &&&Record| {
+            record.round == vertex.round
+                && record.votes(group)
+                && has(vertex.no_votes, record.source)
+        };
+        assert_eq!(messages.iter().find(votes_against), None);
+    }
+}
+
+fn one_record(records: &mut BTreeMap<u32, Record>, words: &[u32], single: bool) {
+    let record = Record::from_words(words).expect("an admitted record has 12 words");
+    let known = records.insert(record.id(), record);
+    assert!(!single || known.is_none_or(|known| known == record));
+}
+
+fn prefixes(a: &[u32], b: &[u32]) -> bool {
+    a.starts_with(b) || b.starts_with(a)
+}
+
+/// Runs groups of every size with the premises kept.
+fn run_groups(options: &Options, seeds: std::ops::Range<u64>) -> Seen {
+    let mut seen = Seen::default();
+    for n in SIZES {
+        for seed in seeds.clone() {
+            let run = simulate(seed, n, options);
+            check_premises(&run);
+            let ends: Vec<State> = run
+                .replicas
+                .iter()
+                .map(|calls| follow(calls, true, &mut seen))
+                .collect();
+            let (a, b) = (lists(&ends[0]), lists(&ends[1]));
+            assert!(
+                prefixes(&a.0, &b.0) && prefixes(&a.1, &b.1),
+                "n {n}, seed {seed}"
+            );
+        }
+    }
+    seen
+}
+
+#[test]
+fn calm_groups_fill_their_states() {
+    let seen = run_groups(&Options::calm(), 0..2);
+    assert_eq!(seen.full, 2 * SIZES.len() * 2);
+    assert!(
+        seen.committed >= 30 * 2 * SIZES.len() as u32 * 2,
+        "{}",
+        seen.committed
+    );
+}
+
+#[test]
+fn typical_groups_commit_and_agree() {
+    let seen = run_groups(&Options::typical(), 0..4);
+    let replicas = 4 * SIZES.len() as u32 * 2;
+    assert!(seen.committed >= 20 * replicas, "{}", seen.committed);
+    assert!(seen.several_leaders > 20, "{}", seen.several_leaders);
+    assert!(seen.skipped > 20, "{}", seen.skipped);
+    assert!(seen.weak > 100, "{}", seen.weak);
+    let expected: BTreeSet<u32> = [0, 2].into_iter().chain(4..=14).collect();
+    assert_eq!(seen.numbers, expected);
+}
+
+#[test]
+fn rough_groups_agree() {
+    let seen = run_groups(&Options::rough(), 0..4);
+    assert!(seen.committed > 200, "{}", seen.committed);
+    assert!(seen.skipped > 50, "{}", seen.skipped);
+}
+
+#[test]
+fn wild_groups_keep_states_well_formed() {
+    let mut seen = Seen::default();
+    for n in SIZES {
+        for seed in 0..4 {
+            for calls in simulate(seed, n, &Options::wild()).replicas {
+                follow(&calls, false, &mut seen);
+            }
+        }
+    }
+    assert!(seen.committed > 100, "{}", seen.committed);
+    assert!(seen.several_leaders > 10, "{}", seen.several_leaders);
+}
+
+#[test]
+fn a_seed_gives_the_same_calls() {
+    let calls = |seed| simulate(seed, 7, &Options::typical()).replicas;
+    assert_eq!(calls(3), calls(3));
+    assert_ne!(calls(3), calls(4));
+    assert_ne!(calls(3)[0], calls(3)[1]);
+}

@@ -1,0 +1,155 @@
+//! What an admitted call writes, word by word, and what follows it.
+
+mod common;
+
+use common::*;
+use reference::*;
+
+/// The words that differ, with their new values.
+fn changes(before: &State, after: &State) -> Vec<(usize, u32)> {
+    (0..STATE_WORDS)
+        .filter(|&at| before[at] != after[at])
+        .map(|at| (at, after[at]))
+        .collect()
+}
+
+/// Makes an admitted call and returns the words it changed.
+fn changed_by(state: &mut State, call: Call) -> Vec<(usize, u32)> {
+    let before = state.clone();
+    assert_eq!(call.apply(state).number, 0, "{call:?}");
+    changes(&before, state)
+}
+
+#[test]
+fn a_vertex_writes_its_cell_and_mark() {
+    let mut state = state_s();
+    vertices(
+        &mut state,
+        &[plain(1, 3, 0), plain(2, 0, 7), plain(2, 1, 7)],
+    );
+    let mut record = record(2, 3, 14, 7, 0);
+    record.tag = 77;
+    let cell = 744 + 10 * (16 + 3);
+    let expected = vec![
+        (1, 3),
+        (14, 0b1011),
+        (cell, 14),
+        (cell + 1, 7),
+        (cell + 3, 77),
+    ];
+    assert_eq!(
+        changed_by(&mut state, Call::Vertex(record.words().to_vec())),
+        expected
+    );
+}
+
+#[test]
+fn weak_ids_are_written() {
+    let mut state = state_s();
+    vertices(
+        &mut state,
+        &[
+            plain(1, 3, 0),
+            plain(2, 0, 7),
+            plain(2, 1, 7),
+            record(2, 2, 14, 7, 0),
+        ],
+    );
+    let words = with_weak(plain(3, 1, 7), &[19]).words().to_vec();
+    let cell = 744 + 10 * (32 + 1);
+    let expected = vec![(20, 0b10), (cell, 7), (cell + 4, 1), (cell + 5, 19)];
+    assert_eq!(changed_by(&mut state, Call::Vertex(words)), expected);
+}
+
+#[test]
+fn a_first_message_marks_heard_and_votes() {
+    let mut state = state_s();
+    let voting = plain(2, 3, 7).words().to_vec();
+    assert_eq!(
+        changed_by(&mut state, Call::First(voting)),
+        [(15, 8), (16, 8)]
+    );
+    let skipping = record(2, 2, 14, 7, 0).words().to_vec();
+    assert_eq!(changed_by(&mut state, Call::First(skipping)), [(15, 12)]);
+    let first_round = plain(1, 3, 0).words().to_vec();
+    assert_eq!(changed_by(&mut state, Call::First(first_round)), [(9, 8)]);
+}
+
+#[test]
+fn notes_set_their_bit() {
+    let mut state = state_s();
+    assert_eq!(
+        changed_by(&mut state, Call::Timeout(32, 3)),
+        [(8 + 6 * 31 + 3, 8)]
+    );
+    assert_eq!(
+        changed_by(&mut state, Call::NoVote(32, 1)),
+        [(8 + 6 * 31 + 4, 2)]
+    );
+}
+
+#[test]
+fn carried_timeouts_do_not_reach_the_mask() {
+    let mut state = opened(4);
+    vertices(
+        &mut state,
+        &[plain(1, 1, 0), plain(1, 2, 0), plain(1, 3, 0)],
+    );
+    vertices(
+        &mut state,
+        &[record(2, 0, 14, 15, 0), record(2, 2, 14, 15, 0)],
+    );
+    assert_eq!((state[11], status(&state).current_round), (0, 1));
+}
+
+#[test]
+fn the_current_round_jumps_and_never_falls() {
+    let mut state = state_s();
+    assert_eq!(status(&state).current_round, 2);
+    state[1] = 20;
+    vertices(&mut state, &[plain(1, 3, 0)]);
+    assert_eq!(status(&state).current_round, 20);
+    state[1] = 1;
+    assert_eq!(take_timeout(&mut state, 9, 0).number, 0);
+    assert_eq!(status(&state).current_round, 2);
+}
+
+#[test]
+fn only_vertices_and_timeouts_move_the_current_round() {
+    let mut state = state_s();
+    state[1] = 1;
+    firsts(&mut state, &[plain(2, 0, 7)]);
+    assert_eq!(take_no_vote(&mut state, 1, 0).number, 0);
+    assert_eq!(status(&state).current_round, 1);
+}
+
+#[test]
+fn only_vertices_and_first_messages_commit() {
+    let mut state = state_s();
+    firsts(&mut state, &[plain(2, 0, 7), plain(2, 1, 7)]);
+    // A well formed state may have a committable round that no call has looked at yet.
+    state[15] |= 8;
+    state[16] |= 8;
+    assert_eq!(take_timeout(&mut state, 1, 0).number, 0);
+    assert_eq!(take_no_vote(&mut state, 1, 0).number, 0);
+    assert_eq!(status(&state).committed_round, 0);
+    firsts(&mut state, &[plain(9, 0, 15)]);
+    assert_eq!(status(&state).committed_round, 1);
+}
+
+#[test]
+fn round_32_gives_the_current_round_33_and_no_commit() {
+    let mut state = opened(4);
+    for round in 1..=32 {
+        let strong = if round == 1 { 0 } else { 15 };
+        for source in 0..4 {
+            vertices(&mut state, &[plain(round, source, strong)]);
+        }
+    }
+    let now = status(&state);
+    assert_eq!(
+        (now.current_round, now.committed_round, now.leader_count),
+        (33, 31, 31)
+    );
+    assert!(is_well_formed(&state));
+}

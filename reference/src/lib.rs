@@ -15,6 +15,7 @@ pub mod call;
 pub mod calls;
 mod commit;
 pub mod group;
+pub mod harness;
 pub mod layout;
 pub mod line;
 pub mod model;
@@ -23,6 +24,7 @@ pub mod rng;
 pub mod sheetlog;
 pub mod simulate;
 mod state;
+pub mod vectors;
 pub mod well_formed;
 
 pub use answer::{Answer, Status};

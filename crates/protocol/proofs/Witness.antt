@@ -16,13 +16,13 @@ use Rattle.record.specs.Admitted.{Admitted}
 use Rattle.record.proofs.Booleans.{which, never, and-left, and-right, and-both, or-left, or-right}
 use Rattle.record.proofs.Below.{all-elim}
 use Rattle.record.proofs.Masks.{has-bound}
-use Rattle.protocol.specs.Dag.{present, held, votes, committed, lastUpTo, last}
+use Rattle.protocol.specs.Dag.{recordsOf, present, held, votes, committed, lastUpTo, last}
 use Rattle.protocol.specs.Paths.{path}
 use Rattle.protocol.specs.Chain.{walk, chain}
 use Rattle.protocol.specs.Journal.{among, fresh, extend}
 use Rattle.protocol.specs.Premises.{WellFormed, Voter}
 use Rattle.protocol.specs.Masks.{join, joinWeak, joinParents, joinRound, fill, historyMasks}
-use Rattle.protocol.specs.Witness.{recordsOf, early, late, firstOf, vertexOf, dag, honest, Witness}
+use Rattle.protocol.specs.Witness.{early, late, firstOf, vertexOf, dag, honest, Witness}
 use Rattle.protocol.proofs.Paths.{parent-present, no-vote-present, weak-present}
 use Rattle.protocol.proofs.Laws.{fresh-masks}
 

@@ -2,14 +2,19 @@
 use mathlib.Core.Bool.{Bool, true, false, cond, _&&_, _||_}
 use mathlib.Core.List.{List, [], _∷_}
 use Prim.Native.Nat.{ℕ, zero, suc}
-use lib.Dec.{leb}
+use lib.Dec.{eqb, leb}
 use Rattle.record.specs.Below.{count}
 use Rattle.record.specs.Members.{quorum, leader, has}
-use Rattle.record.specs.Layout.{strongOf}
+use Rattle.record.specs.Layout.{roundOf, sourceOf, bodyOf, strongOf}
 
 -- the body of the record of each round and member, and [] where there is none
 abbrev pub Records : Type 0
 Records = ℕ → ℕ → List ℕ
+
+-- the bodies of a list of records: the first one of a round and source stands for it
+unfoldable pub recordsOf : List (List ℕ) → Records
+recordsOf [] r p = []
+recordsOf (x ∷ l) r p = cond (eqb (roundOf x) r && eqb (sourceOf x) p) (bodyOf x) (recordsOf l r p)
 
 pub record Dag : Type 0 where
   pub vertex : Records

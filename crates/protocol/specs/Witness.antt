@@ -1,20 +1,15 @@
 -- The premises can be met: two DAGs of four members, of which member 1 is faulty. The leaders of rounds 1 and 2 are skipped.
 use mathlib.Core.Path.{_≡_}
-use mathlib.Core.Bool.{Bool, true, false, cond, not, _&&_}
+use mathlib.Core.Bool.{Bool, true, false, not}
 use mathlib.Core.List.{List, [], _∷_, _++_}
 use Prim.Native.Nat.{ℕ}
 use lib.Dec.{eqb}
 use Rattle.record.specs.Members.{has}
-use Rattle.record.specs.Layout.{roundOf, sourceOf, bodyOf, strongOf, noVotesOf}
-use Rattle.protocol.specs.Dag.{Records, Dag, held, votes, enough, committed}
+use Rattle.record.specs.Layout.{strongOf, noVotesOf}
+use Rattle.protocol.specs.Dag.{Dag, recordsOf, held, votes, enough, committed}
 use Rattle.protocol.specs.Chain.{leaders}
 use Rattle.protocol.specs.Journal.{journal}
 use Rattle.protocol.specs.Premises.{Premises}
-
--- the bodies of a list of records
-unfoldable pub recordsOf : List (List ℕ) → Records
-recordsOf [] r p = []
-recordsOf (x ∷ l) r p = cond (eqb (roundOf x) r && eqb (sourceOf x) p) (bodyOf x) (recordsOf l r p)
 
 -- the record of a round and a source with these masks of strong parents, timeouts and no-votes, and one with a weak id
 abbrev pub plain : ℕ → ℕ → ℕ → ℕ → ℕ → List ℕ

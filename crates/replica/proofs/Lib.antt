@@ -6,5 +6,6 @@ pub mod Calls
 pub mod Words
 pub mod Marks
 pub mod Sound
-pub mod Vertices
+pub mod Dags
+pub mod Keeping
 pub mod Opened

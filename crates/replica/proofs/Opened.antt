@@ -1,130 +1,131 @@
--- The opened state: it is well formed, and holds nothing. Assumes nothing.
+-- A state just opened is sound, with empty lists and no records. Assumes nothing.
 use mathlib.Core.Path.{_≡_, refl, sym, ap, _∙_}
 use mathlib.Core.Bool.{true, false}
+use mathlib.Core.Logic.{⊎-elim}
 use mathlib.Core.List.{[], _∷_}
 use Prim.Native.Nat.{ℕ, zero, suc, _+_, _^_, _≤_, _<_}
 use native.Mathlib.Omega.{arith}
-use lib.Dec.{eqb}
-use lib.ListN.{length, getD, take, drop, replicate, length-replicate}
+use lib.Dec.{ltb}
+use lib.ListN.{length, getD, replicate, length-replicate, getD-replicate, List·getD-eq-default}
 use lib.Pow.{pow-pos}
+use borrow.Author.Tests.{ltb-true, ltb-false}
 use Rattle.record.specs.Members.{legal, has, idRound, idMember}
 use Rattle.record.specs.Questions.{roundOk}
-use Rattle.record.proofs.Booleans.{never, and-right, and-fails-right, cond-true, cond-false}
-use Rattle.record.proofs.Masks.{has-zero}
-use Rattle.replica.specs.Layout.{masksAt, cellAt}
-use Rattle.replica.specs.State.{memberCount, currentRound, committedRound, leaderCount, journalCount, heldMask, heardMask, orderedMask, leaderList, journalList, vertices, firsts}
-use Rattle.replica.specs.WellFormed.{lastLeaderRound, wellFormed}
+use Rattle.record.proofs.Booleans.{which, never, and-fails-right, cond-false}
+use Rattle.record.proofs.Masks.{legal-range, has-zero}
+use Rattle.protocol.proofs.Lists.{among-none, once, once-none}
+use Rattle.replica.specs.Layout.{stateSize, masksAt, cellAt}
+use Rattle.replica.specs.State.{memberCount, currentRound, leaderList, journalList, vertices, firsts}
+use Rattle.replica.specs.WellFormed.{wellFormed}
 use Rattle.replica.specs.Lists.{opened}
-use Rattle.replica.proofs.Sound.{Sound, well-formed}
-use Rattle.replica.proofs.Vertices.{vertex-none}
+use Rattle.replica.proofs.Sound.{Sound, Led, well-formed}
 
-zero-at : (k i : ℕ) → _≡_ {A = ℕ} (getD (replicate k 0) i 0) 0
-zero-at zero i = refl
-zero-at (suc k) zero = refl
-zero-at (suc k) (suc i) = zero-at k i
+-- every word of a run of zeros, and beyond it
+blank : (k j : ℕ) → _≡_ {A = ℕ} (getD (replicate k 0) j 0) 0
+blank k j = ⊎-elim
+    (λ e. getD-replicate {A = ℕ} k j 0 0 (ltb-true j k e))
+    (λ e. List·getD-eq-default {A = ℕ} (replicate k 0) 0 (rw (length-replicate {A = ℕ} k 0) (ltb-false j k e)))
+    (which (ltb j k))
 
-after-two : (n k i : ℕ) → _≡_ {A = ℕ} (getD (n ∷ 1 ∷ replicate k 0) (suc (suc i)) 0) 0
-after-two n k i = zero-at k i
+-- a state of n members and k words more, in round 1
+opened-at : (n k j : ℕ) → 2 ≤ j → getD (n ∷ 1 ∷ replicate k 0) j 0 ≡ 0
+opened-at n k zero h = absurd (omega arith)
+opened-at n k (suc zero) h = absurd (omega arith)
+opened-at n k (suc (suc j)) h = blank k j
 
-long-two : (n k : ℕ) → length (n ∷ 1 ∷ replicate k 0) ≡ suc (suc k)
-long-two n k = ap (λ (x : ℕ). suc (suc x)) (length-replicate {A = ℕ} k 0)
+-- how many words that is
+opened-long : (n k : ℕ) → length (n ∷ 1 ∷ replicate k 0) ≡ 2 + k
+opened-long n k = ap (λ (x : ℕ). suc (suc x)) (length-replicate {A = ℕ} k 0) ∙ omega arith
 
--- it has all its words
-pub opened-length : (n : ℕ) → length (opened n) ≡ 5864
-unfolding opened
-opened-length n = long-two n 5862
+module _ (n : ℕ) where
+  -- as many words as a state has
+  pub opened-size : length (opened n) ≡ stateSize
+  unfolding opened
+  opened-size = opened-long n 5862
 
--- word 0
-pub opened-members : (n : ℕ) → memberCount (opened n) ≡ n
-unfolding opened
-opened-members n = refl
+  -- word 0
+  pub opened-members : memberCount (opened n) ≡ n
+  unfolding opened
+  opened-members = refl
 
--- word 1
-pub opened-current : (n : ℕ) → currentRound (opened n) ≡ 1
-unfolding opened
-opened-current n = refl
+  -- word 1
+  pub opened-round : currentRound (opened n) ≡ 1
+  unfolding opened
+  opened-round = refl
 
--- every other word is 0
-pub opened-zero : (n i : ℕ) → 2 ≤ i → getD (opened n) i 0 ≡ 0
-unfolding opened
-opened-zero n zero h = absurd (omega arith)
-opened-zero n (suc zero) h = absurd (omega arith)
-opened-zero n (suc (suc i)) h = after-two n 5862 i
+  -- all other words are 0
+  pub opened-word : (j : ℕ) → 2 ≤ j → getD (opened n) j 0 ≡ 0
+  unfolding opened
+  opened-word j h = opened-at n 5862 j h
 
--- nothing is held
-pub opened-held : (n r p : ℕ) → has (heldMask (opened n) r) p ≡ false
-opened-held n r p = ap (λ (m : ℕ). has m p) (opened-zero n (masksAt r + 0) (omega arith)) ∙ has-zero p
+  -- so nobody is in a mask
+  opened-mask : (r i q : ℕ) → has (getD (opened n) (masksAt r + i) 0) q ≡ false
+  opened-mask r i q = ap (λ (m : ℕ). has m q) (opened-word (masksAt r + i) (omega arith)) ∙ has-zero q
 
--- nothing was heard
-pub opened-heard : (n r p : ℕ) → has (heardMask (opened n) r) p ≡ false
-opened-heard n r p = ap (λ (m : ℕ). has m p) (opened-zero n (masksAt r + 1) (omega arith)) ∙ has-zero p
+  -- the leader list is empty
+  pub opened-leaders : leaderList (opened n) ≡ []
+  opened-leaders = rw (opened-word 3 (omega arith))
 
--- nothing is ordered
-pub opened-ordered : (n r p : ℕ) → has (orderedMask (opened n) r) p ≡ false
-opened-ordered n r p = ap (λ (m : ℕ). has m p) (opened-zero n (masksAt r + 5) (omega arith)) ∙ has-zero p
+  -- the journal is empty
+  pub opened-journal : journalList (opened n) ≡ []
+  opened-journal = rw (opened-word 4 (omega arith))
 
-opened-last : (n : ℕ) → lastLeaderRound (opened n) ≡ committedRound (opened n)
-unfolding lastLeaderRound
-opened-last n = cond-true _ _ (ap (λ (x : ℕ). eqb x 0) (opened-zero n 3 (omega arith))) ∙ sym (opened-zero n 2 (omega arith))
+  -- there are no vertices
+  pub opened-vertices : (r p : ℕ) → vertices (opened n) r p ≡ []
+  unfolding vertices
+  opened-vertices r p = cond-false _ _ (and-fails-right (roundOk r) (opened-mask r 0 p))
 
-small : (n i : ℕ) → 2 ≤ i → getD (opened n) i 0 < 2 ^ memberCount (opened n)
-small n i h = rw (opened-zero n i h) (pow-pos (memberCount (opened n)))
+  -- and no first messages
+  pub opened-firsts : (r p : ℕ) → firsts (opened n) r p ≡ []
+  unfolding firsts
+  opened-firsts r p = cond-false _ _ (and-fails-right (roundOk r) (opened-mask r 1 p))
 
--- an opened state is sound
-pub opened-sound : (n : ℕ) → legal n ≡ true → Sound (opened n)
-opened-sound n e =
-    let leaders : leaderCount (opened n) ≡ 0 = opened-zero n 3 (omega arith) in
-    let journal : journalCount (opened n) ≡ 0 = opened-zero n 4 (omega arith) in
-    record {
-      members = rw (opened-members n) e;
-      current-low = omega (arith, opened-current n);
-      current-high = omega (arith, opened-current n);
-      committed-high = omega (arith, opened-zero n 2 (omega arith));
-      zeros = λ i b. opened-zero n (5 + i) (omega arith);
-      masks = λ r a b. record {
-        held = small n (masksAt r + 0) (omega arith);
-        heard = small n (masksAt r + 1) (omega arith);
-        votes = small n (masksAt r + 2) (omega arith);
-        timeouts = small n (masksAt r + 3) (omega arith);
-        no-votes = small n (masksAt r + 4) (omega arith);
-        ordered = small n (masksAt r + 5) (omega arith);
-      };
-      votes-heard = λ r a b p h. never h (ap (λ (m : ℕ). has m p) (opened-zero n (masksAt r + 2) (omega arith)) ∙ has-zero p);
-      first-votes = opened-zero n (masksAt 1 + 2) (omega arith);
-      ordered-held = λ r a b p h. never h (opened-ordered n r p);
-      cell-admitted = λ r a b p k h. never h (opened-held n r p);
-      cell-parents = λ r a b p k h. never h (opened-held n r p);
-      cell-zero = λ r a b p k h i d. opened-zero n (cellAt r p + i) (omega arith);
-      leaders-few = omega arith;
-      leader-held = λ i b. absurd (omega arith);
-      leader-leads = λ i b. absurd (omega arith);
-      leaders-rise = λ i b. absurd (omega arith);
-      leaders-last = opened-last n;
-      journal-few = omega arith;
-      entry-ordered = λ i b. absurd (omega arith);
-      entry-new = λ i b. absurd (omega arith);
-      ordered-listed = λ y o. never (and-right (roundOk (idRound y)) _ o) (opened-ordered n (idRound y) (idMember y));
-      leaders-rest = λ i a b. opened-zero n (200 + i) (omega arith);
-      journal-rest = λ i a b. opened-zero n (232 + i) (omega arith);
-    }
+  -- A state just opened is sound.
+  pub opened-sound : legal n ≡ true → Sound (opened n)
+  unfolding Led
+  opened-sound g = record {
+    size = opened-size;
+    front = record {
+      members = ap legal opened-members ∙ g;
+      low = rw opened-members (legal-range n g .low);
+      high = rw opened-members (legal-range n g .high);
+      round-low = rw opened-round (omega arith);
+      round-high = rw opened-round (omega arith);
+      zeros = λ i k. opened-word (5 + i) (omega arith);
+    };
+    masks = record {
+      held-low = λ r a b. small r 0;
+      heard-low = λ r a b. small r 1;
+      votes-low = λ r a b. small r 2;
+      timeouts-low = λ r a b. small r 3;
+      no-votes-low = λ r a b. small r 4;
+      votes-heard = λ r p a b e. never e (opened-mask r 2 p);
+      votes-first = opened-word (masksAt 1 + 2) (omega arith);
+    };
+    cells = record {
+      admits = λ r p a b k e. never e (opened-mask r 0 p);
+      parents = λ r p a b k e. never e (opened-mask r 0 p);
+      zero-cell = λ r p i a b k m e. opened-word (cellAt r p + i) (omega arith);
+    };
+    leaders = record {
+      committed-high = rw (opened-word 2 (omega arith)) (omega arith);
+      few = rw (opened-word 3 (omega arith)) (omega arith);
+      led = rw opened-leaders (sym (opened-word 2 (omega arith)));
+      rest = λ i a b. opened-word (200 + i) (omega arith);
+    };
+    journal = record {
+      ordered-low = λ r a b. small r 5;
+      ordered-held = λ r p a b e. never e (opened-mask r 5 p);
+      few = rw (opened-word 4 (omega arith)) (omega arith);
+      alone = ap once opened-journal ∙ once-none;
+      names = λ y. rw opened-journal (among-none y ∙ sym (and-fails-right (roundOk (idRound y)) (opened-mask (idRound y) 5 (idMember y))));
+      rest = λ i a b. opened-word (232 + i) (omega arith);
+    };
+  }
+    where
+      small : (r i : ℕ) → getD (opened n) (masksAt r + i) 0 < 2 ^ memberCount (opened n)
+      small r i = rw (opened-word (masksAt r + i) (omega arith)) (pow-pos (memberCount (opened n)))
 
--- an opened state is well formed
-pub opened-well-formed : (n : ℕ) → legal n ≡ true → wellFormed (opened n) ≡ true
-opened-well-formed n e = well-formed (opened n) (opened-length n) (opened-sound n e)
-
--- its leader list is empty
-pub opened-leaders : (n : ℕ) → leaderList (opened n) ≡ []
-opened-leaders n = ap (λ (k : ℕ). take k (drop 200 (opened n))) (opened-zero n 3 (omega arith))
-
--- its journal is empty
-pub opened-journal : (n : ℕ) → journalList (opened n) ≡ []
-opened-journal n = ap (λ (k : ℕ). take k (drop 232 (opened n))) (opened-zero n 4 (omega arith))
-
--- it has no vertex
-pub opened-vertices : (n r p : ℕ) → vertices (opened n) r p ≡ []
-opened-vertices n r p = vertex-none (opened n) r p (and-fails-right (roundOk r) (opened-held n r p))
-
--- it has no first message
-pub opened-firsts : (n r p : ℕ) → firsts (opened n) r p ≡ []
-unfolding firsts
-opened-firsts n r p = cond-false _ _ (and-fails-right (roundOk r) (opened-heard n r p))
+  -- so it is well formed
+  pub opened-well-formed : legal n ≡ true → wellFormed (opened n) ≡ true
+  opened-well-formed g = well-formed (opened n) (opened-sound g)

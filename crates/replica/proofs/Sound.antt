@@ -1,247 +1,430 @@
--- What a well-formed state is, field by field, and back. Assumes nothing.
-use mathlib.Core.Path.{_≡_, refl, sym, _∙_}
-use mathlib.Core.Bool.{Bool, true, false, cond, _&&_, _||_}
-use mathlib.Core.List.{List}
-use mathlib.Core.Logic.{⊎-elim}
-use Prim.Native.Nat.{ℕ, _+_, _-_, _≤_, _<_}
+-- What it means that a state is well formed, as facts, and that the test of `specs/WellFormed` says exactly this. Assumes nothing.
+use mathlib.Core.Path.{_≡_, refl, sym, ap, ap₂, _∙_, subst}
+use mathlib.Core.Bool.{Bool, true, false, cond, not, _&&_, _||_}
+use mathlib.Core.Logic.{_⊎_, inl, inr, ⊎-elim}
+use mathlib.Core.List.{List, [], _∷_, _++_}
+use Prim.Native.Nat.{ℕ, zero, suc, _+_, _-_, _^_, _≤_, _<_}
+use native.Mathlib.Numerals.{sub-one}
 use native.Mathlib.Omega.{arith}
+use lib.Bits.{bitAnd, and-le-l}
 use lib.Dec.{eqb, leb, ltb}
-use lib.ListN.{length, getD, take}
-use borrow.Author.Tests.{leb-true, ltb-true, eqb-true, eq-eqb, ne-eqb, le-leb, lt-ltb, le-ltb, eqb-false, ltb-false, not-true}
+use lib.ListN.{length, getD, take, drop, length-drop}
+use lib.Seq.{take-suc, take-take, getD-drop, length-take-le}
+use borrow.Author.Tests.{leb-true, le-leb, ltb-true, lt-ltb, ltb-false, eqb-true, eq-eqb, ne-eqb, not-true}
 use Rattle.record.specs.Below.{all}
-use Rattle.record.specs.Members.{legal, leader, has, idRound, idMember}
+use Rattle.record.specs.Members.{legal, leader, has, within, idRound, idMember}
 use Rattle.record.specs.Refusals.{numberOf}
-use Rattle.record.specs.Questions.{bodyRefusal, roundOk}
-use Rattle.record.proofs.Booleans.{which, never, and-left, and-right, and-both, or-left, or-right, or-cases, cond-true, cond-false}
-use Rattle.record.proofs.Below.{all-intro, all-elim}
+use Rattle.record.specs.Questions.{bodyRefusal}
+use Rattle.record.proofs.Booleans.{which, never, and-left, and-right, and-both, or-cases, or-left, or-right, or-neither, bool-ext, cond-true, cond-false}
+use Rattle.record.proofs.Below.{all-elim, all-intro}
+use Rattle.record.proofs.Masks.{legal-range, within-lt, has-and, mask-ext}
 use Rattle.record.proofs.Turn.{round-range}
 use Rattle.protocol.specs.Journal.{idLimit, among}
-use Rattle.replica.specs.Layout.{cellAt}
-use Rattle.replica.specs.State.{memberCount, currentRound, committedRound, leaderCount, journalCount, heldMask, heardMask, votesMask, orderedMask, leaderWord, journalWord, journalList, cell, heldId, orderedId}
-use Rattle.replica.specs.WellFormed.{eachRound, subset, masksWithin, parentsHeld, cellOk, leaderOk, lastLeaderRound, leadersOk, entryOk, journalOk, restZero, wellFormed}
-use Rattle.replica.proofs.Laws.{subset-has, has-subset}
-use Rattle.replica.proofs.Clauses.{headPart, bodyPart, well-parts}
-use Rattle.replica.proofs.Words.{Small, masks-small, small-masks, round-elim}
-use Rattle.replica.proofs.Marks.{named, imply, implied, entry-ok}
+use Rattle.protocol.proofs.Lists.{among-none, among-append, among-one, once, once-append, once-none}
+use Rattle.replica.specs.Layout.{stateSize, cellAt}
+use Rattle.replica.specs.State.{memberCount, currentRound, committedRound, leaderCount, journalCount, heldMask, heardMask, votesMask, timeoutsMask, noVotesMask, orderedMask, leaderWord, journalWord, leaderList, journalList, cell, heldId, orderedId}
+use Rattle.replica.specs.WellFormed.{subset, masksWithin, parentsHeld, cellOk, leaderOk, lastLeaderRound, leadersOk, entryOk, journalOk, restZero, wellFormed}
 
--- what `wellFormed` says of the words, field by field
-pub record Sound (l : List ℕ) : Type 0 where
+-- ---- the facts
+
+-- words 0, 1 and 5 to 7
+pub record Front (l : List ℕ) : Type 0 where
   pub members : legal (memberCount l) ≡ true
-  pub current-low : 1 ≤ currentRound l
-  pub current-high : currentRound l ≤ 33
-  pub committed-high : committedRound l ≤ 31
+  pub low : 4 ≤ memberCount l
+  pub high : memberCount l ≤ 16
+  pub round-low : 1 ≤ currentRound l
+  pub round-high : currentRound l ≤ 33
   pub zeros : (i : ℕ) → i < 3 → getD l (5 + i) 0 ≡ 0
-  -- the masks of rounds 1 to 32
-  pub masks : (r : ℕ) → 1 ≤ r → r ≤ 32 → Small (memberCount l) l r
-  pub votes-heard : (r : ℕ) → 1 ≤ r → r ≤ 32 → (p : ℕ) → has (votesMask l r) p ≡ true → has (heardMask l r) p ≡ true
-  pub first-votes : votesMask l 1 ≡ 0
-  pub ordered-held : (r : ℕ) → 1 ≤ r → r ≤ 32 → (p : ℕ) → has (orderedMask l r) p ≡ true → has (heldMask l r) p ≡ true
-  -- the cells
-  pub cell-admitted : (r : ℕ) → 1 ≤ r → r ≤ 32 → (p : ℕ) → p < 16 → has (heldMask l r) p ≡ true → numberOf (bodyRefusal (memberCount l) r p (cell l r p)) ≡ 0
-  pub cell-parents : (r : ℕ) → 1 ≤ r → r ≤ 32 → (p : ℕ) → p < 16 → has (heldMask l r) p ≡ true → parentsHeld l r (cell l r p) ≡ true
-  pub cell-zero : (r : ℕ) → 1 ≤ r → r ≤ 32 → (p : ℕ) → p < 16 → has (heldMask l r) p ≡ false → (i : ℕ) → i < 10 → getD l (cellAt r p + i) 0 ≡ 0
+
+-- the masks but for the ordered ones
+pub record Masks (l : List ℕ) : Type 0 where
+  pub held-low : (r : ℕ) → 1 ≤ r → r ≤ 32 → heldMask l r < 2 ^ memberCount l
+  pub heard-low : (r : ℕ) → 1 ≤ r → r ≤ 32 → heardMask l r < 2 ^ memberCount l
+  pub votes-low : (r : ℕ) → 1 ≤ r → r ≤ 32 → votesMask l r < 2 ^ memberCount l
+  pub timeouts-low : (r : ℕ) → 1 ≤ r → r ≤ 32 → timeoutsMask l r < 2 ^ memberCount l
+  pub no-votes-low : (r : ℕ) → 1 ≤ r → r ≤ 32 → noVotesMask l r < 2 ^ memberCount l
+  pub votes-heard : (r p : ℕ) → 1 ≤ r → r ≤ 32 → has (votesMask l r) p ≡ true → has (heardMask l r) p ≡ true
+  pub votes-first : votesMask l 1 ≡ 0
+
+-- the cells
+pub record Cells (l : List ℕ) : Type 0 where
+  pub admits : (r p : ℕ) → 1 ≤ r → r ≤ 32 → p < 16 → has (heldMask l r) p ≡ true → numberOf (bodyRefusal (memberCount l) r p (cell l r p)) ≡ 0
+  pub parents : (r p : ℕ) → 1 ≤ r → r ≤ 32 → p < 16 → has (heldMask l r) p ≡ true → parentsHeld l r (cell l r p) ≡ true
+  pub zero-cell : (r p i : ℕ) → 1 ≤ r → r ≤ 32 → p < 16 → i < 10 → has (heldMask l r) p ≡ false → getD l (cellAt r p + i) 0 ≡ 0
+
+-- the ids of a leader list: leaders' vertices that h has, of rounds that rise from above low to high
+unfoldable pub Led : ℕ → (ℕ → Bool) → ℕ → List ℕ → ℕ → Type 0
+Led n h low [] high = low ≡ high
+Led n h low (x ∷ xs) high = (h x ≡ true) × (idMember x ≡ leader n (idRound x)) × (low < idRound x) × Led n h (idRound x) xs high
+
+-- the committed round and the leader list
+pub record Leaders (l : List ℕ) : Type 0 where
+  pub committed-high : committedRound l ≤ 31
+  pub few : leaderCount l ≤ 32
+  pub led : Led (memberCount l) (heldId l) 0 (leaderList l) (committedRound l)
+  pub rest : (i : ℕ) → leaderCount l ≤ i → i < 32 → leaderWord l i ≡ 0
+
+-- the ordered masks and the journal
+pub record Journal (l : List ℕ) : Type 0 where
+  pub ordered-low : (r : ℕ) → 1 ≤ r → r ≤ 32 → orderedMask l r < 2 ^ memberCount l
+  pub ordered-held : (r p : ℕ) → 1 ≤ r → r ≤ 32 → has (orderedMask l r) p ≡ true → has (heldMask l r) p ≡ true
+  pub few : journalCount l ≤ 512
+  pub alone : once (journalList l) ≡ true
+  pub names : (y : ℕ) → among (journalList l) y ≡ orderedId l y
+  pub rest : (i : ℕ) → journalCount l ≤ i → i < 512 → journalWord l i ≡ 0
+
+pub record Sound (l : List ℕ) : Type 0 where
+  pub size : length l ≡ stateSize
+  pub front : Front l
+  pub masks : Masks l
+  pub cells : Cells l
+  pub leaders : Leaders l
+  pub journal : Journal l
+
+-- ---- masks within masks
+
+-- a member of a mask is in every mask around it
+pub subset-has : (a b : ℕ) → subset a b ≡ true → (p : ℕ) → has a p ≡ true → has b p ≡ true
+subset-has a b e p h = and-right (has a p) (has b p) (sym (has-and a b p) ∙ ap (λ (x : ℕ). has x p) (eqb-true _ _ e) ∙ h)
+
+-- and a mask whose members are all in another lies within it
+pub has-subset : (k a b : ℕ) → a < 2 ^ k → ((p : ℕ) → has a p ≡ true → has b p ≡ true) → subset a b ≡ true
+has-subset k a b l h = eq-eqb _ _ (mask-ext k (bitAnd a b) a (omega (arith, and-le-l a b)) l (λ p m. has-and a b p ∙ both p (which (has a p))))
+  where
+    both : (p : ℕ) → (has a p ≡ true) ⊎ (has a p ≡ false) → (has a p && has b p) ≡ has a p
+    both p (inl e) = rw (e, h p e)
+    both p (inr e) = rw e
+
+-- ---- leader lists
+
+-- one list after another
+pub led-append : (n : ℕ) (h : ℕ → Bool) (low mid high : ℕ) (xs ys : List ℕ) → Led n h low xs mid → Led n h mid ys high → Led n h low (xs ++ ys) high
+unfolding Led
+led-append n h low mid high [] ys p q = rw p q
+led-append n h low mid high (x ∷ xs) ys p q = (p .0, p .1, p .2, led-append n h (idRound x) mid high xs ys (p .3) q)
+
+-- and taken apart
+pub led-split : (n : ℕ) (h : ℕ → Bool) (low high : ℕ) (xs ys : List ℕ) → Led n h low (xs ++ ys) high → (mid : ℕ) × Led n h low xs mid × Led n h mid ys high
+unfolding Led
+led-split n h low high [] ys p = (low, refl, p)
+led-split n h low high (x ∷ xs) ys p = let w = led-split n h (idRound x) high xs ys (p .3) in (w .0, (p .0, p .1, p .2, w .1), w .2)
+
+-- where more is held
+pub led-more : (n : ℕ) (h k : ℕ → Bool) (low high : ℕ) (xs : List ℕ) → ((y : ℕ) → h y ≡ true → k y ≡ true) → Led n h low xs high → Led n k low xs high
+unfolding Led
+led-more n h k low high [] f p = p
+led-more n h k low high (x ∷ xs) f p = (f x (p .0), p .1, p .2, led-more n h k (idRound x) high xs f (p .3))
+
+-- as many rounds at least as entries
+pub led-length : (n : ℕ) (h : ℕ → Bool) (low high : ℕ) (xs : List ℕ) → Led n h low xs high → low + length xs ≤ high
+unfolding Led
+led-length n h low high [] p = omega arith
+led-length n h low high (x ∷ xs) p = omega (arith, p .2, led-length n h (idRound x) high xs (p .3))
+
+-- ---- lists that name nothing twice
+
+-- one more, and one less
+pub once-more : (xs : List ℕ) (x : ℕ) → once xs ≡ true → among xs x ≡ false → once (xs ++ x ∷ []) ≡ true
+once-more xs x p q = once-append xs (x ∷ []) p one (λ y e. among-one x y ∙ ne-eqb x y (λ d. never e (rw d at q)))
+  where
+    one : once (x ∷ []) ≡ true
+    one = unfold once in and-both (ap not (among-none x)) once-none
+
+-- what a list was before its last entry
+pub once-less : (xs : List ℕ) (x : ℕ) → once (xs ++ x ∷ []) ≡ true → (once xs ≡ true) × (among xs x ≡ false)
+unfolding once among
+once-less [] x p = (refl, refl)
+once-less (y ∷ xs) x p =
+    let w = once-less xs x (and-right (not (among (xs ++ x ∷ []) y)) _ p) in
+    let m : among (xs ++ x ∷ []) y ≡ false = not-true _ (and-left _ _ p) in
+    let a = or-neither (among xs y) (among (x ∷ []) y) (sym (among-append xs (x ∷ []) y) ∙ m) in
+    (and-both (ap not (a .0)) (w .0), ap₂ _||_ (ne-eqb y x (λ d. never (eq-eqb x y (sym d)) (sym (among-one x y) ∙ a .1))) (w .1))
+
+-- ---- words of the lists
+
+-- n words of a state from word k on
+pub length-part : (l : List ℕ) (k c : ℕ) → k + c ≤ length l → length (take c (drop k l)) ≡ c
+length-part l k c h = length-take-le c (drop k l) (rw length-drop (omega arith))
+
+-- one word more
+pub part-more : (l : List ℕ) (k c : ℕ) → k + c < length l → take (suc c) (drop k l) ≡ take c (drop k l) ++ getD l (k + c) 0 ∷ []
+part-more l k c h = take-suc (drop k l) c 0 (rw length-drop (omega arith)) ∙ ap (λ (x : ℕ). take c (drop k l) ++ x ∷ []) (getD-drop k l c 0)
+
+-- ---- from the tests to the facts, and back
+
+module _ (l : List ℕ) (size : length l ≡ stateSize) where
+  -- the round of the entry before entry c of the leader list, and 0 before the first
+  abbrev before : ℕ → ℕ
+  before c = cond (eqb c 0) 0 (idRound (leaderWord l (c - 1)))
+
+  before-suc : (c : ℕ) → before (suc c) ≡ idRound (leaderWord l c)
+  before-suc c = rw (ne-eqb (suc c) 0 (λ e. omega arith), sub-one (suc c))
+
+  held-round : (y : ℕ) → heldId l y ≡ true → 0 < idRound y
+  held-round y e = round-range (idRound y) (and-left _ _ e) .0
+
+  leader-rises : (c : ℕ) → leaderOk l c ≡ true → before c < idRound (leaderWord l c)
+  unfolding leaderOk
+  leader-rises zero e = held-round _ (and-left _ _ e)
+  leader-rises (suc c) e = rw before-suc (ltb-true _ _ (rw (sub-one (suc c)) at
+      (sym (cond-false true _ (ne-eqb (suc c) 0 (λ d. omega arith)))
+      ∙ and-right (eqb (idMember (leaderWord l (suc c))) _) _ (and-right (heldId l (leaderWord l (suc c))) _ e))))
+
+  rises-leader : (c : ℕ) → before c < idRound (leaderWord l c) → cond (eqb c 0) true (ltb (idRound (leaderWord l (c - 1))) (idRound (leaderWord l c))) ≡ true
+  rises-leader zero h = refl
+  rises-leader (suc c) h = cond-false true _ (ne-eqb (suc c) 0 (λ d. omega arith)) ∙ rw (sub-one (suc c)) (lt-ltb _ _ (rw before-suc at h))
+
   -- the leader list
-  pub leaders-few : leaderCount l ≤ 32
-  pub leader-held : (i : ℕ) → i < leaderCount l → heldId l (leaderWord l i) ≡ true
-  pub leader-leads : (i : ℕ) → i < leaderCount l → idMember (leaderWord l i) ≡ leader (memberCount l) (idRound (leaderWord l i))
-  pub leaders-rise : (i : ℕ) → i + 1 < leaderCount l → idRound (leaderWord l i) < idRound (leaderWord l (i + 1))
-  pub leaders-last : lastLeaderRound l ≡ committedRound l
+  to-led : (c : ℕ) → c ≤ 32 → all c (leaderOk l) ≡ true → Led (memberCount l) (heldId l) 0 (take c (drop 200 l)) (before c)
+  unfolding all leaderOk Led
+  to-led zero k e = refl
+  to-led (suc c) k e =
+      let t : leaderOk l c ≡ true = and-right (all c (leaderOk l)) _ e in
+      rw (part-more l 200 c (omega arith), before-suc c)
+      (led-append (memberCount l) (heldId l) 0 (before c) (idRound (leaderWord l c)) (take c (drop 200 l)) (leaderWord l c ∷ [])
+      (to-led c (omega arith) (and-left _ _ e))
+      (and-left _ _ t, eqb-true _ _ (and-left _ _ (and-right (heldId l (leaderWord l c)) _ t)), leader-rises c t, refl))
+
+  from-led : (c high : ℕ) → c ≤ 32 → Led (memberCount l) (heldId l) 0 (take c (drop 200 l)) high → (all c (leaderOk l) ≡ true) × (high ≡ before c)
+  unfolding all leaderOk Led
+  from-led zero high k d = (refl, sym d)
+  from-led (suc c) high k d =
+      let w = led-split (memberCount l) (heldId l) 0 high (take c (drop 200 l)) (leaderWord l c ∷ []) (rw (part-more l 200 c (omega arith)) at d) in
+      let i = from-led c (w .0) (omega arith) (w .1) in
+      let q = w .2 in
+      (and-both (i .0) (and-both (q .0) (and-both (eq-eqb _ _ (q .1)) (rises-leader c (rw (i .1) at (q .2))))), sym (q .3) ∙ sym (before-suc c))
+
   -- the journal
-  pub journal-few : journalCount l ≤ 512
-  pub entry-ordered : (i : ℕ) → i < journalCount l → orderedId l (journalWord l i) ≡ true
-  pub entry-new : (i : ℕ) → i < journalCount l → among (take i (journalList l)) (journalWord l i) ≡ false
-  pub ordered-listed : (y : ℕ) → orderedId l y ≡ true → among (journalList l) y ≡ true
-  -- the words beyond the counts
-  pub leaders-rest : (i : ℕ) → leaderCount l ≤ i → i < 32 → leaderWord l i ≡ 0
-  pub journal-rest : (i : ℕ) → journalCount l ≤ i → i < 512 → journalWord l i ≡ 0
+  to-once : (c : ℕ) → c ≤ journalCount l → journalCount l ≤ 512 → all c (entryOk l) ≡ true
+      → (once (take c (drop 232 l)) ≡ true) × ((y : ℕ) → among (take c (drop 232 l)) y ≡ true → orderedId l y ≡ true)
+  unfolding all entryOk
+  to-once zero k m e = (once-none, λ y d. never d (among-none y))
+  to-once (suc c) k m e =
+      let t : entryOk l c ≡ true = and-right (all c (entryOk l)) _ e in
+      let i = to-once c (omega arith) m (and-left _ _ e) in
+      let a : among (take c (drop 232 l)) (journalWord l c) ≡ false =
+      ap (λ (xs : List ℕ). among xs (journalWord l c)) (sym (take-take c (journalCount l) (drop 232 l) (omega arith)))
+      ∙ not-true _ (and-right (orderedId l (journalWord l c)) _ t) in
+      rw (part-more l 232 c (omega arith)) (
+        once-more (take c (drop 232 l)) (journalWord l c) (i .0) a,
+        λ y d. ⊎-elim (i .1 y) (λ f. ap (orderedId l) (sym (eqb-true (journalWord l c) y (sym (among-one (journalWord l c) y) ∙ f))) ∙ and-left _ _ t)
+            (or-cases _ _ (sym (among-append (take c (drop 232 l)) (journalWord l c ∷ []) y) ∙ d)),
+      )
 
--- ---- each clause, both ways
+  from-once : (c : ℕ) → c ≤ journalCount l → journalCount l ≤ 512 → once (take c (drop 232 l)) ≡ true
+      → ((y : ℕ) → among (take c (drop 232 l)) y ≡ true → orderedId l y ≡ true) → all c (entryOk l) ≡ true
+  unfolding all entryOk
+  from-once zero k m p f = refl
+  from-once (suc c) k m p f =
+      let w = once-less (take c (drop 232 l)) (journalWord l c) (rw (part-more l 232 c (omega arith)) at p) in
+      let g : (y : ℕ) → (among (take c (drop 232 l)) y || among (journalWord l c ∷ []) y) ≡ true → orderedId l y ≡ true =
+      λ y d. f y (rw (part-more l 232 c (omega arith)) (among-append (take c (drop 232 l)) (journalWord l c ∷ []) y ∙ d)) in
+      and-both (from-once c (omega arith) m (w .0) (λ y d. g y (or-left _ d)))
+      (and-both (g (journalWord l c) (or-right (among (take c (drop 232 l)) (journalWord l c))
+      (among-one (journalWord l c) (journalWord l c) ∙ eq-eqb (journalWord l c) _ refl)))
+      (ap not (ap (λ (xs : List ℕ). among xs (journalWord l c)) (take-take c (journalCount l) (drop 232 l) (omega arith)) ∙ w .1)))
 
-cell-yes : (l : List ℕ) (r p : ℕ) → cellOk l r p ≡ true → has (heldMask l r) p ≡ true
-    → (numberOf (bodyRefusal (memberCount l) r p (cell l r p)) ≡ 0) × (parentsHeld l r (cell l r p) ≡ true)
-unfolding cellOk
-cell-yes l r p e h =
-    let both : (eqb (numberOf (bodyRefusal (memberCount l) r p (cell l r p))) 0 && parentsHeld l r (cell l r p)) ≡ true = sym (cond-true _ _ h) ∙ e in
-    (eqb-true _ 0 (and-left _ _ both), and-right (eqb (numberOf (bodyRefusal (memberCount l) r p (cell l r p))) 0) _ both)
+  -- an ordered id is of a round up to 32
+  pub ordered-limit : (y : ℕ) → orderedId l y ≡ true → y < idLimit
+  ordered-limit y e = omega (arith, round-range (idRound y) (and-left _ _ e) .1)
 
-cell-no : (l : List ℕ) (r p : ℕ) → cellOk l r p ≡ true → has (heldMask l r) p ≡ false → (i : ℕ) → i < 10 → getD l (cellAt r p + i) 0 ≡ 0
-unfolding cellOk
-cell-no l r p e h i b = eqb-true _ 0 (all-elim 10 (λ k. eqb (getD l (cellAt r p + k) 0) 0) (sym (cond-false _ _ h) ∙ e) i b)
+  -- rounds from 1 and numbers from 0
+  each : (t : ℕ → Bool) → all 32 (λ i. t (i + 1)) ≡ true → (r : ℕ) → 1 ≤ r → r ≤ 32 → t r ≡ true
+  each t e r a b = ap t (omega arith) ∙ all-elim 32 (λ i. t (i + 1)) e (r - 1) (omega arith)
 
-cell-made : (l : List ℕ) (r p : ℕ) → (has (heldMask l r) p ≡ true → numberOf (bodyRefusal (memberCount l) r p (cell l r p)) ≡ 0)
-    → (has (heldMask l r) p ≡ true → parentsHeld l r (cell l r p) ≡ true)
-    → (has (heldMask l r) p ≡ false → (i : ℕ) → i < 10 → getD l (cellAt r p + i) 0 ≡ 0) → cellOk l r p ≡ true
-unfolding cellOk
-cell-made l r p a b z =
-    ⊎-elim
-    (λ h. cond-true _ _ h ∙ and-both (eq-eqb _ 0 (a h)) (b h))
-    (λ h. cond-false _ _ h ∙ all-intro 10 (λ k. eqb (getD l (cellAt r p + k) 0) 0) (λ i k. eq-eqb _ 0 (z h i k)))
-    (which (has (heldMask l r) p))
+  every-round : (t : ℕ → Bool) → ((r : ℕ) → 1 ≤ r → r ≤ 32 → t r ≡ true) → all 32 (λ i. t (i + 1)) ≡ true
+  every-round t f = all-intro 32 (λ i. t (i + 1)) (λ i k. f (i + 1) (omega arith) (omega arith))
 
-leader-facts : (l : List ℕ) (i : ℕ) → leaderOk l i ≡ true
-    → (heldId l (leaderWord l i) ≡ true) × (idMember (leaderWord l i) ≡ leader (memberCount l) (idRound (leaderWord l i)))
-    × (cond (eqb i 0) true (ltb (idRound (leaderWord l (i - 1))) (idRound (leaderWord l i))) ≡ true)
-unfolding leaderOk
-leader-facts l i e =
-    let rest : (eqb (idMember (leaderWord l i)) (leader (memberCount l) (idRound (leaderWord l i)))
-    && cond (eqb i 0) true (ltb (idRound (leaderWord l (i - 1))) (idRound (leaderWord l i)))) ≡ true = and-right (heldId l (leaderWord l i)) _ e in
-    (and-left (heldId l (leaderWord l i)) _ e, eqb-true _ _ (and-left _ _ rest), and-right (eqb (idMember (leaderWord l i)) (leader (memberCount l) (idRound (leaderWord l i)))) _ rest)
+  -- the six bounds of a round
+  bounds : (r : ℕ) → masksWithin l r ≡ true → (heldMask l r < 2 ^ memberCount l) × (heardMask l r < 2 ^ memberCount l) × (votesMask l r < 2 ^ memberCount l)
+      × (timeoutsMask l r < 2 ^ memberCount l) × (noVotesMask l r < 2 ^ memberCount l) × (orderedMask l r < 2 ^ memberCount l)
+  unfolding masksWithin
+  bounds r e =
+      let n = memberCount l in
+      let e1 = and-right (within n (heldMask l r)) _ e in
+      let e2 = and-right (within n (heardMask l r)) _ e1 in
+      let e3 = and-right (within n (votesMask l r)) _ e2 in
+      let e4 = and-right (within n (timeoutsMask l r)) _ e3 in (
+        within-lt n _ (and-left _ _ e),
+        within-lt n _ (and-left _ _ e1),
+        within-lt n _ (and-left _ _ e2),
+        within-lt n _ (and-left _ _ e3),
+        within-lt n _ (and-left _ _ e4),
+        within-lt n _ (and-right (within n (noVotesMask l r)) _ e4),
+      )
 
-leader-rises : (l : List ℕ) (i : ℕ) → leaderOk l (i + 1) ≡ true → idRound (leaderWord l i) < idRound (leaderWord l (i + 1))
-leader-rises l i e =
-    let back : i + 1 - 1 ≡ i = omega arith in
-    rw back at (ltb-true (idRound (leaderWord l (i + 1 - 1))) (idRound (leaderWord l (i + 1)))
-    (sym (cond-false {A = Bool} true _ (ne-eqb (i + 1) 0 (λ d. omega arith))) ∙ leader-facts l (i + 1) e .2))
+  bounded : (m : ℕ) → m < 2 ^ memberCount l → within (memberCount l) m ≡ true
+  unfolding within
+  bounded m h = lt-ltb _ _ h
 
-leader-made : (l : List ℕ) (i : ℕ) → heldId l (leaderWord l i) ≡ true → idMember (leaderWord l i) ≡ leader (memberCount l) (idRound (leaderWord l i))
-    → ((i ≡ 0 → ⊥) → idRound (leaderWord l (i - 1)) < idRound (leaderWord l i)) → leaderOk l i ≡ true
-unfolding leaderOk
-leader-made l i a b d =
-    and-both a (and-both (eq-eqb _ _ b) (⊎-elim
-    (λ h. cond-true {A = Bool} true _ h)
-    (λ h. cond-false {A = Bool} true _ h ∙ lt-ltb _ _ (d (eqb-false i 0 h)))
-    (which (eqb i 0))))
+  -- a cell that is held, and one that is not
+  cell-held : (r p : ℕ) → cellOk l r p ≡ true → has (heldMask l r) p ≡ true
+      → (numberOf (bodyRefusal (memberCount l) r p (cell l r p)) ≡ 0) × (parentsHeld l r (cell l r p) ≡ true)
+  unfolding cellOk
+  cell-held r p e h =
+      let t = sym (cond-true _ _ h) ∙ e in
+      (eqb-true _ _ (and-left _ _ t), and-right (eqb (numberOf (bodyRefusal (memberCount l) r p (cell l r p))) 0) _ t)
 
-entry-facts : (l : List ℕ) (i : ℕ) → entryOk l i ≡ true → (orderedId l (journalWord l i) ≡ true) × (among (take i (journalList l)) (journalWord l i) ≡ false)
-unfolding entryOk
-entry-facts l i e = (and-left (orderedId l (journalWord l i)) _ e, not-true _ (and-right (orderedId l (journalWord l i)) _ e))
+  cell-free : (r p : ℕ) → cellOk l r p ≡ true → has (heldMask l r) p ≡ false → (i : ℕ) → i < 10 → getD l (cellAt r p + i) 0 ≡ 0
+  unfolding cellOk
+  cell-free r p e h i k = eqb-true _ _ (all-elim 10 (λ i. eqb (getD l (cellAt r p + i) 0) 0) (sym (cond-false _ _ h) ∙ e) i k)
 
-leaders-facts : (l : List ℕ) → leadersOk l ≡ true → (leaderCount l ≤ 32) × (all (leaderCount l) (leaderOk l) ≡ true) × (lastLeaderRound l ≡ committedRound l)
-unfolding leadersOk
-leaders-facts l e =
-    let rest : (all (leaderCount l) (leaderOk l) && eqb (lastLeaderRound l) (committedRound l)) ≡ true = and-right (leb (leaderCount l) 32) _ e in
-    (leb-true _ _ (and-left (leb (leaderCount l) 32) _ e), and-left (all (leaderCount l) (leaderOk l)) _ rest, eqb-true _ _ (and-right (all (leaderCount l) (leaderOk l)) _ rest))
+  cell-test : Cells l → (r p : ℕ) → 1 ≤ r → r ≤ 32 → p < 16 → cellOk l r p ≡ true
+  unfolding cellOk
+  cell-test C r p a b k = ⊎-elim
+      (λ h. cond-true _ _ h ∙ and-both (eq-eqb _ _ (C .admits r p a b k h)) (C .parents r p a b k h))
+      (λ h. cond-false _ _ h ∙ all-intro 10 _ (λ i m. eq-eqb _ _ (C .zero-cell r p i a b k m h)))
+      (which (has (heldMask l r) p))
 
-leaders-made : (l : List ℕ) → leaderCount l ≤ 32 → all (leaderCount l) (leaderOk l) ≡ true → lastLeaderRound l ≡ committedRound l → leadersOk l ≡ true
-unfolding leadersOk
-leaders-made l a b d = and-both (le-leb _ _ a) (and-both b (eq-eqb _ _ d))
+  -- words beyond a count
+  beyond : (c k : ℕ) (w : ℕ → ℕ) → all k (λ i. ltb i c || eqb (w i) 0) ≡ true → (i : ℕ) → c ≤ i → i < k → w i ≡ 0
+  beyond c k w e i a b = ⊎-elim (λ h. absurd (omega (arith, ltb-true i c h))) (λ h. eqb-true _ _ h) (or-cases (ltb i c) (eqb (w i) 0) (all-elim k _ e i b))
 
-journal-facts : (l : List ℕ) → journalOk l ≡ true → (journalCount l ≤ 512) × (all (journalCount l) (entryOk l) ≡ true) × (all idLimit (named l) ≡ true)
-unfolding journalOk
-journal-facts l e =
-    let rest : (all (journalCount l) (entryOk l) && all idLimit (named l)) ≡ true = and-right (leb (journalCount l) 512) _ e in
-    (leb-true _ _ (and-left (leb (journalCount l) 512) _ e), and-left (all (journalCount l) (entryOk l)) _ rest, and-right (all (journalCount l) (entryOk l)) _ rest)
+  not-beyond : (c k : ℕ) (w : ℕ → ℕ) → ((i : ℕ) → c ≤ i → i < k → w i ≡ 0) → all k (λ i. ltb i c || eqb (w i) 0) ≡ true
+  not-beyond c k w f = all-intro k _ (λ i b. ⊎-elim (λ h. or-left _ h) (λ h. or-right (ltb i c) (eq-eqb _ _ (f i (ltb-false i c h) b))) (which (ltb i c)))
 
-journal-made : (l : List ℕ) → journalCount l ≤ 512 → all (journalCount l) (entryOk l) ≡ true → all idLimit (named l) ≡ true → journalOk l ≡ true
-unfolding journalOk
-journal-made l a b d = and-both (le-leb _ _ a) (and-both b d)
-
--- an ordered id is below the limit
-pub ordered-limit : (l : List ℕ) (y : ℕ) → orderedId l y ≡ true → y < idLimit
-ordered-limit l y o = let q = round-range (idRound y) (and-left (roundOk (idRound y)) _ o) in omega (arith, q .1)
-
-beyond : (i count w : ℕ) → (ltb i count || eqb w 0) ≡ true → count ≤ i → w ≡ 0
-beyond i count w e h = ⊎-elim (λ t. never t (le-ltb i count h)) (λ t. eqb-true w 0 t) (or-cases (ltb i count) (eqb w 0) e)
-
-beyond-made : (i count w : ℕ) → (count ≤ i → w ≡ 0) → (ltb i count || eqb w 0) ≡ true
-beyond-made i count w h =
-    ⊎-elim (λ t. or-left (eqb w 0) t) (λ t. or-right (ltb i count) (eq-eqb w 0 (h (ltb-false i count t)))) (which (ltb i count))
-
-rest-facts : (l : List ℕ) → restZero l ≡ true
-    → ((i : ℕ) → leaderCount l ≤ i → i < 32 → leaderWord l i ≡ 0) × ((i : ℕ) → journalCount l ≤ i → i < 512 → journalWord l i ≡ 0)
-unfolding restZero
-rest-facts l e = (
-  λ i h b. beyond i (leaderCount l) (leaderWord l i) (all-elim 32 (λ k. ltb k (leaderCount l) || eqb (leaderWord l k) 0) (and-left _ _ e) i b) h,
-  λ i h b. beyond i (journalCount l) (journalWord l i) (all-elim 512 (λ k. ltb k (journalCount l) || eqb (journalWord l k) 0) (and-right (all 32 (λ k. ltb k (leaderCount l) || eqb (leaderWord l k) 0)) _ e) i b) h,
-)
-
-rest-made : (l : List ℕ) → ((i : ℕ) → leaderCount l ≤ i → i < 32 → leaderWord l i ≡ 0) → ((i : ℕ) → journalCount l ≤ i → i < 512 → journalWord l i ≡ 0) → restZero l ≡ true
-unfolding restZero
-rest-made l a b =
-    and-both
-    (all-intro 32 (λ k. ltb k (leaderCount l) || eqb (leaderWord l k) 0) (λ i k. beyond-made i (leaderCount l) (leaderWord l i) (λ h. a i h k)))
-    (all-intro 512 (λ k. ltb k (journalCount l) || eqb (journalWord l k) 0) (λ i k. beyond-made i (journalCount l) (journalWord l i) (λ h. b i h k)))
-
--- ---- the whole
-
--- a well-formed state is sound
-pub sound : (l : List ℕ) → length l ≡ 5864 → wellFormed l ≡ true → Sound l
-sound l long e =
-    let parts : (headPart l && (bodyPart l && (leadersOk l && (journalOk l && restZero l)))) ≡ true = sym (well-parts l) ∙ e in
-    let after-head : (bodyPart l && (leadersOk l && (journalOk l && restZero l))) ≡ true = and-right (headPart l) _ parts in
-    let after-body : (leadersOk l && (journalOk l && restZero l)) ≡ true = and-right (bodyPart l) _ after-head in
-    let after-leaders : (journalOk l && restZero l) ≡ true = and-right (leadersOk l) _ after-body in
-    let head : headPart l ≡ true = and-left (headPart l) _ parts in
-    let body : bodyPart l ≡ true = and-left (bodyPart l) _ after-head in
-    let h₁ : ((leb 1 (currentRound l) && leb (currentRound l) 33) && (leb (committedRound l) 31 && (all 3 (λ i. eqb (getD l (5 + i) 0) 0) && true))) ≡ true = and-right (legal (memberCount l)) _ head in
-    let rounds : (leb 1 (currentRound l) && leb (currentRound l) 33) ≡ true = and-left (leb 1 (currentRound l) && leb (currentRound l) 33) _ h₁ in
-    let h₂ : (leb (committedRound l) 31 && (all 3 (λ i. eqb (getD l (5 + i) 0) 0) && true)) ≡ true = and-right (leb 1 (currentRound l) && leb (currentRound l) 33) _ h₁ in
-    let h₃ : (all 3 (λ i. eqb (getD l (5 + i) 0) 0) && true) ≡ true = and-right (leb (committedRound l) 31) _ h₂ in
-    let voting : Bool = eachRound (λ r. subset (votesMask l r) (heardMask l r)) && eqb (votesMask l 1) 0 in
-    let ordering : Bool = eachRound (λ r. subset (orderedMask l r) (heldMask l r)) in
-    let cells : Bool = eachRound (λ r. all 16 (cellOk l r)) in
-    let b₁ : (voting && (ordering && (cells && true))) ≡ true = and-right (eachRound (masksWithin l)) _ body in
-    let v : voting ≡ true = and-left voting _ b₁ in
-    let b₂ : (ordering && (cells && true)) ≡ true = and-right voting _ b₁ in
-    let b₃ : (cells && true) ≡ true = and-right ordering _ b₂ in
-    let at : (r : ℕ) → 1 ≤ r → r ≤ 32 → (p : ℕ) → p < 16 → cellOk l r p ≡ true =
-    λ r a b p h. all-elim 16 (cellOk l r) (round-elim (λ k. all 16 (cellOk l k)) (and-left cells true b₃) r a b) p h in
-    let led = leaders-facts l (and-left (leadersOk l) _ after-body) in
-    let listed = journal-facts l (and-left (journalOk l) _ after-leaders) in
-    let rest = rest-facts l (and-right (journalOk l) _ after-leaders) in
+-- A well-formed state has all the facts.
+pub sound : (l : List ℕ) → length l ≡ stateSize → wellFormed l ≡ true → Sound l
+unfolding wellFormed leadersOk journalOk restZero lastLeaderRound
+sound l size e =
+    let n = memberCount l in
+    let e1 = and-right (legal n) _ e in
+    let e2 = and-right (leb 1 (currentRound l) && leb (currentRound l) 33) _ e1 in
+    let e3 = and-right (leb (committedRound l) 31) _ e2 in
+    let e4 = and-right (all 3 (λ i. eqb (getD l (5 + i) 0) 0)) _ e3 in
+    let e5 = and-right (all 32 (λ i. masksWithin l (i + 1))) _ e4 in
+    let e6 = and-right (all 32 (λ i. subset (votesMask l (i + 1)) (heardMask l (i + 1))) && eqb (votesMask l 1) 0) _ e5 in
+    let e7 = and-right (all 32 (λ i. subset (orderedMask l (i + 1)) (heldMask l (i + 1)))) _ e6 in
+    let e8 = and-right (all 32 (λ i. all 16 (cellOk l (i + 1)))) _ e7 in
+    let e9 = and-right (leadersOk l) _ e8 in
+    let e10 = and-right (journalOk l) _ e9 in
+    let rest = and-left (restZero l) _ e10 in
+    let g = legal-range n (and-left _ _ e) in
+    let round = and-left (leb 1 (currentRound l) && leb (currentRound l) 33) _ e1 in
+    let masks : (r : ℕ) → 1 ≤ r → r ≤ 32 → masksWithin l r ≡ true = each l size (masksWithin l) (and-left _ _ e4) in
+    let votes = and-left (all 32 (λ i. subset (votesMask l (i + 1)) (heardMask l (i + 1))) && eqb (votesMask l 1) 0) _ e5 in
+    let cells : (r p : ℕ) → 1 ≤ r → r ≤ 32 → p < 16 → cellOk l r p ≡ true =
+    λ r p a b k. all-elim 16 (cellOk l r) (each l size (λ r. all 16 (cellOk l r)) (and-left _ _ e7) r a b) p k in
+    let leads = and-left (leadersOk l) _ e8 in
+    let leads′ = and-right (leb (leaderCount l) 32) _ leads in
+    let few : leaderCount l ≤ 32 = leb-true _ _ (and-left _ _ leads) in
+    let words = and-left (journalOk l) _ e9 in
+    let words′ = and-right (leb (journalCount l) 512) _ words in
+    let few′ : journalCount l ≤ 512 = leb-true _ _ (and-left _ _ words) in
+    let listed = to-once l size (journalCount l) (omega arith) few′ (and-left _ _ words′) in
     record {
-      members = and-left (legal (memberCount l)) _ head;
-      current-low = leb-true _ _ (and-left (leb 1 (currentRound l)) _ rounds);
-      current-high = leb-true _ _ (and-right (leb 1 (currentRound l)) _ rounds);
-      committed-high = leb-true _ _ (and-left (leb (committedRound l) 31) _ h₂);
-      zeros = λ i b. eqb-true _ 0 (all-elim 3 (λ k. eqb (getD l (5 + k) 0) 0) (and-left _ true h₃) i b);
-      masks = λ r a b. masks-small l r (round-elim (masksWithin l) (and-left (eachRound (masksWithin l)) _ body) r a b);
-      votes-heard = λ r a b p h. subset-has (votesMask l r) (heardMask l r) p (round-elim (λ k. subset (votesMask l k) (heardMask l k)) (and-left _ _ v) r a b) h;
-      first-votes = eqb-true _ 0 (and-right (eachRound (λ r. subset (votesMask l r) (heardMask l r))) _ v);
-      ordered-held = λ r a b p h. subset-has (orderedMask l r) (heldMask l r) p (round-elim (λ k. subset (orderedMask l k) (heldMask l k)) (and-left ordering _ b₂) r a b) h;
-      cell-admitted = λ r a b p k h. cell-yes l r p (at r a b p k) h .0;
-      cell-parents = λ r a b p k h. cell-yes l r p (at r a b p k) h .1;
-      cell-zero = λ r a b p k h. cell-no l r p (at r a b p k) h;
-      leaders-few = led .0;
-      leader-held = λ i b. leader-facts l i (all-elim (leaderCount l) (leaderOk l) (led .1) i b) .0;
-      leader-leads = λ i b. leader-facts l i (all-elim (leaderCount l) (leaderOk l) (led .1) i b) .1;
-      leaders-rise = λ i b. leader-rises l i (all-elim (leaderCount l) (leaderOk l) (led .1) (i + 1) b);
-      leaders-last = led .2;
-      journal-few = listed .0;
-      entry-ordered = λ i b. entry-facts l i (all-elim (journalCount l) (entryOk l) (listed .1) i b) .0;
-      entry-new = λ i b. entry-facts l i (all-elim (journalCount l) (entryOk l) (listed .1) i b) .1;
-      ordered-listed = λ y o. implied (orderedId l y) (among (journalList l) y) (all-elim idLimit (named l) (listed .2) y (ordered-limit l y o)) o;
-      leaders-rest = rest .0;
-      journal-rest = rest .1;
+      size = size;
+      front = record {
+        members = and-left _ _ e;
+        low = g .low;
+        high = g .high;
+        round-low = leb-true _ _ (and-left _ _ round);
+        round-high = leb-true _ _ (and-right (leb 1 (currentRound l)) _ round);
+        zeros = λ i k. eqb-true _ _ (all-elim 3 (λ i. eqb (getD l (5 + i) 0) 0) (and-left _ _ e3) i k);
+      };
+      masks = record {
+        held-low = λ r a b. bounds l size r (masks r a b) .0;
+        heard-low = λ r a b. bounds l size r (masks r a b) .1;
+        votes-low = λ r a b. bounds l size r (masks r a b) .2;
+        timeouts-low = λ r a b. bounds l size r (masks r a b) .3;
+        no-votes-low = λ r a b. bounds l size r (masks r a b) .4;
+        votes-heard = λ r p a b h. subset-has _ _ (each l size (λ r. subset (votesMask l r) (heardMask l r)) (and-left _ _ votes) r a b) p h;
+        votes-first = eqb-true _ _ (and-right (all 32 (λ i. subset (votesMask l (i + 1)) (heardMask l (i + 1)))) _ votes);
+      };
+      cells = record {
+        admits = λ r p a b k h. cell-held l size r p (cells r p a b k) h .0;
+        parents = λ r p a b k h. cell-held l size r p (cells r p a b k) h .1;
+        zero-cell = λ r p i a b k m h. cell-free l size r p (cells r p a b k) h i m;
+      };
+      leaders = record {
+        committed-high = leb-true _ _ (and-left _ _ e2);
+        few = few;
+        led = subst (λ (x : ℕ). Led n (heldId l) 0 (leaderList l) x) (eqb-true _ _ (and-right (all (leaderCount l) (leaderOk l)) _ leads′))
+            (to-led l size (leaderCount l) few (and-left _ _ leads′));
+        rest = beyond l size (leaderCount l) 32 (leaderWord l) (and-left _ _ rest);
+      };
+      journal = record {
+        ordered-low = λ r a b. bounds l size r (masks r a b) .5;
+        ordered-held = λ r p a b h. subset-has _ _ (each l size (λ r. subset (orderedMask l r) (heldMask l r)) (and-left _ _ e6) r a b) p h;
+        few = few′;
+        alone = listed .0;
+        names = λ y. bool-ext (listed .1 y) (λ d. ⊎-elim (λ h. never d (not-true _ h)) (λ h. h) (or-cases (not (orderedId l y)) _
+            (all-elim idLimit (λ y. not (orderedId l y) || among (journalList l) y) (and-right (all (journalCount l) (entryOk l)) _ words′) y
+            (ordered-limit l size y d))));
+        rest = beyond l size (journalCount l) 512 (journalWord l) (and-right (all 32 (λ i. ltb i (leaderCount l) || eqb (leaderWord l i) 0)) _ rest);
+      };
     }
 
-each : (t : ℕ → Bool) → ((r : ℕ) → 1 ≤ r → r ≤ 32 → t r ≡ true) → eachRound t ≡ true
-each t h = all-intro 32 (λ i. t (i + 1)) (λ i b. h (i + 1) (omega arith) (omega arith))
-
--- a sound state is well formed
-pub well-formed : (l : List ℕ) → length l ≡ 5864 → Sound l → wellFormed l ≡ true
-well-formed l long s = well-parts l ∙ and-both head (and-both body (and-both led (and-both listed rest)))
+-- And a state that has them is well formed.
+pub well-formed : (l : List ℕ) → Sound l → wellFormed l ≡ true
+unfolding wellFormed leadersOk journalOk restZero lastLeaderRound masksWithin
+well-formed l S =
+    let size = S .size in
+    let n = memberCount l in
+    let M = S .masks in
+    let J = S .journal in
+    let w = from-led l size (leaderCount l) (committedRound l) (S .leaders .few) (S .leaders .led) in
+    and-both (S .front .members)
+    (and-both (and-both (le-leb _ _ (S .front .round-low)) (le-leb _ _ (S .front .round-high)))
+    (and-both (le-leb _ _ (S .leaders .committed-high))
+    (and-both (all-intro 3 _ (λ i k. eq-eqb _ _ (S .front .zeros i k)))
+    (and-both (every-round l size (masksWithin l) (λ r a b.
+    and-both (bounded l size _ (M .held-low r a b))
+    (and-both (bounded l size _ (M .heard-low r a b))
+    (and-both (bounded l size _ (M .votes-low r a b))
+    (and-both (bounded l size _ (M .timeouts-low r a b)) (and-both (bounded l size _ (M .no-votes-low r a b)) (bounded l size _ (J .ordered-low r a b))))))))
+    (and-both (and-both (every-round l size (λ r. subset (votesMask l r) (heardMask l r)) (λ r a b.
+    has-subset n (votesMask l r) (heardMask l r) (M .votes-low r a b) (λ p h. M .votes-heard r p a b h))) (eq-eqb _ _ (M .votes-first)))
+    (and-both (every-round l size (λ r. subset (orderedMask l r) (heldMask l r)) (λ r a b.
+    has-subset n (orderedMask l r) (heldMask l r) (J .ordered-low r a b) (λ p h. J .ordered-held r p a b h)))
+    (and-both (every-round l size (λ r. all 16 (cellOk l r)) (λ r a b. all-intro 16 (cellOk l r) (λ p k. cell-test l size (S .cells) r p a b k)))
+    (and-both (and-both (le-leb _ _ (S .leaders .few)) (and-both (w .0) (eq-eqb _ _ (sym (w .1)))))
+    (and-both (and-both (le-leb _ _ (J .few))
+    (and-both (from-once l size (journalCount l) (omega arith) (J .few) (J .alone) (λ y d. sym (J .names y) ∙ d))
+    (all-intro idLimit (λ y. not (orderedId l y) || among (journalList l) y) (λ y k. named y (which (orderedId l y))))))
+    (and-both (and-both (not-beyond l size (leaderCount l) 32 (leaderWord l) (S .leaders .rest)) (not-beyond l size (journalCount l) 512 (journalWord l) (J .rest)))
+    refl))))))))))
   where
-    head : headPart l ≡ true
-    head =
-        and-both (s .members) (and-both (and-both (le-leb 1 (currentRound l) (s .current-low)) (le-leb (currentRound l) 33 (s .current-high)))
-        (and-both (le-leb (committedRound l) 31 (s .committed-high)) (and-both (all-intro 3 (λ i. eqb (getD l (5 + i) 0) 0) (λ i b. eq-eqb _ 0 (s .zeros i b))) refl)))
+    named : (y : ℕ) → (orderedId l y ≡ true) ⊎ (orderedId l y ≡ false) → (not (orderedId l y) || among (journalList l) y) ≡ true
+    named y (inl e) = or-right (not (orderedId l y)) (S .journal .names y ∙ e)
+    named y (inr e) = or-left _ (ap not e)
 
-    body : bodyPart l ≡ true
-    body =
-        and-both (each (masksWithin l) (λ r a b. small-masks l r (s .masks r a b)))
-        (and-both (and-both
-        (each (λ r. subset (votesMask l r) (heardMask l r)) (λ r a b. has-subset (memberCount l) (votesMask l r) (heardMask l r) (s .masks r a b .votes) (λ p k h. s .votes-heard r a b p h)))
-        (eq-eqb (votesMask l 1) 0 (s .first-votes)))
-        (and-both
-        (each (λ r. subset (orderedMask l r) (heldMask l r)) (λ r a b. has-subset (memberCount l) (orderedMask l r) (heldMask l r) (s .masks r a b .ordered) (λ p k h. s .ordered-held r a b p h)))
-        (and-both
-        (each (λ r. all 16 (cellOk l r)) (λ r a b. all-intro 16 (cellOk l r) (λ p k. cell-made l r p (s .cell-admitted r a b p k) (s .cell-parents r a b p k) (s .cell-zero r a b p k))))
-        refl)))
+-- ---- the lists, an entry at a time
 
-    risen : (i : ℕ) → i < leaderCount l → (i ≡ 0 → ⊥) → idRound (leaderWord l (i - 1)) < idRound (leaderWord l i)
-    risen i b d =
-        let next : i - 1 + 1 ≡ i = omega arith in
-        let low : i - 1 + 1 < leaderCount l = omega arith in
-        rw next at (s .leaders-rise (i - 1) low)
+module _ (l : List ℕ) (S : Sound l) where
+  -- each list is as long as its count says
+  pub leader-length : length (leaderList l) ≡ leaderCount l
+  leader-length = let few = S .leaders .few in length-part l 200 (leaderCount l) (omega (arith, S .size))
 
-    led : leadersOk l ≡ true
-    led = leaders-made l (s .leaders-few) (all-intro (leaderCount l) (leaderOk l) (λ i b. leader-made l i (s .leader-held i b) (s .leader-leads i b) (risen i b))) (s .leaders-last)
+  -- so the journal
+  pub journal-length : length (journalList l) ≡ journalCount l
+  journal-length = let few = S .journal .few in length-part l 232 (journalCount l) (omega (arith, S .size))
 
-    listed : journalOk l ≡ true
-    listed =
-        journal-made l (s .journal-few) (all-intro (journalCount l) (entryOk l) (λ i b. entry-ok l i (s .entry-ordered i b) (s .entry-new i b)))
-        (all-intro idLimit (named l) (λ y b. imply (orderedId l y) (among (journalList l) y) (s .ordered-listed y)))
+  leader-ok : (i : ℕ) → i < leaderCount l → leaderOk l i ≡ true
+  leader-ok = all-elim (leaderCount l) (leaderOk l) (from-led l (S .size) (leaderCount l) (committedRound l) (S .leaders .few) (S .leaders .led) .0)
 
-    rest : restZero l ≡ true
-    rest = rest-made l (s .leaders-rest) (s .journal-rest)
+  -- a held leader's vertex, of a higher round than the one before
+  pub leader-entry : (i : ℕ) → i < leaderCount l → (heldId l (leaderWord l i) ≡ true) × (idMember (leaderWord l i) ≡ leader (memberCount l) (idRound (leaderWord l i)))
+  unfolding leaderOk
+  leader-entry i k = let t = leader-ok i k in (and-left _ _ t, eqb-true _ _ (and-left _ _ (and-right (heldId l (leaderWord l i)) _ t)))
+
+  -- rounds rise from each entry to the next
+  pub leader-rising : (i : ℕ) → suc i < leaderCount l → idRound (leaderWord l i) < idRound (leaderWord l (suc i))
+  leader-rising i k = rw (before-suc l (S .size) i) at (leader-rises l (S .size) (suc i) (leader-ok (suc i) k))
+
+  -- the last of them is of the committed round
+  pub last-leader : lastLeaderRound l ≡ committedRound l
+  unfolding lastLeaderRound
+  last-leader = sym (from-led l (S .size) (leaderCount l) (committedRound l) (S .leaders .few) (S .leaders .led) .1)
+
+  -- the list is no longer than the committed round
+  pub leaders-few : leaderCount l ≤ committedRound l
+  leaders-few = omega (arith, leader-length, led-length (memberCount l) (heldId l) 0 (committedRound l) (leaderList l) (S .leaders .led))
+
+  -- an ordered vertex that stands nowhere before
+  pub journal-entry : (i : ℕ) → i < journalCount l → (orderedId l (journalWord l i) ≡ true) × (among (take i (journalList l)) (journalWord l i) ≡ false)
+  unfolding entryOk
+  journal-entry i k =
+      let t = all-elim (journalCount l) (entryOk l)
+      (from-once l (S .size) (journalCount l) (omega arith) (S .journal .few) (S .journal .alone) (λ y d. sym (S .journal .names y) ∙ d)) i k in
+      (and-left _ _ t, not-true _ (and-right (orderedId l (journalWord l i)) _ t))

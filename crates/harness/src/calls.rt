@@ -1,0 +1,61 @@
+// A call of the library for each operation, with its answer printed.
+use super::output::checksum;
+use super::output::put;
+use super::output::put_last;
+use super::output::put_list;
+use record::refusal::missing_id;
+use record::refusal::number;
+use replica::answer::Answer;
+use replica::answer::Status;
+use replica::lists::ask_journal;
+use replica::lists::ask_leaders;
+use replica::lists::hand_journal;
+use replica::lists::hand_leaders;
+use replica::lists::open;
+use replica::lists::status;
+
+// The number, the id, and the two counts.
+fn put_answer(answer: Answer) {
+    let why = answer.refusal;
+    put(number(why));
+    put(missing_id(why));
+    put(answer.leaders);
+    put(answer.journal);
+}
+
+// The number, and the four words.
+fn put_status(status: Status) {
+    let why = status.refusal;
+    put(number(why));
+    put(status.current_round);
+    put(status.committed_round);
+    put(status.leader_count);
+    put(status.journal_count);
+}
+
+// The calls that change no word.
+fn read(state: &[u32], op: u32, a: u32) {
+    match op {
+        4 => put_status(status(state)),
+        5 => put(number(ask_leaders(state, a))),
+        6 => put(number(ask_journal(state, a))),
+        7 => put_list(hand_leaders(state, a)),
+        8 => put_list(hand_journal(state, a)),
+        _ => (),
+    }
+}
+
+// The calls that may change words, and the others.
+fn change(state: &mut [u32], op: u32, a: u32) {
+    match op {
+        3 => put_answer(open(state, a)),
+        _ => read(state, op, a),
+    }
+}
+
+// One line of output.
+pub fn call(state: &mut [u32], op: u32, a: u32) {
+    put(op);
+    change(state, op, a);
+    put_last(checksum(state));
+}

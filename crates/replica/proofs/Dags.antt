@@ -1,0 +1,178 @@
+-- The DAG of a state: which vertices it holds, that they are well formed, and the votes of its first messages. Assumes nothing.
+use mathlib.Core.Path.{_≡_, refl, sym, ap, _∙_}
+use mathlib.Core.Bool.{true, false, not, _&&_}
+use mathlib.Core.Logic.{_⊎_, inl, inr, ⊎-elim}
+use mathlib.Core.List.{List, [], _∷_}
+use Prim.Native.Nat.{ℕ, suc, _+_, _-_, _≤_, _<_}
+use native.Mathlib.Nat.{not-suc-le-zero}
+use native.Mathlib.Numerals.{sub-one}
+use native.Mathlib.Omega.{arith}
+use lib.Dec.{eqb}
+use lib.ListN.{length, getD, drop}
+use lib.Seq.{getD-drop, getD-take}
+use borrow.Author.Tests.{le-leb, eq-eqb, not-true}
+use Rattle.record.specs.Members.{leader, has, idOf, idRound, idMember}
+use Rattle.record.specs.Layout.{strongOf, weakCountOf, weakOf}
+use Rattle.record.specs.Questions.{roundOk}
+use Rattle.record.specs.Admitted.{Admitted}
+use Rattle.record.proofs.Booleans.{which, never, and-left, and-right, and-both, or-left, or-right}
+use Rattle.record.proofs.Below.{any-intro, any-off}
+use Rattle.record.proofs.Masks.{has-zero, has-one, has-bound}
+use Rattle.record.proofs.Turn.{round-range, admitted}
+use Rattle.protocol.specs.Dag.{present, held, votes}
+use Rattle.protocol.specs.Journal.{idLimit}
+use Rattle.protocol.specs.Premises.{WellFormed}
+use Rattle.protocol.proofs.Paths.{parent-present, weak-present}
+use Rattle.protocol.proofs.History.{id-round, id-member}
+use Rattle.replica.specs.Layout.{stateSize, cellAt}
+use Rattle.replica.specs.State.{memberCount, heldMask, heardMask, votesMask, cell, vertices, firsts, heldId}
+use Rattle.replica.specs.WellFormed.{isParent, missing, parentsHeld}
+use Rattle.replica.proofs.Sound.{Sound, length-part}
+
+-- a round from 1 to 32
+pub round-ok : (r : ℕ) → 1 ≤ r → r ≤ 32 → roundOk r ≡ true
+unfolding roundOk
+round-ok r a b = and-both (le-leb 1 r a) (le-leb r 32 b)
+
+-- ---- the vertices
+
+-- a record with words is there
+some-words : (body : List ℕ) → 0 < length body → present body ≡ true
+some-words [] h = absurd (not-suc-le-zero h)
+some-words (w ∷ body) h = refl
+
+module _ (l : List ℕ) (size : length l ≡ stateSize) where
+  -- a cell has ten words
+  pub cell-length : (r p : ℕ) → 1 ≤ r → r ≤ 32 → p < 16 → length (cell l r p) ≡ 10
+  cell-length r p a b k = length-part l (cellAt r p) 10 (omega arith)
+
+  -- exactly the members of the held masks have a vertex
+  pub held-vertex : (r p : ℕ) → p < 16 → held (vertices l) r p ≡ (roundOk r && has (heldMask l r) p)
+  unfolding vertices
+  held-vertex r p k = go (which (roundOk r && has (heldMask l r) p))
+    where
+      go : ((roundOk r && has (heldMask l r) p) ≡ true) ⊎ ((roundOk r && has (heldMask l r) p) ≡ false)
+          → held (vertices l) r p ≡ (roundOk r && has (heldMask l r) p)
+      go (inl e) =
+          let w = round-range r (and-left _ _ e) in
+          rw e (some-words (cell l r p) (omega (arith, cell-length r p (w .0) (w .1) k)))
+      go (inr e) = rw e
+
+  -- the same of an id
+  pub held-id : (y : ℕ) → heldId l y ≡ held (vertices l) (idRound y) (idMember y)
+  held-id y = sym (held-vertex (idRound y) (idMember y) (omega arith))
+
+  -- the words of a vertex in its cell
+  pub vertex-cell : (r p : ℕ) → held (vertices l) r p ≡ true → vertices l r p ≡ cell l r p
+  unfolding vertices
+  vertex-cell r p h = go (which (roundOk r && has (heldMask l r) p))
+    where
+      go : ((roundOk r && has (heldMask l r) p) ≡ true) ⊎ ((roundOk r && has (heldMask l r) p) ≡ false) → vertices l r p ≡ cell l r p
+      go (inl e) = rw e
+      go (inr e) = never h (rw e)
+
+  -- a vertex is of a round from 1 to 32, and in the held mask
+  pub in-mask : (r p : ℕ) → held (vertices l) r p ≡ true → (1 ≤ r) × (r ≤ 32) × (has (heldMask l r) p ≡ true)
+  unfolding vertices
+  in-mask r p h = go (which (roundOk r && has (heldMask l r) p))
+    where
+      go : ((roundOk r && has (heldMask l r) p) ≡ true) ⊎ ((roundOk r && has (heldMask l r) p) ≡ false) → (1 ≤ r) × (r ≤ 32) × (has (heldMask l r) p ≡ true)
+      go (inl e) = let w = round-range r (and-left _ _ e) in (w .0, w .1, and-right (roundOk r) _ e)
+      go (inr e) = never h (rw e)
+
+-- ---- parents
+
+-- question 14, as a fact and back
+pub parent-held : (l : List ℕ) (r : ℕ) (body : List ℕ) → parentsHeld l r body ≡ true → (y : ℕ) → y < idLimit → isParent r body y ≡ true → heldId l y ≡ true
+unfolding parentsHeld missing
+parent-held l r body e y k h = ⊎-elim (λ d. d) (λ d. never (and-both h (ap not d)) (any-off idLimit (missing l r body) (not-true _ e) y k)) (which (heldId l y))
+
+-- the parents of a body, by its strong mask and by its weak ids
+strong-parent : (r m : ℕ) (body : List ℕ) → 1 ≤ r → m < 16 → has (strongOf body) m ≡ true → isParent r body (idOf (r - 1) m) ≡ true
+unfolding isParent
+strong-parent r m body a k h = or-left _ (and-both (eq-eqb (idRound (idOf (r - 1) m) + 1) r (omega arith)) (rw (id-member (r - 1) m k) h))
+
+-- a weak one
+weak-parent : (r i : ℕ) (body : List ℕ) → i < weakCountOf body → isParent r body (weakOf body i) ≡ true
+unfolding isParent
+weak-parent r i body k =
+    or-right (eqb (idRound (weakOf body i) + 1) r && has (strongOf body) (idMember (weakOf body i)))
+    (any-intro (weakCountOf body) (λ j. eqb (weakOf body j) (weakOf body i)) i k (eq-eqb (weakOf body i) _ refl))
+
+-- ---- a sound state
+
+module _ (l : List ℕ) (S : Sound l) where
+  -- what is held is of a member
+  pub in-group : (r p : ℕ) → 1 ≤ r → r ≤ 32 → has (heldMask l r) p ≡ true → p < memberCount l
+  in-group r p a b h = has-bound (memberCount l) (heldMask l r) p (S .masks .held-low r a b) h
+
+  -- a vertex is admitted
+  pub admits : (r p : ℕ) → held (vertices l) r p ≡ true → Admitted (memberCount l) r p (vertices l r p)
+  admits r p h =
+      let w = in-mask l (S .size) r p h in
+      let k : p < 16 = omega (arith, in-group r p (w .0) (w .1) (w .2), S .front .high) in
+      rw (vertex-cell l (S .size) r p h) (admitted (memberCount l) r p (cell l r p) (S .cells .admits r p (w .0) (w .1) k (w .2)))
+
+  -- and its parents are held
+  parent : (r p y : ℕ) → held (vertices l) r p ≡ true → y < idLimit → isParent r (vertices l r p) y ≡ true → held (vertices l) (idRound y) (idMember y) ≡ true
+  parent r p y h k d =
+      let w = in-mask l (S .size) r p h in
+      let m : p < 16 = omega (arith, in-group r p (w .0) (w .1) (w .2), S .front .high) in
+      sym (held-id l (S .size) y)
+      ∙ parent-held l r (cell l r p) (S .cells .parents r p (w .0) (w .1) m (w .2)) y k (rw (vertex-cell l (S .size) r p h) at d)
+
+  -- The vertices of a sound state are well formed.
+  pub dag-well-formed : WellFormed (memberCount l) (vertices l)
+  dag-well-formed = record { admitted = admits; strong-held = strong; weak-held = weak }
+    where
+      strong : (r p m : ℕ) → has (strongOf (vertices l r p)) m ≡ true → held (vertices l) (r - 1) m ≡ true
+      strong r p m s =
+          let h : held (vertices l) r p ≡ true = parent-present _ m s in
+          let a = admits r p h in
+          let k : m < 16 = omega (arith, has-bound (memberCount l) (strongOf (vertices l r p)) m (a .strong-low) s, S .front .high) in
+          let b : 1 ≤ r = a .round-low in
+          let c : r ≤ 32 = a .round-high in
+          rw (id-round (r - 1) m k, id-member (r - 1) m k) at (parent r p (idOf (r - 1) m) h (omega arith) (strong-parent r m (vertices l r p) b k s))
+
+      weak : (r p i : ℕ) → i < weakCountOf (vertices l r p)
+          → held (vertices l) (idRound (weakOf (vertices l r p) i)) (idMember (weakOf (vertices l r p) i)) ≡ true
+      weak r p i m =
+          let h : held (vertices l) r p ≡ true = weak-present _ i m in
+          let a = admits r p h in
+          let k : i < 5 = omega (arith, a .weak-few, S .front .high) in
+          parent r p (weakOf (vertices l r p) i) h (omega (arith, a .weak-high i k m, a .round-high)) (weak-parent r i (vertices l r p) m)
+
+  -- the words of a vertex and of its cell are the same, for a cell not held is zero
+  pub vertex-words : (r p i : ℕ) → 1 ≤ r → r ≤ 32 → p < 16 → i < 10 → getD (vertices l r p) i 0 ≡ getD l (cellAt r p + i) 0
+  vertex-words r p i a b k m = go (which (has (heldMask l r) p))
+    where
+      none : has (heldMask l r) p ≡ false → vertices l r p ≡ []
+      none e = unfold vertices in rw (e, round-ok r a b)
+
+      there : has (heldMask l r) p ≡ true → held (vertices l) r p ≡ true
+      there e = held-vertex l (S .size) r p k ∙ and-both (round-ok r a b) e
+
+      go : (has (heldMask l r) p ≡ true) ⊎ (has (heldMask l r) p ≡ false) → getD (vertices l r p) i 0 ≡ getD l (cellAt r p + i) 0
+      go (inl e) = rw (vertex-cell l (S .size) r p (there e)) (getD-take 10 (drop (cellAt r p) l) i 0 m ∙ getD-drop (cellAt r p) l i 0)
+      go (inr e) = rw (none e) (sym (S .cells .zero-cell r p i a b k m e))
+
+-- ---- first messages
+
+-- where votes are heard, the first message of a member of round q + 1 votes for the leader of round q exactly if the votes mask has it
+pub first-vote : (l : List ℕ) (q p : ℕ) → 1 ≤ q → q ≤ 31 → (has (votesMask l (suc q)) p ≡ true → has (heardMask l (suc q)) p ≡ true)
+    → votes (memberCount l) q (firsts l (suc q) p) ≡ has (votesMask l (suc q)) p
+unfolding firsts strongOf
+first-vote l q p a b f = go (which (has (votesMask l (suc q)) p)) (which (has (heardMask l (suc q)) p))
+  where
+    ok : roundOk (suc q) ≡ true
+    ok = round-ok (suc q) (omega arith) (omega arith)
+
+    go : (has (votesMask l (suc q)) p ≡ true) ⊎ (has (votesMask l (suc q)) p ≡ false) → (has (heardMask l (suc q)) p ≡ true) ⊎ (has (heardMask l (suc q)) p ≡ false)
+        → votes (memberCount l) q (firsts l (suc q) p) ≡ has (votesMask l (suc q)) p
+    go (inl v) d = rw (ok, f v, v, sub-one (suc q)) (has-one (leader (memberCount l) q) (leader (memberCount l) q) ∙ eq-eqb (leader (memberCount l) q) _ refl)
+    go (inr v) (inl h) = rw (ok, h, v) (has-zero (leader (memberCount l) q))
+    go (inr v) (inr h) = rw (ok, h, v) (has-zero (leader (memberCount l) q))
+
+-- so in a sound state
+pub sound-vote : (l : List ℕ) → Sound l → (q p : ℕ) → 1 ≤ q → q ≤ 31 → votes (memberCount l) q (firsts l (suc q) p) ≡ has (votesMask l (suc q)) p
+sound-vote l S q p a b = first-vote l q p a b (S .masks .votes-heard (suc q) p (omega arith) (omega arith))

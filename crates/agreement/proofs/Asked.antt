@@ -1,0 +1,142 @@
+-- What the number of a call says: with 0 every question is answered yes, and with another the words stay. Assumes nothing.
+use mathlib.Core.Path.{_≡_, refl, sym, ap, _∙_}
+use mathlib.Core.Bool.{true, false}
+use mathlib.Core.Logic.{_⊎_, inl, inr, ⊎-elim}
+use mathlib.Core.List.{List, [], _∷_, _++_}
+use Prim.Native.Nat.{ℕ, _≤_, _<_}
+use native.Mathlib.Omega.{arith}
+use lib.Dec.{eqb}
+use lib.ListN.{length}
+use borrow.Author.Tests.{eqb-true, eqb-false, eq-eqb, ne-eqb, ltb-true, not-true, le-leb}
+use Rattle.record.specs.Members.{legal, has}
+use Rattle.record.specs.Refusals.{numberOf, Question, firstNo}
+use Rattle.record.specs.Questions.{recordQuestions, bodyRefusal}
+use Rattle.record.specs.declared.refusal.Refusal.{Refusal}
+use Rattle.record.proofs.Booleans.{which, never, cond-true, cond-false}
+use Rattle.record.proofs.Turn.{next, done, both-yes, round-range}
+use Rattle.replica.specs.State.{memberCount, leaderCount, journalCount, heldMask, heardMask, leaderList, journalList}
+use Rattle.replica.specs.WellFormed.{wellFormed, parentsHeld}
+use Rattle.replica.specs.Outcome.{Outcome, outcome}
+use Rattle.replica.specs.Lists.{opened, openQuestions, openState, stateQuestions, askLeaders, askJournal, handLeaders, handJournal}
+use Rattle.replica.proofs.Calls.{leaders-some, journal-some}
+use Rattle.ordering.specs.Calls.{vertexQuestions, firstQuestions, noteQuestions}
+
+-- ---- an outcome
+
+module _ (why : Refusal) (l after : List ℕ) where
+  -- admitted
+  pub number-yes : numberOf why ≡ 0 → outcome why l after .number ≡ 0
+  unfolding outcome
+  number-yes e = ap (λ (o : Outcome). o .number) (cond-true _ _ (eq-eqb (numberOf why) 0 e))
+
+  -- its words are the new ones
+  pub words-yes : numberOf why ≡ 0 → outcome why l after .words ≡ after
+  unfolding outcome
+  words-yes e = ap (λ (o : Outcome). o .words) (cond-true _ _ (eq-eqb (numberOf why) 0 e))
+
+  -- refused
+  pub number-no : (numberOf why ≡ 0 → ⊥) → outcome why l after .number ≡ numberOf why
+  unfolding outcome
+  number-no d = ap (λ (o : Outcome). o .number) (cond-false _ _ (ne-eqb (numberOf why) 0 d))
+
+  -- its words stay
+  pub words-no : (numberOf why ≡ 0 → ⊥) → outcome why l after .words ≡ l
+  unfolding outcome
+  words-no d = ap (λ (o : Outcome). o .words) (cond-false _ _ (ne-eqb (numberOf why) 0 d))
+
+-- one or the other
+pub decided : (why : Refusal) → (numberOf why ≡ 0) ⊎ (numberOf why ≡ 0 → ⊥)
+decided why = ⊎-elim (λ e. inl (eqb-true _ 0 e)) (λ e. inr (eqb-false _ 0 e)) (which (eqb (numberOf why) 0))
+
+-- ---- the questions, all answered yes
+
+-- those of the state
+after-state : (l : List ℕ) (rest : List Question) → numberOf (firstNo (stateQuestions l ++ rest)) ≡ 0 → numberOf (firstNo rest) ≡ 0
+after-state l rest e = both-yes _ _ _ (eqb-false 3 0 refl) (both-yes _ _ _ (eqb-false 1 0 refl) e .1) .1
+
+-- if all are, so are the first ones
+front-yes : (xs ys : List Question) → numberOf (firstNo (xs ++ ys)) ≡ 0 → numberOf (firstNo xs) ≡ 0
+unfolding firstNo
+front-yes [] ys e = refl
+front-yes ((true, why) ∷ xs) ys e = front-yes xs ys e
+front-yes ((false, why) ∷ xs) ys e = e
+
+-- those of a record: no question refuses its body
+after-record : (n r p : ℕ) (body : List ℕ) (rest : List Question) → numberOf (firstNo (recordQuestions n r p body ++ rest)) ≡ 0
+    → (numberOf (bodyRefusal n r p body) ≡ 0) × (numberOf (firstNo rest) ≡ 0)
+unfolding bodyRefusal
+after-record n r p body rest e =
+    let q4 = both-yes _ _ _ (eqb-false 4 0 refl) e in
+    let q5 = both-yes _ _ _ (eqb-false 5 0 refl) (q4 .1) in
+    let q6 = both-yes _ _ _ (eqb-false 6 0 refl) (q5 .1) in
+    let q7 = both-yes _ _ _ (eqb-false 7 0 refl) (q6 .1) in
+    let q8 = both-yes _ _ _ (eqb-false 8 0 refl) (q7 .1) in
+    let q9 = both-yes _ _ _ (eqb-false 9 0 refl) (q8 .1) in
+    let q10 = both-yes _ _ _ (eqb-false 10 0 refl) (q9 .1) in
+    (front-yes (recordQuestions n r p body) rest e, both-yes _ _ _ (eqb-false 11 0 refl) (q10 .1) .1)
+
+-- a vertex that is admitted was not held, and its parents are
+pub vertex-yes : (l : List ℕ) (r p : ℕ) (body : List ℕ) → numberOf (firstNo (vertexQuestions l r p body)) ≡ 0
+    → (numberOf (bodyRefusal (memberCount l) r p body) ≡ 0) × (has (heldMask l r) p ≡ false) × (parentsHeld l r body ≡ true)
+vertex-yes l r p body e =
+    let a = after-record (memberCount l) r p body _ (after-state l _ e) in
+    let q12 = both-yes _ _ _ (eqb-false 12 0 refl) (a .1) in
+    let q13 = both-yes _ _ _ (eqb-false 13 0 refl) (q12 .1) in
+    (a .0, not-true _ (q13 .0), both-yes _ _ _ (eqb-false 14 0 refl) (q13 .1) .0)
+
+-- a first message that is admitted was not heard
+pub first-yes : (l : List ℕ) (r p : ℕ) (body : List ℕ) → numberOf (firstNo (firstQuestions l r p body)) ≡ 0
+    → (numberOf (bodyRefusal (memberCount l) r p body) ≡ 0) × (has (heardMask l r) p ≡ false)
+first-yes l r p body e =
+    let a = after-record (memberCount l) r p body _ (after-state l _ e) in
+    (a .0, not-true _ (both-yes _ _ _ (eqb-false 12 0 refl) (a .1) .0))
+
+-- a note that is admitted is of a round and a member
+pub note-yes : (l : List ℕ) (r p mask : ℕ) → numberOf (firstNo (noteQuestions l r p mask)) ≡ 0 → (1 ≤ r) × (r ≤ 32) × (p < memberCount l)
+note-yes l r p mask e =
+    let q5 = both-yes _ _ _ (eqb-false 5 0 refl) (after-state l _ e) in
+    let q6 = both-yes _ _ _ (eqb-false 6 0 refl) (q5 .1) in
+    let w = round-range r (q5 .0) in
+    (w .0, w .1, ltb-true _ _ (q6 .0))
+
+-- ---- opening
+
+-- those of opening
+legal-yes : (l : List ℕ) (n : ℕ) → numberOf (firstNo (openQuestions l n)) ≡ 0 → legal n ≡ true
+legal-yes l n e = both-yes _ _ _ (eqb-false 2 0 refl) (both-yes _ _ _ (eqb-false 1 0 refl) e .1) .0
+
+-- with answer 0: the member count is one of the five, and the words are those of an opened state
+pub open-yes : (l : List ℕ) (n : ℕ) → openState l n .number ≡ 0 → (legal n ≡ true) × (openState l n .words ≡ opened n)
+unfolding openState
+open-yes l n e = go (decided (firstNo (openQuestions l n)))
+  where
+    go : (numberOf (firstNo (openQuestions l n)) ≡ 0) ⊎ (numberOf (firstNo (openQuestions l n)) ≡ 0 → ⊥) → (legal n ≡ true) × (openState l n .words ≡ opened n)
+    go (inl d) = (legal-yes l n d, words-yes (firstNo (openQuestions l n)) l (opened n) d)
+    go (inr d) = absurd (d (sym (number-no (firstNo (openQuestions l n)) l (opened n) d) ∙ e))
+
+-- a state's words and a member count of the five: answer 0
+pub open-taken : (l : List ℕ) (n : ℕ) → length l ≡ 5864 → legal n ≡ true → openState l n .number ≡ 0
+unfolding openState
+open-taken l n size e = number-yes (firstNo (openQuestions l n)) l (opened n) (ap numberOf (sym (next _ _ (eq-eqb (length l) 5864 size) (next _ _ e done))))
+
+-- with another member count: the words stay
+pub open-no : (l : List ℕ) (n : ℕ) → legal n ≡ false → openState l n .words ≡ l
+unfolding openState
+open-no l n e = words-no (firstNo (openQuestions l n)) l (opened n) (λ d. never (legal-yes l n d) e)
+
+-- ---- handing over from entry 0
+
+module _ (l : List ℕ) (size : length l ≡ 5864) (formed : wellFormed l ≡ true) where
+  -- the leader list
+  pub hand-leaders : handLeaders l 0 ≡ leaderList l
+  hand-leaders = leaders-some l 0 asked
+    where
+      asked : numberOf (askLeaders l 0) ≡ 0
+      asked = unfold askLeaders in ap numberOf (sym (next _ _ (eq-eqb (length l) 5864 size) (next _ _ formed (next _ _ (le-leb 0 (leaderCount l) (omega arith)) done))))
+
+  -- the journal
+  pub hand-journal : handJournal l 0 ≡ journalList l
+  hand-journal = journal-some l 0 asked
+    where
+      asked : numberOf (askJournal l 0) ≡ 0
+      asked = unfold askJournal in ap numberOf (sym (next _ _ (eq-eqb (length l) 5864 size) (next _ _ formed (next _ _ (le-leb 0 (journalCount l) (omega arith)) done))))

@@ -1,0 +1,206 @@
+-- The agreement claim. Assumes nothing.
+use mathlib.Core.Path.{_≡_, refl, sym, ap, _∙_}
+use mathlib.Core.Bool.{Bool, true, false}
+use mathlib.Core.Logic.{_⊎_, inl, inr, ⊎-elim}
+use mathlib.Core.List.{List, [], _∷_, List·Memᴰ·tail}
+use Prim.Native.Nat.{ℕ, zero, suc, _-_, _≤_, _<_}
+use native.Mathlib.Omega.{arith}
+use borrow.Author.Tests.{not-true}
+use Rattle.record.specs.Members.{legal, leader}
+use Rattle.record.specs.Refusals.{numberOf, firstNo}
+use Rattle.record.specs.Layout.{roundOf, sourceOf, bodyOf}
+use Rattle.record.specs.declared.refusal.Refusal.{Refusal}
+use Rattle.record.proofs.Booleans.{and-left, and-right}
+use Rattle.protocol.specs.Dag.{recordsOf, present, votes, committed}
+use Rattle.protocol.proofs.Commit.{committed-cong}
+use Rattle.protocol.proofs.Agreement.{agreement}
+use Rattle.replica.specs.Layout.{timeoutsAt, noVotesAt}
+use Rattle.replica.specs.State.{committedRound, timeoutsMask, noVotesMask, leaderList, journalList, vertices, firsts, dag}
+use Rattle.replica.specs.Outcome.{outcome}
+use Rattle.replica.specs.Lists.{opened, openState}
+use Rattle.replica.proofs.Sound.{well-formed}
+use Rattle.replica.proofs.Opened.{opened-members, opened-word, opened-leaders, opened-journal, opened-vertices, opened-firsts, opened-sound}
+use Rattle.ordering.specs.Commit.{raiseRound, commitAll}
+use Rattle.ordering.specs.Calls.{addMember, putVertex, hear, vertexQuestions, firstQuestions, noteQuestions, takeBody, takeFirstBody, takeTimeout, takeNoVote}
+use Rattle.ordering.proofs.Steps.{not-led}
+use Rattle.ordering.proofs.Marks.{sound-raise, sound-timeout, sound-no-vote}
+use Rattle.agreement.specs.Call.{Call, opening, vertex, firstMessage, timeout, noVote, status, askLeaderList, askJournalList, handLeaderList, handJournalList, outcomeOf, run, allowed, allAllowed}
+use Rattle.agreement.specs.Model.{Model, empty, admit, follow, modelOf, dagOf}
+use Rattle.agreement.specs.Claim.{Premises, Matches, Agreed, AgreementClaim}
+use Rattle.agreement.proofs.Records.{records-none}
+use Rattle.agreement.proofs.Family.{Inside, inside-self, inside-then, Either, either-before, Part, partDag, family}
+use Rattle.agreement.proofs.Tracking.{at-open, at-leaders, at-journal}
+use Rattle.agreement.proofs.Asked.{number-yes, words-yes, number-no, words-no, decided, note-yes, open-yes, open-no, hand-leaders, hand-journal}
+use Rattle.ordering.proofs.Writing.{raise-calm, raise-alike, note-calm, note-alike}
+use Rattle.agreement.proofs.Following.{Follows, alike, at-cast, formed, follows-alike, vertex-follows, first-follows}
+
+-- ---- models only gain records
+
+-- by one call
+pub admit-more : (c : Call) (number : ℕ) (m : Model) → Inside m (admit c number m)
+admit-more (vertex rec) zero m = record { vertices = λ x h. List·Memᴰ·tail h; firsts = λ x h. h }
+admit-more (vertex rec) (suc number) m = inside-self m
+admit-more (firstMessage rec) zero m = record { vertices = λ x h. h; firsts = λ x h. List·Memᴰ·tail h }
+admit-more (firstMessage rec) (suc number) m = inside-self m
+admit-more (opening n) number m = inside-self m
+admit-more (timeout r p) number m = inside-self m
+admit-more (noVote r p) number m = inside-self m
+admit-more status number m = inside-self m
+admit-more (askLeaderList k) number m = inside-self m
+admit-more (askJournalList k) number m = inside-self m
+admit-more (handLeaderList k) number m = inside-self m
+admit-more (handJournalList k) number m = inside-self m
+
+-- by a list of calls
+pub follow-more : (calls : List Call) (m : Model) (l : List ℕ) → Inside m (follow m l calls)
+unfolding follow
+follow-more [] m l = inside-self m
+follow-more (c ∷ calls) m l = inside-then (admit-more c (outcomeOf c l .number) m) (follow-more calls (admit c (outcomeOf c l .number) m) (outcomeOf c l .words))
+
+-- a refused record does not join
+vertex-out : (rec : List ℕ) (number : ℕ) (m : Model) → (number ≡ 0 → ⊥) → admit (vertex rec) number m ≡ m
+vertex-out rec zero m d = absurd (d refl)
+vertex-out rec (suc number) m d = refl
+
+-- nor a first message
+first-out : (rec : List ℕ) (number : ℕ) (m : Model) → (number ≡ 0 → ⊥) → admit (firstMessage rec) number m ≡ m
+first-out rec zero m d = absurd (d refl)
+first-out rec (suc number) m d = refl
+
+-- ---- a state just opened
+
+-- it follows the empty model
+pub opened-follows : (n : ℕ) → legal n ≡ true → Follows n (opened n) empty
+opened-follows n g =
+    let S = opened-sound n g in
+    let same : (r p : ℕ) → vertices (opened n) r p ≡ recordsOf [] r p = λ r p. opened-vertices n r p ∙ sym (records-none r p) in
+    let none : (r p : ℕ) → firsts (opened n) r p ≡ recordsOf [] r p = λ r p. opened-firsts n r p ∙ sym (records-none r p) in
+    record {
+      holds = record {
+        sound = S;
+        members = opened-members n;
+        vertex = same;
+        first = λ r p. ap present (none r p);
+        vote = λ r p. ap (votes n (r - 1)) (none r p);
+        lists = at-cast (opened-word n 2 (omega arith)) (opened-leaders n) (opened-journal n) (at-open n (dagOf empty));
+      };
+      over = λ q x y. sym (not-led n (dag (opened n)) q (ap present (opened-vertices n q (leader n q))));
+    }
+
+-- ---- a call, and all calls
+
+module _ (n : ℕ) (a b : Model) (honest : ℕ → Bool) (g : legal n ≡ true) (P : Premises n a b honest) where
+  -- a note that was admitted
+  timeout-follows : (l : List ℕ) (m : Model) (r p : ℕ) → Follows n l m → numberOf (firstNo (noteQuestions l r p (timeoutsMask l r))) ≡ 0
+      → Follows n (raiseRound (addMember l (timeoutsAt r) p)) m
+  timeout-follows l m r p f e =
+      let w = note-yes l r p (timeoutsMask l r) e in
+      let k : List ℕ = addMember l (timeoutsAt r) p in
+      let S = sound-timeout l (f .holds .sound) r p (w .0) (w .1) (w .2) in
+      follows-alike n k (raiseRound k) m (raise-calm k) (sound-raise k S) (raise-alike k)
+      (follows-alike n l k m (note-calm l r 3 p (w .0) (w .1) (omega arith)) S (note-alike l r 3 p (w .0) (w .1) (omega arith) (omega arith)) f)
+
+  -- a no-vote
+  no-vote-follows : (l : List ℕ) (m : Model) (r p : ℕ) → Follows n l m → numberOf (firstNo (noteQuestions l r p (noVotesMask l r))) ≡ 0
+      → Follows n (addMember l (noVotesAt r) p) m
+  no-vote-follows l m r p f e =
+      let w = note-yes l r p (noVotesMask l r) e in
+      follows-alike n l (addMember l (noVotesAt r) p) m (note-calm l r 4 p (w .0) (w .1) (omega arith)) (sound-no-vote l (f .holds .sound) r p (w .0) (w .1) (w .2))
+      (note-alike l r 4 p (w .0) (w .1) (omega arith) (omega arith)) f
+
+  -- the model does not change
+  noted : (why : Refusal) (l after : List ℕ) (m : Model) → Follows n l m → (numberOf why ≡ 0 → Follows n after m) → Follows n (outcome why l after .words) m
+  noted why l after m f h = ⊎-elim (λ e. rw (words-yes why l after e) (h e)) (λ d. rw (words-no why l after d) f) (decided why)
+
+  -- one call
+  pub step : (c : Call) (l : List ℕ) (m : Model) → allowed c ≡ true → Follows n l m → Either a b m → Either a b (admit c (outcomeOf c l .number) m)
+      → Follows n (outcomeOf c l .words) (admit c (outcomeOf c l .number) m)
+  unfolding takeBody takeFirstBody takeTimeout takeNoVote
+  step (opening k) l m ok f i j = rw (open-no l k (not-true _ ok)) f
+  step (vertex rec) l m ok f i j = go (decided why) j
+    where
+      why : Refusal
+      why = firstNo (vertexQuestions l (roundOf rec) (sourceOf rec) (bodyOf rec))
+
+      after : List ℕ
+      after = commitAll (raiseRound (putVertex l (roundOf rec) (sourceOf rec) (bodyOf rec)))
+
+      go : (numberOf why ≡ 0) ⊎ (numberOf why ≡ 0 → ⊥) → Either a b (admit (vertex rec) (outcome why l after .number) m)
+          → Follows n (outcome why l after .words) (admit (vertex rec) (outcome why l after .number) m)
+      go (inl e) j = rw (words-yes why l after e, number-yes why l after e) (vertex-follows n a b honest g P l m rec (f .holds) e i (rw (number-yes why l after e) at j))
+      go (inr d) j = rw (words-no why l after d, number-no why l after d, vertex-out rec (numberOf why) m d) f
+  step (firstMessage rec) l m ok f i j = go (decided why) j
+    where
+      why : Refusal
+      why = firstNo (firstQuestions l (roundOf rec) (sourceOf rec) (bodyOf rec))
+
+      after : List ℕ
+      after = commitAll (hear l (roundOf rec) (sourceOf rec) (bodyOf rec))
+
+      go : (numberOf why ≡ 0) ⊎ (numberOf why ≡ 0 → ⊥) → Either a b (admit (firstMessage rec) (outcome why l after .number) m)
+          → Follows n (outcome why l after .words) (admit (firstMessage rec) (outcome why l after .number) m)
+      go (inl e) j = rw (words-yes why l after e, number-yes why l after e) (first-follows n a b honest g P l m rec (f .holds) e i (rw (number-yes why l after e) at j))
+      go (inr d) j = rw (words-no why l after d, number-no why l after d, first-out rec (numberOf why) m d) f
+  step (timeout r p) l m ok f i j = noted (firstNo (noteQuestions l r p (timeoutsMask l r))) l (raiseRound (addMember l (timeoutsAt r) p)) m f (timeout-follows l m r p f)
+  step (noVote r p) l m ok f i j = noted (firstNo (noteQuestions l r p (noVotesMask l r))) l (addMember l (noVotesAt r) p) m f (no-vote-follows l m r p f)
+  step status l m ok f i j = f
+  step (askLeaderList k) l m ok f i j = f
+  step (askJournalList k) l m ok f i j = f
+  step (handLeaderList k) l m ok f i j = f
+  step (handJournalList k) l m ok f i j = f
+
+  -- where the model of all calls lies within a or b, so does every one on the way
+  follows : (calls : List Call) (l : List ℕ) (m : Model) → allAllowed calls ≡ true → Follows n l m → Either a b (follow m l calls)
+      → Follows n (run l calls) (follow m l calls)
+  unfolding run follow allAllowed
+  follows [] l m ok f i = f
+  follows (c ∷ calls) l m ok f i =
+      let k : Model = admit c (outcomeOf c l .number) m in
+      let j : Either a b k = either-before (follow-more calls k (outcomeOf c l .words)) i in
+      follows calls (outcomeOf c l .words) k (and-right (allowed c) _ ok)
+      (step c l m (and-left (allowed c) _ ok) f (either-before (admit-more c (outcomeOf c l .number) m) j) j) i
+
+  -- ---- the lists that are handed over
+
+  module _ (l : List ℕ) (m : Model) (f : Follows n l m) where
+    -- no round of the model is left to commit
+    over-model : (q : ℕ) → committedRound l < q → q ≤ 31 → committed n (dagOf m) q ≡ false
+    over-model q x y = sym (committed-cong n (dag l) (dagOf m) (f .holds .vertex) (alike (f .holds)) q) ∙ f .over q x y
+
+    -- the lists are the model's
+    matches : Matches n l m
+    matches =
+        let S = f .holds .sound in
+        record {
+          leader-list = hand-leaders l (S .size) (well-formed l S)
+              ∙ at-leaders n (dagOf m) (committedRound l) (leaderList l) (journalList l) (f .holds .lists) (S .leaders .committed-high) over-model;
+          journal-list = hand-journal l (S .size) (well-formed l S)
+              ∙ at-journal n (dagOf m) (committedRound l) (leaderList l) (journalList l) (f .holds .lists) (S .leaders .committed-high) over-model;
+        }
+
+  -- and of both, one is a prefix of the other
+  agreed : (l k : List ℕ) → Follows n l a → Follows n k b → Agreed n l k a b
+  agreed l k f h =
+      let x = matches l a f in
+      let y = matches k b h in
+      let i : Part n a b = record { model = a; inside = inl (inside-self a); formed = formed n l a (f .holds .sound) (f .holds .members) (f .holds .vertex) } in
+      let j : Part n a b = record { model = b; inside = inr (inside-self b); formed = formed n k b (h .holds .sound) (h .holds .members) (h .holds .vertex) } in
+      let both = agreement n (partDag n a b) honest (family n a b honest g P) i j in
+      record {
+        first = x;
+        second = y;
+        leader-lists = rw (x .leader-list, y .leader-list) (⊎-elim (λ e. inl (e .0)) (λ e. inr (e .0)) both);
+        journals = rw (x .journal-list, y .journal-list) (⊎-elim (λ e. inl (e .1)) (λ e. inr (e .1)) both);
+      }
+
+-- THE CLAIM
+pub agreement-claim : AgreementClaim
+agreement-claim n u w eu ew calls others ok fine honest P =
+    let g = open-yes u n eu .0 in
+    let l = openState u n .words in
+    let k = openState w n .words in
+    let f : Follows n l empty = rw (open-yes u n eu .1) (opened-follows n g) in
+    let h : Follows n k empty = rw (open-yes w n ew .1) (opened-follows n g) in
+    agreed n (modelOf l calls) (modelOf k others) honest g P (run l calls) (run k others)
+    (follows n (modelOf l calls) (modelOf k others) honest g P calls l empty ok f (inl (inside-self _)))
+    (follows n (modelOf l calls) (modelOf k others) honest g P others k empty fine h (inr (inside-self _)))

@@ -1,0 +1,207 @@
+-- The model of a list of calls without any state: where what the model holds lets every call be taken, the calls make exactly this model. Assumes nothing.
+use mathlib.Core.Path.{_≡_, refl, sym, ap, _∙_}
+use mathlib.Core.Bool.{Bool, true, false, not, _&&_, _||_}
+use mathlib.Core.Logic.{⊎-elim}
+use mathlib.Core.List.{List, [], _∷_, _++_}
+use Prim.Native.Nat.{ℕ, _-_, _<_}
+use native.Mathlib.Omega.{arith}
+use lib.Dec.{eqb, ltb}
+use lib.ListN.{length}
+use borrow.Author.Tests.{eqb-true, eqb-false, eq-eqb, lt-ltb, not-true}
+use Rattle.record.specs.Below.{all}
+use Rattle.record.specs.Members.{legal, has, idRound, idMember}
+use Rattle.record.specs.Refusals.{numberOf, Question, firstNo}
+use Rattle.record.specs.Layout.{roundOf, sourceOf, bodyOf, strongOf, weakCountOf, weakOf}
+use Rattle.record.specs.Questions.{roundOk, recordQuestions, bodyRefusal}
+use Rattle.record.specs.Admitted.{Admitted}
+use Rattle.record.proofs.Booleans.{which, never, and-left, and-right, and-both, and-fails-left, cond-true}
+use Rattle.record.proofs.Below.{all-elim}
+use Rattle.record.proofs.Turn.{next, done, both-yes, admitted}
+use Rattle.protocol.specs.Dag.{Records, recordsOf, present, held}
+use Rattle.replica.specs.State.{memberCount, heldMask, heardMask, vertices, firsts}
+use Rattle.replica.specs.WellFormed.{isParent, parentsHeld}
+use Rattle.replica.specs.Lists.{stateQuestions}
+use Rattle.replica.proofs.Sound.{Sound, well-formed}
+use Rattle.replica.proofs.Dags.{held-vertex, held-id}
+use Rattle.replica.proofs.Parents.{round-in, parent-cases, parents-intro, weak-five}
+use Rattle.ordering.specs.Calls.{sameBody, vertexQuestions, firstQuestions, takeBody, takeFirstBody}
+use Rattle.agreement.specs.Call.{Call, opening, vertex, firstMessage, timeout, noVote, status, askLeaderList, askJournalList, handLeaderList, handJournalList, outcomeOf, allowed, allAllowed}
+use Rattle.agreement.specs.Model.{Model, admit, follow}
+use Rattle.agreement.specs.Claim.{Premises}
+use Rattle.agreement.proofs.Family.{Inside, inside-self, inside-then, Either, either-before}
+use Rattle.agreement.proofs.Asked.{number-yes}
+use Rattle.agreement.proofs.Following.{Holds, Follows}
+use Rattle.agreement.proofs.Claim.{admit-more, step}
+
+-- ---- by what the model holds
+
+-- all parents of a body of round r are in v
+unfoldable pub parentsIn : Records → ℕ → List ℕ → Bool
+parentsIn v r body =
+    all 16 (λ q. not (has (strongOf body) q) || held v (r - 1) q)
+    && all 5 (λ i. not (ltb i (weakCountOf body)) || held v (idRound (weakOf body i)) (idMember (weakOf body i)))
+
+-- the call is taken, or does not concern the model
+unfoldable pub taken : ℕ → Model → Call → Bool
+taken n m (vertex rec) =
+    eqb (numberOf (bodyRefusal n (roundOf rec) (sourceOf rec) (bodyOf rec))) 0
+    && (not (held (recordsOf (m .vertices)) (roundOf rec) (sourceOf rec)) && parentsIn (recordsOf (m .vertices)) (roundOf rec) (bodyOf rec))
+taken n m (firstMessage rec) =
+    eqb (numberOf (bodyRefusal n (roundOf rec) (sourceOf rec) (bodyOf rec))) 0 && not (present (recordsOf (m .firsts) (roundOf rec) (sourceOf rec)))
+taken n m (opening k) = not (legal k)
+taken n m (timeout r p) = true
+taken n m (noVote r p) = true
+taken n m status = true
+taken n m (askLeaderList k) = true
+taken n m (askJournalList k) = true
+taken n m (handLeaderList k) = true
+taken n m (handJournalList k) = true
+
+-- so for each of a list, after those before it
+unfoldable pub allTaken : ℕ → Model → List Call → Bool
+allTaken n m [] = true
+allTaken n m (c ∷ calls) = taken n m c && allTaken n (admit c 0 m) calls
+
+-- the model that they make
+unfoldable pub dry : Model → List Call → Model
+dry m [] = m
+dry m (c ∷ calls) = dry (admit c 0 m) calls
+
+-- ---- the questions of the calls
+
+-- a test that is met where it is wanted
+imp-elim : (a b : Bool) → (not a || b) ≡ true → a ≡ true → b ≡ true
+imp-elim true b e h = e
+imp-elim false b e h = never h refl
+
+-- a member that was heard has a first message
+heard-there : (l : List ℕ) (r p : ℕ) → (roundOk r && has (heardMask l r) p) ≡ true → present (firsts l r p) ≡ true
+unfolding firsts
+heard-there l r p e = ap present (cond-true _ _ e)
+
+-- an admitted record's questions are passed over
+past-record : (n r p : ℕ) (body : List ℕ) (rest : List Question) → numberOf (bodyRefusal n r p body) ≡ 0 → firstNo rest ≡ firstNo (recordQuestions n r p body ++ rest)
+unfolding bodyRefusal
+past-record n r p body rest e =
+    let q4 = both-yes _ _ _ (eqb-false 4 0 refl) e in
+    let q5 = both-yes _ _ _ (eqb-false 5 0 refl) (q4 .1) in
+    let q6 = both-yes _ _ _ (eqb-false 6 0 refl) (q5 .1) in
+    let q7 = both-yes _ _ _ (eqb-false 7 0 refl) (q6 .1) in
+    let q8 = both-yes _ _ _ (eqb-false 8 0 refl) (q7 .1) in
+    let q9 = both-yes _ _ _ (eqb-false 9 0 refl) (q8 .1) in
+    let q10 = both-yes _ _ _ (eqb-false 10 0 refl) (q9 .1) in
+    let q11 = both-yes _ _ _ (eqb-false 11 0 refl) (q10 .1) in
+    next _ _ (q4 .0) (next _ _ (q5 .0) (next _ _ (q6 .0) (next _ _ (q7 .0) (next _ _ (q8 .0) (next _ _ (q9 .0) (next _ _ (q10 .0) (next _ _ (q11 .0) refl)))))))
+
+-- and those of a sound state
+past-state : (l : List ℕ) (rest : List Question) → Sound l → firstNo rest ≡ firstNo (stateQuestions l ++ rest)
+past-state l rest S = next _ _ (eq-eqb (length l) 5864 (S .size)) (next _ _ (well-formed l S) refl)
+
+module _ (n : ℕ) (l : List ℕ) (m : Model) (h : Holds n l m) (r p : ℕ) (body : List ℕ) (ok : numberOf (bodyRefusal n r p body) ≡ 0) where
+  -- the vertices
+  abbrev v : Records
+  v = recordsOf (m .vertices)
+
+  -- what admission says of the record
+  A : Admitted (memberCount l) r p body
+  A = admitted (memberCount l) r p body (rw (h .members) ok)
+
+  -- the questions of the state and the record are passed over
+  in-record : (rest : List Question) → firstNo rest ≡ firstNo (stateQuestions l ++ (recordQuestions (memberCount l) r p body ++ rest))
+  in-record rest = past-record (memberCount l) r p body rest (rw (h .members) ok) ∙ past-state l _ (h .sound)
+
+  -- a parent is held in the model
+  held-in : (y : ℕ) → parentsIn (recordsOf (m .vertices)) r body ≡ true → isParent r body y ≡ true → held (recordsOf (m .vertices)) (idRound y) (idMember y) ≡ true
+  unfolding parentsIn
+  held-in y e d = ⊎-elim
+      (λ w.
+      let z : r - 1 ≡ idRound y = omega (arith, w .0) in
+      ap (λ (t : ℕ). held v t (idMember y)) (sym z)
+      ∙ imp-elim (has (strongOf body) (idMember y)) _
+      (all-elim 16 (λ q. not (has (strongOf body) q) || held v (r - 1) q) (and-left _ _ e) (idMember y) (omega arith)) (w .1))
+      (λ w.
+      let k : w .0 < 5 = omega (arith, w .1, weak-five (memberCount l) r p l body (h .sound .front .members) A) in
+      ap (λ (t : ℕ). held v (idRound t) (idMember t)) (sym (w .2))
+      ∙ imp-elim (ltb (w .0) (weakCountOf body)) _ (all-elim 5 (λ i. not (ltb i (weakCountOf body)) || held v (idRound (weakOf body i)) (idMember (weakOf body i)))
+      (and-right (all 16 (λ q. not (has (strongOf body) q) || held v (r - 1) q)) _ e) (w .0) k) (lt-ltb (w .0) (weakCountOf body) (w .1)))
+      (parent-cases r body y d)
+
+  -- a vertex has the number 0
+  vertex-passes : held (recordsOf (m .vertices)) r p ≡ false → parentsIn (recordsOf (m .vertices)) r body ≡ true → numberOf (firstNo (vertexQuestions l r p body)) ≡ 0
+  vertex-passes new there =
+      let few : p < 16 = omega (arith, A .source-low, h .sound .front .high) in
+      let free : (roundOk r && has (heldMask l r) p) ≡ false = sym (held-vertex l (h .sound .size) r p few) ∙ ap present (h .vertex r p) ∙ new in
+      let off : has (heldMask l r) p ≡ false = rw (round-in r (A .round-low) (A .round-high)) at free in
+      let parents : parentsHeld l r body ≡ true = parents-intro l r body
+      (λ y b d. held-id l (h .sound .size) y ∙ ap present (h .vertex (idRound y) (idMember y)) ∙ held-in y there d) in
+      ap numberOf (sym (next _ _ (ap not (and-fails-left (sameBody l r p body) off)) (next _ _ (ap not off) (next _ _ parents done)) ∙ in-record _))
+
+  -- a first message has the number 0
+  first-passes : present (recordsOf (m .firsts) r p) ≡ false → numberOf (firstNo (firstQuestions l r p body)) ≡ 0
+  first-passes new = ap numberOf (sym (next _ _ (ap not off) done ∙ in-record _))
+    where
+      off : has (heardMask l r) p ≡ false
+      off = ⊎-elim (λ d. never (heard-there l r p (and-both (round-in r (A .round-low) (A .round-high)) d)) (h .first r p ∙ new)) (λ d. d) (which (has (heardMask l r) p))
+
+-- ---- the model
+
+module _ (n : ℕ) (l : List ℕ) (m : Model) (h : Holds n l m) where
+  -- a record that is taken has the number 0; of other calls the number does not matter
+  admit-taken : (c : Call) → taken n m c ≡ true → admit c (outcomeOf c l .number) m ≡ admit c 0 m
+  unfolding taken takeBody takeFirstBody
+  admit-taken (vertex rec) e =
+      let ok : numberOf (bodyRefusal n (roundOf rec) (sourceOf rec) (bodyOf rec)) ≡ 0 = eqb-true _ 0 (and-left _ _ e) in
+      let rest = and-right (eqb (numberOf (bodyRefusal n (roundOf rec) (sourceOf rec) (bodyOf rec))) 0) _ e in
+      ap (λ (k : ℕ). admit (vertex rec) k m) (number-yes _ l _ (vertex-passes n l m h (roundOf rec) (sourceOf rec) (bodyOf rec) ok (not-true _ (and-left _ _ rest))
+      (and-right (not (held (recordsOf (m .vertices)) (roundOf rec) (sourceOf rec))) _ rest)))
+  admit-taken (firstMessage rec) e =
+      let ok : numberOf (bodyRefusal n (roundOf rec) (sourceOf rec) (bodyOf rec)) ≡ 0 = eqb-true _ 0 (and-left _ _ e) in
+      ap (λ (k : ℕ). admit (firstMessage rec) k m) (number-yes _ l _ (first-passes n l m h (roundOf rec) (sourceOf rec) (bodyOf rec) ok
+      (not-true _ (and-right (eqb (numberOf (bodyRefusal n (roundOf rec) (sourceOf rec) (bodyOf rec))) 0) _ e))))
+  admit-taken (opening k) e = refl
+  admit-taken (timeout r p) e = refl
+  admit-taken (noVote r p) e = refl
+  admit-taken status e = refl
+  admit-taken (askLeaderList k) e = refl
+  admit-taken (askJournalList k) e = refl
+  admit-taken (handLeaderList k) e = refl
+  admit-taken (handJournalList k) e = refl
+
+-- such a call is no opening that succeeds
+taken-allowed : (n : ℕ) (m : Model) (c : Call) → taken n m c ≡ true → allowed c ≡ true
+unfolding taken
+taken-allowed n m (vertex rec) e = refl
+taken-allowed n m (firstMessage rec) e = refl
+taken-allowed n m (opening k) e = e
+taken-allowed n m (timeout r p) e = refl
+taken-allowed n m (noVote r p) e = refl
+taken-allowed n m status e = refl
+taken-allowed n m (askLeaderList k) e = refl
+taken-allowed n m (askJournalList k) e = refl
+taken-allowed n m (handLeaderList k) e = refl
+taken-allowed n m (handJournalList k) e = refl
+
+-- so for a list
+pub all-allowed : (n : ℕ) (calls : List Call) (m : Model) → allTaken n m calls ≡ true → allAllowed calls ≡ true
+unfolding allTaken allAllowed
+all-allowed n [] m e = refl
+all-allowed n (c ∷ calls) m e = and-both (taken-allowed n m c (and-left _ _ e)) (all-allowed n calls (admit c 0 m) (and-right (taken n m c) _ e))
+
+-- no record is lost
+dry-more : (calls : List Call) (m : Model) → Inside m (dry m calls)
+unfolding dry
+dry-more [] m = inside-self m
+dry-more (c ∷ calls) m = inside-then (admit-more c 0 m) (dry-more calls (admit c 0 m))
+
+module _ (n : ℕ) (a b : Model) (honest : ℕ → Bool) (g : legal n ≡ true) (P : Premises n a b honest) where
+  -- the calls on a state that follows m make the model that they make of m alone
+  pub dry-follow : (calls : List Call) (l : List ℕ) (m : Model) → Follows n l m → allTaken n m calls ≡ true → Either a b (dry m calls) → follow m l calls ≡ dry m calls
+  unfolding allTaken dry follow
+  dry-follow [] l m f e i = refl
+  dry-follow (c ∷ calls) l m f e i =
+      let t : taken n m c ≡ true = and-left _ _ e in
+      let same : admit c (outcomeOf c l .number) m ≡ admit c 0 m = admit-taken n l m (f .holds) c t in
+      let j : Either a b (admit c 0 m) = either-before (dry-more calls (admit c 0 m)) i in
+      let k : Either a b m = either-before (admit-more c 0 m) j in
+      let f′ : Follows n (outcomeOf c l .words) (admit c 0 m) = rw same at (step n a b honest g P c l m (taken-allowed n m c t) f k (rw same j)) in
+      ap (λ (x : Model). follow x (outcomeOf c l .words) calls) same ∙ dry-follow calls (outcomeOf c l .words) (admit c 0 m) f′ (and-right (taken n m c) _ e) i

@@ -1,0 +1,303 @@
+-- A state follows its model: both hold the same, and the lists are those of the committed round. Assumes nothing.
+use mathlib.Core.Path.{_≡_, refl, sym, ap, ap₂, _∙_}
+use mathlib.Core.Bool.{Bool, true, false, _&&_}
+use mathlib.Core.Logic.{_⊎_, inl, inr, ⊎-elim}
+use mathlib.Core.List.{List, [], _∷_, _++_, map}
+use Prim.Native.Nat.{ℕ, zero, suc, _+_, _-_, _^_, _≤_, _<_}
+use native.Mathlib.Omega.{arith}
+use lib.Dec.{eqb, ltb}
+use lib.ListN.{length}
+use borrow.Author.Tests.{ltb-true, ltb-false}
+use Rattle.record.specs.Members.{legal, has}
+use Rattle.record.specs.Refusals.{numberOf, firstNo}
+use Rattle.record.specs.Layout.{roundOf, sourceOf, bodyOf}
+use Rattle.record.specs.Questions.{roundOk}
+use Rattle.record.specs.Admitted.{Admitted}
+use Rattle.record.proofs.Booleans.{which, never, and-fails-right, cond-false}
+use Rattle.record.proofs.Below.{least-sat, least-off}
+use Rattle.record.proofs.Turn.{admitted}
+use Rattle.protocol.specs.Dag.{Records, Dag, recordsOf, present, held, votes, committed}
+use Rattle.protocol.specs.Chain.{chain, leaderId}
+use Rattle.protocol.specs.Journal.{extend}
+use Rattle.protocol.specs.Premises.{WellFormed}
+use Rattle.protocol.proofs.Laws.{records-ext}
+use Rattle.protocol.proofs.Commit.{committed-cong}
+use Rattle.replica.specs.State.{memberCount, committedRound, heldMask, heardMask, votesMask, leaderList, journalList, vertices, firsts, dag}
+use Rattle.replica.proofs.Words.{legal-pow}
+use Rattle.replica.proofs.Sound.{Sound}
+use Rattle.replica.proofs.Dags.{held-vertex, dag-well-formed}
+use Rattle.ordering.specs.Commit.{commit, committable, lowest, commitUpTo, raiseRound}
+use Rattle.ordering.specs.Calls.{putVertex, hear, vertexQuestions, firstQuestions}
+use Rattle.ordering.proofs.Steps.{committable-at}
+use Rattle.ordering.proofs.Frame.{Alike, vertices-same, firsts-same}
+use Rattle.ordering.proofs.Frames.{lists-members}
+use Rattle.ordering.proofs.Growing.{grown, commit-vertices, commit-firsts, commit-round, commit-leaders, commit-journal}
+use Rattle.ordering.proofs.Marks.{sound-raise, sound-put, sound-hear}
+use Rattle.ordering.proofs.Kept.{sound-commit, committable-round}
+use Rattle.agreement.specs.Model.{Model, dagOf}
+use Rattle.agreement.specs.Claim.{Premises}
+use Rattle.agreement.proofs.Records.{records-here, records-there, by-record, records-more}
+use Rattle.agreement.proofs.Family.{Either, Part, partDag, family}
+use Rattle.agreement.proofs.Tracking.{At, at-grow, at-commit}
+use Rattle.agreement.proofs.Asked.{vertex-yes, first-yes}
+use Rattle.ordering.proofs.Writing.{Calm, calm-members, calm-committed, calm-leaders, calm-journal, raise-calm, raise-alike, hear-calm, hear-vertices, hear-other, hear-here, hear-vote, put-calm, put-firsts, put-here, put-other}
+
+-- the state l holds what the model m does
+pub record Holds (n : ℕ) (l : List ℕ) (m : Model) : Type 0 where
+  pub sound : Sound l
+  pub members : memberCount l ≡ n
+  pub vertex : (r p : ℕ) → vertices l r p ≡ recordsOf (m .vertices) r p
+  pub first : (r p : ℕ) → present (firsts l r p) ≡ present (recordsOf (m .firsts) r p)
+  pub vote : (r p : ℕ) → votes n (r - 1) (firsts l r p) ≡ votes n (r - 1) (recordsOf (m .firsts) r p)
+  -- the lists are those of the committed round
+  pub lists : At n (dagOf m) (committedRound l) (leaderList l) (journalList l)
+
+-- the votes for the leader of round r
+pub alike : {n : ℕ} {l : List ℕ} {m : Model} → Holds n l m → (r p : ℕ) → votes n r (firsts l (suc r) p) ≡ votes n r (recordsOf (m .firsts) (suc r) p)
+alike h r p = let e : suc r - 1 ≡ r = omega arith in rw e at (h .vote (suc r) p)
+
+-- no round is left to commit
+abbrev pub Over : ℕ → List ℕ → Type 0
+Over n l = (q : ℕ) → committedRound l < q → q ≤ 31 → committed n (dag l) q ≡ false
+
+pub record Follows (n : ℕ) (l : List ℕ) (m : Model) : Type 0 where
+  pub holds : Holds n l m
+  pub over : Over n l
+
+-- the lists of equal states
+pub at-cast : {n : ℕ} {d : Dag} {c k : ℕ} {L M I J : List ℕ} → k ≡ c → M ≡ L → J ≡ I → At n d c L I → At n d k M J
+at-cast e f g a = rw (e, f, g) a
+
+-- the vertices of the model are well formed
+pub formed : (n : ℕ) (l : List ℕ) (m : Model) → Sound l → memberCount l ≡ n → ((r p : ℕ) → vertices l r p ≡ recordsOf (m .vertices) r p)
+    → WellFormed n (recordsOf (m .vertices))
+formed n l m S e same = rw (e, records-ext (vertices l) (recordsOf (m .vertices)) same) at (dag-well-formed l S)
+
+-- where a member was not heard there is no first message
+first-none : (l : List ℕ) (r p : ℕ) → has (heardMask l r) p ≡ false → present (firsts l r p) ≡ false
+unfolding firsts
+first-none l r p e = ap present (cond-false _ _ (and-fails-right (roundOk r) e))
+
+-- ---- changes that leave all this
+
+module _ (n : ℕ) (l k : List ℕ) (m : Model) (C : Calm l k) (S : Sound k) where
+  -- the lists
+  calm-lists : Sound l → At n (dagOf m) (committedRound l) (leaderList l) (journalList l) → At n (dagOf m) (committedRound k) (leaderList k) (journalList k)
+  calm-lists s a = at-cast (calm-committed C) (calm-leaders C (s .leaders .few)) (calm-journal C (s .journal .few)) a
+
+  module _ (A : Alike l k) where
+    -- and what is held
+    pub holds-alike : Holds n l m → Holds n k m
+    holds-alike h = record {
+      sound = S;
+      members = calm-members C ∙ h .members;
+      vertex = λ r p. ap (λ (v : Records). v r p) (vertices-same A) ∙ h .vertex r p;
+      first = λ r p. ap (λ (v : Records). present (v r p)) (firsts-same A) ∙ h .first r p;
+      vote = λ r p. ap (λ (v : Records). votes n (r - 1) (v r p)) (firsts-same A) ∙ h .vote r p;
+      lists = calm-lists (h .sound) (h .lists);
+    }
+
+    -- and that no round is left
+    pub follows-alike : Follows n l m → Follows n k m
+    follows-alike f = record {
+      holds = holds-alike (f .holds);
+      over = λ q a b.
+          ap₂ (λ (v w : Records). committed n (record { vertex = v; first = w }) q) (vertices-same A) (firsts-same A) ∙ f .over q (omega (arith, calm-committed C)) b;
+    }
+
+-- ---- over the family of models within a or within b
+
+module _ (n : ℕ) (a b : Model) (honest : ℕ → Bool) (g : legal n ≡ true) (P : Premises n a b honest) where
+  -- a model that a state holds is one of the family
+  abbrev part : (l : List ℕ) (m : Model) → Either a b m → Holds n l m → Part n a b
+  part l m i h = record { model = m; inside = i; formed = formed n l m (h .sound) (h .members) (h .vertex) }
+
+  -- ---- a commit
+
+  module _ (l : List ℕ) (m : Model) (i : Either a b m) (h : Holds n l m) (q : ℕ) (c : committable l q ≡ true) where
+    -- what is held stays, and the lists grow to those of round q
+    commit-holds : Holds n (commit l q) m
+    commit-holds =
+        let w = committable-round l q c in
+        let S = h .sound in
+        let v = records-ext (vertices l) (recordsOf (m .vertices)) (h .vertex) in
+        let there : committed n (dagOf m) q ≡ true = sym (committed-cong n (dag l) (dagOf m) (h .vertex) (alike h) q) ∙ (rw (h .members) at (w .2)) in
+        record {
+          sound = sound-commit l S q (w .0) (w .1) (w .3);
+          members = lists-members l (commit l q) (grown l S q (w .0) (w .1) (w .3) .kept) ∙ h .members;
+          vertex = λ r p. ap (λ (x : Records). x r p) (commit-vertices l S q (w .0) (w .1) (w .3)) ∙ h .vertex r p;
+          first = λ r p. ap (λ (x : Records). present (x r p)) (commit-firsts l S q (w .0) (w .1) (w .3)) ∙ h .first r p;
+          vote = λ r p. ap (λ (x : Records). votes n (r - 1) (x r p)) (commit-firsts l S q (w .0) (w .1) (w .3)) ∙ h .vote r p;
+          lists = at-cast (commit-round l S q (w .0) (w .1) (w .3))
+              (commit-leaders l S q (w .0) (w .1) (w .3)
+              ∙ ap₂ (λ (k : ℕ) (x : Records). leaderList l ++ map (leaderId k) (chain k x (committedRound l) q)) (h .members) v)
+              (commit-journal l S q (w .0) (w .1) (w .3)
+              ∙ ap₂ (λ (k : ℕ) (x : Records). extend k x (journalList l) (chain k x (committedRound l) q)) (h .members) v)
+              (at-commit n (partDag n a b) honest (family n a b honest g P) (part l m i h) (committedRound l) q (leaderList l) (journalList l) (h .lists)
+              (omega (arith, w .0)) there);
+        }
+
+    -- the committed round rises
+    raised : committedRound l < committedRound (commit l q)
+    raised = let w = committable-round l q c in rw (commit-round l (h .sound) q (w .0) (w .1) (w .3)) (w .0)
+
+  -- all commits: then no round is left
+  pub commits : (k : ℕ) (l : List ℕ) (m : Model) → Either a b m → Holds n l m → 31 ≤ k + committedRound l → Follows n (commitUpTo l k) m
+  unfolding commitUpTo
+  commits zero l m i h e = record { holds = h; over = λ q x y. absurd (omega arith) }
+  commits (suc k) l m i h e = go (which (ltb (lowest l) 32)) (commits k (commit l (lowest l)) m i)
+    where
+      go : (ltb (lowest l) 32 ≡ true) ⊎ (ltb (lowest l) 32 ≡ false)
+          → (Holds n (commit l (lowest l)) m → 31 ≤ k + committedRound (commit l (lowest l)) → Follows n (commitUpTo (commit l (lowest l)) k) m)
+          → Follows n (commitUpTo l (suc k)) m
+      go (inl d) ih =
+          let c = least-sat 32 (committable l) (ltb-true _ _ d) in
+          rw d (ih (commit-holds l m i h (lowest l) c) (omega (arith, raised l m i h (lowest l) c)))
+      go (inr d) ih = rw d (record {
+        holds = h;
+        over = λ q x y. committable-at l n q (sym (h .members)) x y ∙ least-off 32 (committable l) q (omega (arith, ltb-false (lowest l) 32 d));
+      })
+
+  -- ---- an admitted vertex
+
+  module _ (l : List ℕ) (m : Model) (rec : List ℕ) (h : Holds n l m) (ok : numberOf (firstNo (vertexQuestions l (roundOf rec) (sourceOf rec) (bodyOf rec))) ≡ 0) where
+    -- the model with it
+    abbrev more : Model
+    more = record { vertices = rec ∷ m .vertices; firsts = m .firsts }
+
+    -- the state with it
+    abbrev put : List ℕ
+    put = putVertex l (roundOf rec) (sourceOf rec) (bodyOf rec)
+
+    -- what admission says of it
+    A : Admitted (memberCount l) (roundOf rec) (sourceOf rec) (bodyOf rec)
+    A = admitted (memberCount l) (roundOf rec) (sourceOf rec) (bodyOf rec) (vertex-yes l (roundOf rec) (sourceOf rec) (bodyOf rec) ok .0)
+
+    -- its source is a member
+    few : sourceOf rec < 16
+    few = omega (arith, A .source-low, h .sound .front .high)
+
+    -- the state stays sound
+    put-sound : Sound put
+    put-sound = let w = vertex-yes l (roundOf rec) (sourceOf rec) (bodyOf rec) ok in sound-put l (h .sound) (roundOf rec) (sourceOf rec) (bodyOf rec) (w .0) (w .2)
+
+    -- the lists stay
+    calm : Calm l put
+    calm = put-calm l (roundOf rec) (sourceOf rec) (bodyOf rec) (h .sound .size) (A .round-low) (A .round-high) few (A .size)
+
+    -- there was none of its round and source
+    new : held (recordsOf (m .vertices)) (roundOf rec) (sourceOf rec) ≡ false
+    new =
+        ap present (sym (h .vertex (roundOf rec) (sourceOf rec))) ∙ held-vertex l (h .sound .size) (roundOf rec) (sourceOf rec) few
+        ∙ and-fails-right (roundOk (roundOf rec)) (vertex-yes l (roundOf rec) (sourceOf rec) (bodyOf rec) ok .1)
+
+    -- the vertices are those of the model
+    put-vertex : (s q : ℕ) → vertices put s q ≡ recordsOf (rec ∷ m .vertices) s q
+    put-vertex = by-record rec (λ s q. vertices put s q ≡ recordsOf (rec ∷ m .vertices) s q)
+        (put-here l (roundOf rec) (sourceOf rec) (bodyOf rec) (h .sound .size) (A .round-low) (A .round-high) few (A .size) ∙ sym (records-here rec (m .vertices)))
+        (λ s q e. put-other l (roundOf rec) (sourceOf rec) (bodyOf rec) (h .sound .size) (A .round-low) (A .round-high) few (A .size) small s q e
+        ∙ h .vertex s q ∙ sym (records-there rec (m .vertices) s q e))
+      where
+        small : (t : ℕ) → 1 ≤ t → t ≤ 32 → heldMask l t < 2 ^ 16
+        small t x y = legal-pow (memberCount l) (heldMask l t) (h .sound .front .members) (h .sound .masks .held-low t x y)
+
+    -- the state holds it then
+    vertex-holds : Either a b m → Either a b more → Holds n put more
+    vertex-holds i j =
+        let j′ : Part n a b = record { model = more; inside = j; formed = formed n put more put-sound (calm-members calm ∙ h .members) put-vertex } in
+        record {
+          sound = put-sound;
+          members = calm-members calm ∙ h .members;
+          vertex = put-vertex;
+          first = λ s q. ap present (stay s q) ∙ h .first s q;
+          vote = λ s q. ap (votes n (s - 1)) (stay s q) ∙ h .vote s q;
+          lists = calm-lists n l put more calm put-sound (h .sound)
+              (at-grow n (partDag n a b) honest (family n a b honest g P) (part l m i h) j′ (committedRound l) (leaderList l) (journalList l)
+              (record { vertices = records-more rec (m .vertices) new; firsts = λ s q e. refl }) (h .lists));
+        }
+      where
+        stay : (s q : ℕ) → firsts put s q ≡ firsts l s q
+        stay = put-firsts l (roundOf rec) (sourceOf rec) (bodyOf rec) (h .sound .size) (A .round-low) (A .round-high) few (A .size)
+
+    -- and follows the model after all commits
+    pub vertex-follows : Either a b m → Either a b more → Follows n (commitUpTo (raiseRound put) 31) more
+    vertex-follows i j = commits 31 (raiseRound put) more j
+        (holds-alike n put (raiseRound put) more (raise-calm put) (sound-raise put put-sound) (raise-alike put) (vertex-holds i j)) (omega arith)
+
+  -- ---- an admitted first message
+
+  module _ (l : List ℕ) (m : Model) (rec : List ℕ) (h : Holds n l m) (ok : numberOf (firstNo (firstQuestions l (roundOf rec) (sourceOf rec) (bodyOf rec))) ≡ 0) where
+    -- the model with it
+    abbrev further : Model
+    further = record { vertices = m .vertices; firsts = rec ∷ m .firsts }
+
+    -- the state with it
+    abbrev after : List ℕ
+    after = hear l (roundOf rec) (sourceOf rec) (bodyOf rec)
+
+    -- what admission says of it
+    B : Admitted (memberCount l) (roundOf rec) (sourceOf rec) (bodyOf rec)
+    B = admitted (memberCount l) (roundOf rec) (sourceOf rec) (bodyOf rec) (first-yes l (roundOf rec) (sourceOf rec) (bodyOf rec) ok .0)
+
+    -- the state stays sound
+    heard-sound : Sound after
+    heard-sound = sound-hear l (h .sound) (roundOf rec) (sourceOf rec) (bodyOf rec) B
+
+    -- the lists stay
+    heard-calm : Calm l after
+    heard-calm = hear-calm l (roundOf rec) (sourceOf rec) (bodyOf rec) (h .sound .size) (B .round-low) (B .round-high)
+
+    -- there was none of its round and source, and no vote of it
+    unheard : has (heardMask l (roundOf rec)) (sourceOf rec) ≡ false
+    unheard = first-yes l (roundOf rec) (sourceOf rec) (bodyOf rec) ok .1
+
+    -- nor in the model
+    none : present (recordsOf (m .firsts) (roundOf rec) (sourceOf rec)) ≡ false
+    none = sym (h .first (roundOf rec) (sourceOf rec)) ∙ first-none l (roundOf rec) (sourceOf rec) unheard
+
+    -- it had no vote
+    voteless : has (votesMask l (roundOf rec)) (sourceOf rec) ≡ false
+    voteless = ⊎-elim (λ e. never (h .sound .masks .votes-heard (roundOf rec) (sourceOf rec) (B .round-low) (B .round-high) e) unheard) (λ e. e)
+        (which (has (votesMask l (roundOf rec)) (sourceOf rec)))
+
+    -- the others stay
+    other : (s q : ℕ) → (eqb (roundOf rec) s && eqb (sourceOf rec) q) ≡ false → firsts after s q ≡ firsts l s q
+    other = hear-other l (roundOf rec) (sourceOf rec) (bodyOf rec) (h .sound .size) (B .round-low) (B .round-high)
+
+    -- the first messages are those of the model
+    heard-first : (s q : ℕ) → present (firsts after s q) ≡ present (recordsOf (rec ∷ m .firsts) s q)
+    heard-first = by-record rec (λ s q. present (firsts after s q) ≡ present (recordsOf (rec ∷ m .firsts) s q))
+        (hear-here l (roundOf rec) (sourceOf rec) (bodyOf rec) (h .sound .size) (B .round-low) (B .round-high)
+        ∙ sym (long (bodyOf rec) (B .size)) ∙ ap present (sym (records-here rec (m .firsts))))
+        (λ s q e. ap present (other s q e) ∙ h .first s q ∙ ap present (sym (records-there rec (m .firsts) s q e)))
+      where
+        long : (body : List ℕ) → length body ≡ 10 → present body ≡ true
+        long [] e = absurd (omega arith)
+        long (w ∷ body) e = refl
+
+    -- and so are their votes
+    heard-vote : (s q : ℕ) → votes n (s - 1) (firsts after s q) ≡ votes n (s - 1) (recordsOf (rec ∷ m .firsts) s q)
+    heard-vote = by-record rec (λ s q. votes n (s - 1) (firsts after s q) ≡ votes n (s - 1) (recordsOf (rec ∷ m .firsts) s q))
+        (hear-vote l (roundOf rec) (sourceOf rec) (bodyOf rec) (h .sound .size) (B .round-low) (B .round-high) voteless n (sym (h .members))
+        ∙ ap (votes n (roundOf rec - 1)) (sym (records-here rec (m .firsts))))
+        (λ s q e. ap (votes n (s - 1)) (other s q e) ∙ h .vote s q ∙ ap (votes n (s - 1)) (sym (records-there rec (m .firsts) s q e)))
+
+    -- the state holds it then
+    first-holds : Either a b m → Either a b further → Holds n after further
+    first-holds i j =
+        let j′ : Part n a b = record { model = further; inside = j; formed = formed n l m (h .sound) (h .members) (h .vertex) } in
+        record {
+          sound = heard-sound;
+          members = calm-members heard-calm ∙ h .members;
+          vertex = λ s q.
+              ap (λ (v : Records). v s q) (hear-vertices l (roundOf rec) (sourceOf rec) (bodyOf rec) (h .sound .size) (B .round-low) (B .round-high)) ∙ h .vertex s q;
+          first = heard-first;
+          vote = heard-vote;
+          lists = calm-lists n l after further heard-calm heard-sound (h .sound)
+              (at-grow n (partDag n a b) honest (family n a b honest g P) (part l m i h) j′ (committedRound l) (leaderList l) (journalList l)
+              (record { vertices = λ s q e. refl; firsts = records-more rec (m .firsts) none }) (h .lists));
+        }
+
+    -- and follows the model after all commits
+    pub first-follows : Either a b m → Either a b further → Follows n (commitUpTo after 31) further
+    first-follows i j = commits 31 after further j (first-holds i j) (omega arith)

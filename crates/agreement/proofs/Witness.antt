@@ -1,0 +1,246 @@
+-- The witness: the models by the dry run, and the premises by tests over their records. Assumes nothing.
+use mathlib.Core.Path.{_≡_, refl, sym, ap, ap₂, _∙_}
+use mathlib.Core.Bool.{Bool, true, false, not, _&&_, _||_, false≢true}
+use mathlib.Core.Logic.{_⊎_, inl, inr, ⊎-elim}
+use mathlib.Core.List.{List, [], _∷_, _++_, Memᴰ·append-left, Memᴰ·append-right, List·Memᴰ·cases-cons, List·Memᴰ·not-nil}
+use Prim.Native.Nat.{ℕ, _-_}
+use lib.Count.{ones}
+use lib.Dec.{eqb, lit≤}
+use borrow.Author.Tests.{eqb-true, eq-eqb, not-true}
+use Rattle.record.specs.Below.{all, count}
+use Rattle.record.specs.Members.{legal, leader, has, within, meets}
+use Rattle.record.specs.Refusals.{firstNo}
+use Rattle.record.specs.Layout.{roundOf, sourceOf, bodyOf, strongOf, timeoutsOf, noVotesOf, weakCountOf, weakOf}
+use Rattle.record.specs.Questions.{roundOk, masksOk, strongOk, lacksLeader, quorumIf, timeoutsOk, noVotesOk, weakIdOk, rises, slotOk, weakOk, bodyRefusal}
+use Rattle.record.proofs.Booleans.{which, never, and-left, and-right, and-both}
+use Rattle.protocol.specs.Dag.{Records, recordsOf, present, votes}
+use Rattle.protocol.specs.Chain.{leaders}
+use Rattle.protocol.specs.Journal.{journal}
+use Rattle.protocol.specs.Witness.{early, late, vertexOf, firstOf, dag, honest}
+use Rattle.protocol.proofs.Laws.{records-ext}
+use Rattle.protocol.proofs.Witness as protocol
+use Rattle.replica.specs.Lists.{opened, openState}
+use Rattle.replica.proofs.Opened.{opened-size}
+use Rattle.agreement.specs.Call.{run}
+use Rattle.agreement.specs.Model.{Model, empty, dagOf}
+use Rattle.agreement.specs.Claim.{In, Twins, Vertex, First, Premises, Agreed}
+use Rattle.agreement.specs.Witness.{start, callsOf, modelFor, Witness}
+use Rattle.agreement.proofs.Records.{Found, find-in}
+use Rattle.agreement.proofs.Family.{inside-self}
+use Rattle.agreement.proofs.Asked.{open-yes, open-taken}
+use Rattle.agreement.proofs.Following.{Follows}
+use Rattle.agreement.proofs.Claim.{opened-follows, agreement-claim}
+use Rattle.agreement.proofs.Dry.{parentsIn, taken, allTaken, dry, all-allowed, dry-follow}
+
+-- ---- tests over lists of records
+
+-- the second where the first
+imp : Bool → Bool → Bool
+imp a b = not a || b
+
+-- applied
+imp-elim : (a b : Bool) → imp a b ≡ true → a ≡ true → b ≡ true
+unfolding imp
+imp-elim true b e h = e
+imp-elim false b e h = absurd (false≢true h)
+
+-- the same words
+same : List ℕ → List ℕ → Bool
+same [] [] = true
+same [] (y ∷ m) = false
+same (x ∷ l) [] = false
+same (x ∷ l) (y ∷ m) = eqb x y && same l m
+
+-- then the lists are equal
+same-eq : (l m : List ℕ) → same l m ≡ true → l ≡ m
+unfolding same
+same-eq [] [] e = refl
+same-eq [] (y ∷ m) e = absurd (false≢true e)
+same-eq (x ∷ l) [] e = absurd (false≢true e)
+same-eq (x ∷ l) (y ∷ m) e = ap₂ (λ (z : ℕ) (k : List ℕ). z ∷ k) (eqb-true x y (and-left _ _ e)) (same-eq l m (and-right (eqb x y) _ e))
+
+-- every record of the list passes
+every : (List ℕ → Bool) → List (List ℕ) → Bool
+every t [] = true
+every t (x ∷ l) = t x && every t l
+
+-- then each one does
+every-in : (t : List ℕ → Bool) (l : List (List ℕ)) → every t l ≡ true → (x : List ℕ) → In x l → t x ≡ true
+unfolding every
+every-in t [] e x h = absurd (List·Memᴰ·not-nil h)
+every-in t (y ∷ l) e x h = ⊎-elim (λ d. ap t d ∙ and-left (t y) _ e) (λ d. every-in t l (and-right (t y) _ e) x d) (List·Memᴰ·cases-cons h)
+
+-- every pair of records of two lists passes
+pairs : (List ℕ → List ℕ → Bool) → List (List ℕ) → List (List ℕ) → Bool
+pairs t l m = every (λ x. every (t x) m) l
+
+-- then each pair does
+pairs-in : (t : List ℕ → List ℕ → Bool) (l m : List (List ℕ)) → pairs t l m ≡ true → (x y : List ℕ) → In x l → In y m → t x y ≡ true
+unfolding pairs
+pairs-in t l m e x y h k = every-in (t x) m (every-in (λ x. every (t x) m) l e x h) y k
+
+-- Two lists of records are the same records where each one's round and source has the same body in both.
+agree : List (List ℕ) → List (List ℕ) → List ℕ → Bool
+agree l m x = same (recordsOf l (roundOf x) (sourceOf x)) (recordsOf m (roundOf x) (sourceOf x))
+
+-- no record
+none : (body : List ℕ) → present body ≡ false → body ≡ []
+none [] e = refl
+none (w ∷ body) e = never refl e
+
+-- then they are
+same-records : (l m : List (List ℕ)) → every (agree l m) l ≡ true → every (agree l m) m ≡ true → recordsOf l ≡ recordsOf m
+unfolding agree
+same-records l m e d = records-ext (recordsOf l) (recordsOf m) (λ r p. go r p (which (present (recordsOf l r p))) (which (present (recordsOf m r p))))
+  where
+    by : (k : List (List ℕ)) (r p : ℕ) → every (agree l m) k ≡ true → Found k r p → recordsOf l r p ≡ recordsOf m r p
+    by k r p t f =
+        ap₂ (recordsOf l) (sym (f .round)) (sym (f .source)) ∙ same-eq _ _ (every-in (agree l m) k t (f .rec) (f .there))
+        ∙ ap₂ (recordsOf m) (f .round) (f .source)
+
+    go : (r p : ℕ) → (present (recordsOf l r p) ≡ true) ⊎ (present (recordsOf l r p) ≡ false) → (present (recordsOf m r p) ≡ true) ⊎ (present (recordsOf m r p) ≡ false)
+        → recordsOf l r p ≡ recordsOf m r p
+    go r p (inl x) y = by l r p e (find-in l r p x)
+    go r p (inr x) (inl y) = by m r p d (find-in m r p y)
+    go r p (inr x) (inr y) = none _ x ∙ sym (none _ y)
+
+-- ---- the models
+
+-- every call is taken
+all-taken : (i : Bool) → allTaken 4 empty (callsOf i) ≡ true
+unfolding callsOf vertexOf firstOf early late allTaken taken parentsIn recordsOf legal leader has within meets strongOf timeoutsOf noVotesOf weakCountOf weakOf bodyRefusal firstNo roundOk masksOk strongOk lacksLeader quorumIf timeoutsOk noVotesOk weakIdOk rises slotOk weakOk all ones
+all-taken true = refl
+all-taken false = refl
+
+-- what the calls make of the empty model
+made : Bool → Model
+made i = dry empty (callsOf i)
+
+-- its vertices
+made-vertices : (i : Bool) → recordsOf (made i .vertices) ≡ recordsOf (vertexOf i)
+unfolding made dry callsOf vertexOf firstOf early late every agree same recordsOf
+made-vertices true = same-records (made true .vertices) (vertexOf true) refl refl
+made-vertices false = same-records (made false .vertices) (vertexOf false) refl refl
+
+-- its first messages
+made-firsts : (i : Bool) → recordsOf (made i .firsts) ≡ recordsOf (firstOf i)
+unfolding made dry callsOf vertexOf firstOf early late every agree same recordsOf
+made-firsts true = same-records (made true .firsts) (firstOf true) refl refl
+made-firsts false = same-records (made false .firsts) (firstOf false) refl refl
+
+-- its DAG
+made-dag : (i : Bool) → dagOf (made i) ≡ dag i
+unfolding dag
+made-dag i = ap₂ (λ (v w : Records). record { vertex = v; first = w }) (made-vertices i) (made-firsts i)
+
+-- ---- the premises
+
+-- the vertices of both
+allVertices : List (List ℕ)
+allVertices = made true .vertices ++ made false .vertices
+
+-- the first messages of both
+allFirsts : List (List ℕ)
+allFirsts = made true .firsts ++ made false .firsts
+
+-- of one round and source
+twin : List ℕ → List ℕ → Bool
+twin x y = eqb (roundOf x) (roundOf y) && eqb (sourceOf x) (sourceOf y)
+
+-- as twins are
+twin-is : (x y : List ℕ) → Twins x y → twin x y ≡ true
+unfolding twin
+twin-is x y t = and-both (eq-eqb _ _ (t .round)) (eq-eqb _ _ (t .source))
+
+-- the tests of the three premises
+oneVertex : List ℕ → List ℕ → Bool
+oneVertex x y = imp (twin x y) (same x y)
+
+oneRecord : List ℕ → List ℕ → Bool
+oneRecord x y = imp (twin x y && honest (sourceOf x)) (same x y)
+
+both : List ℕ → List ℕ → Bool
+both x y = eqb (roundOf x) (roundOf y) && (honest (sourceOf x) && (votes 4 (roundOf x - 1) (bodyOf x) && has (noVotesOf (bodyOf y)) (sourceOf x)))
+
+-- they are met
+vertices-one : pairs oneVertex allVertices allVertices ≡ true
+unfolding allVertices made dry callsOf vertexOf firstOf early late pairs every oneVertex twin imp same
+vertices-one = refl
+
+records-one : pairs oneRecord allFirsts allVertices ≡ true
+unfolding allVertices allFirsts made dry callsOf vertexOf firstOf early late pairs every oneRecord twin imp same
+records-one = refl
+
+never-both : pairs (λ x y. not (both x y)) (allVertices ++ allFirsts) allVertices ≡ true
+unfolding allVertices allFirsts made dry callsOf vertexOf firstOf early late pairs every both leader has strongOf noVotesOf
+never-both = refl
+
+-- the premises hold of these models
+made-premises : Premises 4 (made true) (made false) honest
+unfolding count allVertices allFirsts oneVertex oneRecord both
+made-premises = record {
+  few-faulty = lit≤ tt;
+  one-vertex = λ x y h k t. same-eq x y
+      (imp-elim (twin x y) _ (pairs-in oneVertex allVertices allVertices vertices-one x y (vertex-in x h) (vertex-in y k)) (twin-is x y t));
+  one-record = λ x y h k t e.
+      same-eq x y (imp-elim (twin x y && honest (sourceOf x)) _
+      (pairs-in oneRecord allFirsts allVertices records-one x y (first-in x h) (vertex-in y k)) (and-both (twin-is x y t) e));
+  no-both = λ x y h k r e v s.
+      never (and-both (eq-eqb _ _ r) (and-both e (and-both v s)))
+      (not-true (both x y) (pairs-in (λ x y. not (both x y)) (allVertices ++ allFirsts) allVertices never-both x y
+      (⊎-elim (λ d. Memᴰ·append-left allFirsts (vertex-in x d)) (λ d. Memᴰ·append-right allVertices (first-in x d)) h) (vertex-in y k)));
+}
+  where
+    vertex-in : (x : List ℕ) → Vertex 4 (made true) (made false) honest x → In x allVertices
+    vertex-in x h = unfold allVertices in ⊎-elim (λ d. Memᴰ·append-left (made false .vertices) d) (λ d. Memᴰ·append-right (made true .vertices) d) h
+
+    first-in : (x : List ℕ) → First 4 (made true) (made false) honest x → In x allFirsts
+    first-in x h = unfold allFirsts in ⊎-elim (λ d. Memᴰ·append-left (made false .firsts) d) (λ d. Memᴰ·append-right (made true .firsts) d) h
+
+-- ---- the calls
+
+-- four members
+four : legal 4 ≡ true
+unfolding legal
+four = refl
+
+-- a state is opened with 4
+opening-four : openState (opened 4) 4 .number ≡ 0
+opening-four = open-taken (opened 4) 4 (opened-size 4) four
+
+-- it follows the empty model
+start-follows : Follows 4 start empty
+start-follows = rw (open-yes (opened 4) 4 opening-four .1) (opened-follows 4 four)
+
+-- the calls make these models
+model-made : (i : Bool) → modelFor i ≡ made i
+unfolding made
+model-made true = dry-follow 4 (made true) (made false) honest four made-premises (callsOf true) start empty start-follows (all-taken true) (inl (inside-self _))
+model-made false = dry-follow 4 (made true) (made false) honest four made-premises (callsOf false) start empty start-follows (all-taken false) (inr (inside-self _))
+
+-- so the premises hold
+premises : Premises 4 (modelFor true) (modelFor false) honest
+premises = rw (model-made true, model-made false) made-premises
+
+-- the DAGs are those of the protocol's witness
+same-dag : (i : Bool) → dagOf (modelFor i) ≡ dag i
+same-dag i = ap dagOf (model-made i) ∙ made-dag i
+
+-- and the claim gives
+agreed : Agreed 4 (run start (callsOf true)) (run start (callsOf false)) (modelFor true) (modelFor false)
+agreed = agreement-claim 4 (opened 4) (opened 4) opening-four opening-four (callsOf true) (callsOf false)
+    (all-allowed 4 (callsOf true) empty (all-taken true)) (all-allowed 4 (callsOf false) empty (all-taken false)) honest premises
+
+-- The witness.
+pub witness : Witness
+witness = record {
+  opens = opening-four;
+  allowed-calls = λ i. all-allowed 4 (callsOf i) empty (all-taken i);
+  premises = premises;
+  same-dag = same-dag;
+  agreed = agreed;
+  leaders-first = agreed .first .leader-list ∙ ap (leaders 4) (same-dag true) ∙ protocol.witness .leaders-first;
+  leaders-second = agreed .second .leader-list ∙ ap (leaders 4) (same-dag false) ∙ protocol.witness .leaders-second;
+  journal-first = agreed .first .journal-list ∙ ap (journal 4) (same-dag true) ∙ protocol.witness .journal-first;
+  journal-second = agreed .second .journal-list ∙ ap (journal 4) (same-dag false) ∙ protocol.witness .journal-second;
+}

@@ -1,0 +1,69 @@
+-- Demand 3, the agreement claim: one statement about two lists of calls.
+use mathlib.Core.Path.{_≡_}
+use mathlib.Core.Bool.{Bool, true, not}
+use mathlib.Core.Logic.{_⊎_}
+use mathlib.Core.List.{List, List·Memᴰ}
+use Prim.Native.Nat.{ℕ, _-_, _≤_}
+use Rattle.record.specs.Below.{count}
+use Rattle.record.specs.Members.{faulty, has}
+use Rattle.record.specs.Layout.{roundOf, sourceOf, bodyOf, noVotesOf}
+use Rattle.protocol.specs.Dag.{votes}
+use Rattle.protocol.specs.Chain.{leaders}
+use Rattle.protocol.specs.Journal.{journal}
+use Rattle.protocol.specs.Claims.{Prefix}
+use Rattle.replica.specs.Lists.{openState, handLeaders, handJournal}
+use Rattle.agreement.specs.Call.{Call, run, allAllowed}
+use Rattle.agreement.specs.Model.{Model, modelOf, dagOf}
+
+-- the record stands in the list
+abbrev pub In : List ℕ → List (List ℕ) → Type 0
+In x l = List·Memᴰ x l
+
+-- two records are of one round and one source
+pub record Twins (x y : List ℕ) : Type 0 where
+  pub round : roundOf x ≡ roundOf y
+  pub source : sourceOf x ≡ sourceOf y
+
+-- The premises, of what the two models a and b hold and of who is honest among the n members.
+module _ (n : ℕ) (a b : Model) (honest : ℕ → Bool) where
+  -- a vertex, or a first message, of either model
+  abbrev pub Vertex : List ℕ → Type 0
+  Vertex x = In x (a .vertices) ⊎ In x (b .vertices)
+
+  abbrev pub First : List ℕ → Type 0
+  First x = In x (a .firsts) ⊎ In x (b .firsts)
+
+  pub record Premises : Type 0 where
+    -- at most f members are faulty
+    pub few-faulty : count n (λ p. not (honest p)) ≤ faulty n
+    -- reliable broadcast delivers one vertex of a round and source
+    pub one-vertex : (x y : List ℕ) → Vertex x → Vertex y → Twins x y → x ≡ y
+    -- an honest member has one record in a round, as first message and as vertex
+    pub one-record : (x y : List ℕ) → First x → Vertex y → Twins x y → honest (sourceOf x) ≡ true → x ≡ y
+    -- an honest member that votes for the leader of a round signs no no-vote against it
+    pub no-both : (x y : List ℕ) → Vertex x ⊎ First x → Vertex y → roundOf x ≡ roundOf y → honest (sourceOf x) ≡ true
+        → votes n (roundOf x - 1) (bodyOf x) ≡ true → has (noVotesOf (bodyOf y)) (sourceOf x) ≡ true → ⊥
+
+-- one list is the beginning of the other
+abbrev pub OnePrefix : List ℕ → List ℕ → Type 0
+OnePrefix xs ys = Prefix xs ys ⊎ Prefix ys xs
+
+-- the lists that handing over from entry 0 gives of a state are those of the model
+pub record Matches (n : ℕ) (l : List ℕ) (m : Model) : Type 0 where
+  pub leader-list : handLeaders l 0 ≡ leaders n (dagOf m)
+  pub journal-list : handJournal l 0 ≡ journal n (dagOf m)
+
+-- The states l and k after two lists of calls: each has exactly its model's lists, and of both lists one is a prefix of the other.
+pub record Agreed (n : ℕ) (l k : List ℕ) (a b : Model) : Type 0 where
+  pub first : Matches n l a
+  pub second : Matches n k b
+  pub leader-lists : OnePrefix (handLeaders l 0) (handLeaders k 0)
+  pub journals : OnePrefix (handJournal l 0) (handJournal k 0)
+
+-- THE CLAIM. Two states are opened with answer 0 and the same n, each on any words; then any two lists of calls follow.
+abbrev pub AgreementClaim : Type 0
+AgreementClaim = (n : ℕ) (u w : List ℕ) → openState u n .number ≡ 0 → openState w n .number ≡ 0
+    → (calls others : List Call) → allAllowed calls ≡ true → allAllowed others ≡ true
+    → let l = openState u n .words in let k = openState w n .words in
+    (honest : ℕ → Bool) → Premises n (modelOf l calls) (modelOf k others) honest
+    → Agreed n (run l calls) (run k others) (modelOf l calls) (modelOf k others)

@@ -1,0 +1,4 @@
+pub mod Call
+pub mod Model
+pub mod Claim
+pub mod Witness

@@ -1,0 +1,40 @@
+-- The model (01: plain book) of a list of calls: the records that were admitted.
+use mathlib.Core.List.{List, [], _∷_}
+use Prim.Native.Nat.{ℕ, zero, suc}
+use Rattle.protocol.specs.Dag.{Dag, recordsOf}
+use Rattle.agreement.specs.Call.{Call, opening, vertex, firstMessage, timeout, noVote, status, askLeaderList, askJournalList, handLeaderList, handJournalList, outcomeOf}
+
+pub record Model : Type 0 where
+  pub vertices : List (List ℕ)
+  pub firsts : List (List ℕ)
+
+-- none at first
+abbrev pub empty : Model
+empty = record { vertices = []; firsts = [] }
+
+-- a record that was taken with the number 0 joins its kind; nothing else changes the model
+abbrev pub admit : Call → ℕ → Model → Model
+admit (vertex rec) zero m = record { vertices = rec ∷ m .vertices; firsts = m .firsts }
+admit (vertex rec) (suc number) m = m
+admit (firstMessage rec) zero m = record { vertices = m .vertices; firsts = rec ∷ m .firsts }
+admit (firstMessage rec) (suc number) m = m
+admit (opening n) number m = m
+admit (timeout r p) number m = m
+admit (noVote r p) number m = m
+admit status number m = m
+admit (askLeaderList k) number m = m
+admit (askJournalList k) number m = m
+admit (handLeaderList k) number m = m
+admit (handJournalList k) number m = m
+
+-- the model of the calls on the words l, fed each call's number and arguments
+unfoldable pub follow : Model → List ℕ → List Call → Model
+follow m l [] = m
+follow m l (c ∷ calls) = follow (admit c (outcomeOf c l .number) m) (outcomeOf c l .words) calls
+
+abbrev pub modelOf : List ℕ → List Call → Model
+modelOf l calls = follow empty l calls
+
+-- what the model holds, as a DAG
+abbrev pub dagOf : Model → Dag
+dagOf m = record { vertex = recordsOf (m .vertices); first = recordsOf (m .firsts) }

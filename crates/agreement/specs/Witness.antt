@@ -1,0 +1,40 @@
+-- The claim's premises can be met: two lists of calls on four members, of which member 1 is faulty. Their records are those of the protocol's witness.
+use mathlib.Core.Path.{_≡_}
+use mathlib.Core.Bool.{Bool, true, false}
+use mathlib.Core.List.{List, [], _∷_, _++_, map}
+use Prim.Native.Nat.{ℕ}
+use Rattle.protocol.specs.Witness.{vertexOf, firstOf, dag, honest}
+use Rattle.replica.specs.Lists.{opened, openState, handLeaders, handJournal}
+use Rattle.agreement.specs.Call.{Call, opening, vertex, firstMessage, timeout, noVote, status, askLeaderList, handJournalList, run, allAllowed}
+use Rattle.agreement.specs.Model.{Model, modelOf, dagOf}
+use Rattle.agreement.specs.Claim.{Premises, Agreed}
+
+-- both states: opened with 4
+abbrev pub start : List ℕ
+start = openState (opened 4) 4 .words
+
+-- all vertices, then the first messages, with calls between them that admit no record
+unfoldable pub callsOf : Bool → List Call
+callsOf i =
+    (opening 5 ∷ status ∷ timeout 1 3 ∷ [])
+    ++ (map vertex (vertexOf i)
+    ++ ((noVote 2 0 ∷ askLeaderList 0 ∷ [])
+    ++ (map firstMessage (firstOf i) ++ (handJournalList 0 ∷ []))))
+
+abbrev pub modelFor : Bool → Model
+modelFor i = modelOf start (callsOf i)
+
+pub record Witness : Type 0 where
+  -- what the claim asks
+  pub opens : openState (opened 4) 4 .number ≡ 0
+  pub allowed-calls : (i : Bool) → allAllowed (callsOf i) ≡ true
+  pub premises : Premises 4 (modelFor true) (modelFor false) honest
+  -- All records were admitted: the models hold what the protocol's witness does. There the leaders of rounds 1 and 2 are skipped, the latter with a
+  -- no-vote certificate; the first DAG commits rounds 3 and 4 by vertices, the second round 3 by first messages alone.
+  pub same-dag : (i : Bool) → dagOf (modelFor i) ≡ dag i
+  -- what the claim gives, and that it is not about empty lists
+  pub agreed : Agreed 4 (run start (callsOf true)) (run start (callsOf false)) (modelFor true) (modelFor false)
+  pub leaders-first : handLeaders (run start (callsOf true)) 0 ≡ 50 ∷ 67 ∷ []
+  pub leaders-second : handLeaders (run start (callsOf false)) 0 ≡ 50 ∷ []
+  pub journal-first : handJournal (run start (callsOf true)) 0 ≡ 16 ∷ 17 ∷ 18 ∷ 19 ∷ 32 ∷ 34 ∷ 35 ∷ 50 ∷ 33 ∷ 48 ∷ 49 ∷ 51 ∷ 67 ∷ []
+  pub journal-second : handJournal (run start (callsOf false)) 0 ≡ 16 ∷ 17 ∷ 18 ∷ 19 ∷ 32 ∷ 34 ∷ 35 ∷ 50 ∷ []

@@ -1,0 +1,244 @@
+-- Commits keep a state sound, and so does every call. Assumes nothing.
+use mathlib.Core.Path.{_≡_, refl, sym, ap, ap₂, _∙_}
+use mathlib.Core.Bool.{Bool, true, false, _&&_, _||_}
+use mathlib.Core.Logic.{_⊎_, inl, inr, ⊎-elim}
+use mathlib.Core.List.{List, [], _∷_, _++_, map}
+use Prim.Native.Nat.{ℕ, zero, suc, _-_, _≤_, _<_}
+use native.Mathlib.Omega.{arith}
+use lib.Dec.{eqb, leb, ltb}
+use lib.ListN.{length}
+use borrow.Author.Tests.{eqb-true, eqb-false, eq-eqb, leb-true, ltb-true}
+use Rattle.record.specs.Members.{leader, has, idOf, idRound, idMember}
+use Rattle.record.specs.Refusals.{numberOf, Question, firstNo}
+use Rattle.record.specs.Questions.{roundOk, recordQuestions, bodyRefusal}
+use Rattle.record.specs.declared.refusal.Refusal.{Refusal}
+use Rattle.record.proofs.Booleans.{which, and-left, and-right, and-both, or-cases, or-left, or-right}
+use Rattle.record.proofs.Below.{least-sat}
+use Rattle.record.proofs.Masks.{leader-lt, has-bound}
+use Rattle.record.proofs.Turn.{both-yes, round-range, admitted}
+use Rattle.protocol.specs.Dag.{held, committed}
+use Rattle.protocol.specs.Chain.{walk, leaderId}
+use Rattle.protocol.specs.Journal.{among}
+use Rattle.protocol.proofs.Commit.{committed-held}
+use Rattle.protocol.proofs.Lists.{rising, among-append, once}
+use Rattle.protocol.proofs.History.{id-round, id-member}
+use Rattle.protocol.proofs.Chain.{chain-some, chain-held, walk-rising}
+use Rattle.protocol.proofs.Journal.{extend-once}
+use Rattle.replica.specs.Layout.{stateSize, heldAt}
+use Rattle.replica.specs.State.{memberCount, committedRound, heldMask, orderedMask, timeoutsMask, noVotesMask, leaderList, journalList, vertices, dag, heldId, orderedId}
+use Rattle.replica.specs.WellFormed.{wellFormed}
+use Rattle.replica.specs.Outcome.{outcome}
+use Rattle.replica.specs.Lists.{stateQuestions}
+use Rattle.replica.proofs.Sound.{Sound, Leaders, Journal, Led, led-append, led-more, sound, well-formed}
+use Rattle.replica.proofs.Dags.{round-ok, held-id, in-mask}
+use Rattle.replica.proofs.Keeping.{Keeps, front-kept, masks-kept, cells-kept, held-kept, held-id-kept}
+use Rattle.ordering.specs.Commit.{taken, commit, committable, lowest, commitUpTo, commitAll, raiseRound}
+use Rattle.ordering.specs.Calls.{putVertex, hear, takeBody, takeFirstBody, takeTimeout, takeNoVote, vertexQuestions, firstQuestions, noteQuestions}
+use Rattle.ordering.specs.Kept.{LeavesWellFormed, KeepsWellFormed}
+use Rattle.ordering.specs.Standing.{Standing, Room}
+use Rattle.ordering.proofs.Ground.{standing, room-limit}
+use Rattle.ordering.proofs.Frames.{OffLists, off-front, off-zeros, off-mask, off-cells}
+use Rattle.ordering.proofs.Growing.{Committed, grown, leaders-fit}
+use Rattle.ordering.proofs.Marks.{sound-raise, sound-put, sound-hear, sound-timeout, sound-no-vote}
+
+-- ---- the leaders taken
+
+-- leaders of rising rounds, that h has, and one after them
+led-rising : (n : ℕ) (h : ℕ → Bool) → 0 < n → n ≤ 16 → (low high q : ℕ) (rs : List ℕ) → rising low rs high ≡ true → high < q
+    → ((r : ℕ) → among (rs ++ q ∷ []) r ≡ true → h (leaderId n r) ≡ true) → Led n h low (map (leaderId n) (rs ++ q ∷ [])) q
+unfolding Led rising among
+led-rising n h pos few low high q [] e k f =
+    let a : leader n q < 16 = omega (arith, leader-lt n q pos) in (
+      f q (or-left _ (eq-eqb q q refl)),
+      id-member q (leader n q) a ∙ ap (leader n) (sym (id-round q (leader n q) a)),
+      rw (id-round q (leader n q) a) (omega (arith, leb-true low high e)),
+      id-round q (leader n q) a,
+    )
+led-rising n h pos few low high q (r ∷ rs) e k f =
+    let a : leader n r < 16 = omega (arith, leader-lt n r pos) in (
+      f r (or-left _ (eq-eqb r r refl)),
+      id-member r (leader n r) a ∙ ap (leader n) (sym (id-round r (leader n r) a)),
+      rw (id-round r (leader n r) a) (ltb-true low r (and-left _ _ e)),
+      rw (id-round r (leader n r) a) (led-rising n h pos few r high q rs (and-right (ltb low r) _ e) k (λ s d. f s (or-right (eqb r s) d))),
+    )
+
+-- ---- a commit
+
+module _ (l : List ℕ) (S : Sound l) (q : ℕ) (above : committedRound l < q) (high : q ≤ 31) (h : held (vertices l) q (leader (memberCount l) q) ≡ true) where
+  C : Committed l q (commit l q)
+  C = grown l S q above high h
+
+  F : Keeps OffLists l (commit l q)
+  F = C .kept
+
+  members : memberCount (commit l q) ≡ memberCount l
+  members = F .same 0 (off-front 0 (omega arith))
+
+  held-off : (r : ℕ) → 1 ≤ r → r ≤ 32 → OffLists (heldAt r)
+  held-off r a b = off-mask r 0 a b (omega arith)
+
+  held-same : (y : ℕ) → heldId (commit l q) y ≡ heldId l y
+  held-same = held-id-kept OffLists l (commit l q) F held-off
+
+  -- the leaders taken continue the list
+  taken-led : Led (memberCount l) (heldId l) (committedRound l) (map (leaderId (memberCount l)) (taken l q)) q
+  taken-led = rw (chain-some (memberCount l) (vertices l) (committedRound l) q above)
+      (led-rising (memberCount l) (heldId l) (omega (arith, S .front .low)) (S .front .high) (committedRound l) (q - 1) q
+      (walk (memberCount l) (vertices l) (committedRound l) q (q - 1)) (walk-rising (memberCount l) (vertices l) (committedRound l) q (q - 1) (omega arith)) (omega arith)
+      (λ r e. there r (chain-held (memberCount l) (vertices l) (committedRound l) q r h
+      (ap (λ (x : List ℕ). among x r) (chain-some (memberCount l) (vertices l) (committedRound l) q above) ∙ e))))
+    where
+      there : (r : ℕ) → held (vertices l) r (leader (memberCount l) r) ≡ true → heldId l (leaderId (memberCount l) r) ≡ true
+      there r e =
+          let a : leader (memberCount l) r < 16 = omega (arith, leader-lt (memberCount l) r (omega (arith, S .front .low)), S .front .high) in
+          held-id l (S .size) (leaderId (memberCount l) r)
+          ∙ ap₂ (λ (x y : ℕ). held (vertices l) x y) (id-round r (leader (memberCount l) r) a) (id-member r (leader (memberCount l) r) a) ∙ e
+
+  commit-leaders-sound : Leaders (commit l q)
+  commit-leaders-sound = record {
+    committed-high = rw (C .committed) high;
+    few = rw (C .leader-count) (omega (arith, leaders-fit l S q above high h));
+    led = rw (members, C .committed, C .leaders) (led-more (memberCount l) (heldId l) (heldId (commit l q)) 0 q _ (λ y e. held-same y ∙ e)
+        (led-append (memberCount l) (heldId l) 0 (committedRound l) q (leaderList l) (map (leaderId (memberCount l)) (taken l q)) (S .leaders .led) taken-led));
+    rest = λ i a b. C .leader-rest i a b ∙ S .leaders .rest i (omega (arith, C .leader-count)) b;
+  }
+
+  commit-journal-sound : Journal (commit l q)
+  commit-journal-sound = record {
+    ordered-low = λ r a b. rw members (C .ordered-low r a b);
+    ordered-held = now-held;
+    few = omega (arith, C .room, room-limit (commit l q));
+    alone = ap once (C .extends) ∙ extend-once (memberCount l) (vertices l) (journalList l) (taken l q) (S .journal .alone);
+    names = λ y. ap (λ (j : List ℕ). among j y) (C .journal) ∙ among-append (journalList l) (C .ids) y ∙ ap (λ (b : Bool). b || among (C .ids) y) (S .journal .names y)
+        ∙ sym (C .ordered y);
+    rest = λ i a b. C .journal-rest i a b ∙ S .journal .rest i (omega (arith, C .journal-count)) b;
+  }
+    where
+      now-held : (r p : ℕ) → 1 ≤ r → r ≤ 32 → has (orderedMask (commit l q) r) p ≡ true → has (heldMask (commit l q) r) p ≡ true
+      now-held r p a b e =
+          let k : p < 16 = omega (arith, has-bound (memberCount l) (orderedMask (commit l q) r) p (C .ordered-low r a b) e, S .front .high) in
+          held-kept OffLists l (commit l q) F held-off r p a b ∙ was k
+        where
+          was : p < 16 → has (heldMask l r) p ≡ true
+          was k =
+              let t : orderedId (commit l q) (idOf r p) ≡ true = rw (id-round r p k, id-member r p k) (and-both (round-ok r a b) e) in
+              ⊎-elim
+              (λ d. S .journal .ordered-held r p a b (rw (id-round r p k, id-member r p k) at
+              (and-right (roundOk (idRound (idOf r p))) (has (orderedMask l (idRound (idOf r p))) (idMember (idOf r p))) d)))
+              (λ d. rw (id-round r p k, id-member r p k) at (in-mask l (S .size) (idRound (idOf r p)) (idMember (idOf r p)) (C .named (idOf r p) d .there) .2))
+              (or-cases (orderedId l (idOf r p)) (among (C .ids) (idOf r p)) (sym (C .ordered (idOf r p)) ∙ t))
+
+  -- A commit of a round whose leader's vertex is held keeps the state sound.
+  pub sound-commit : Sound (commit l q)
+  sound-commit = record {
+    size = F .size ∙ S .size;
+    front = front-kept OffLists l (commit l q) F off-front off-zeros (S .front);
+    masks = masks-kept OffLists l (commit l q) F (off-front 0 (omega arith)) off-mask (S .masks);
+    cells = cells-kept OffLists l (commit l q) F held-off off-cells (off-front 0 (omega arith)) (S .cells);
+    leaders = commit-leaders-sound;
+    journal = commit-journal-sound;
+  }
+
+  -- so commits can stand on it again
+  pub standing-commit : Standing (commit l q) × Room (commit l q)
+  standing-commit = (standing (commit l q) sound-commit, C .room)
+
+-- ---- all commits
+
+-- what a committable round is
+pub committable-round : (l : List ℕ) (q : ℕ) → committable l q ≡ true
+    → (committedRound l < q) × (q ≤ 31) × (committed (memberCount l) (dag l) q ≡ true) × (held (vertices l) q (leader (memberCount l) q) ≡ true)
+unfolding committable
+committable-round l q e =
+    let t : (leb q 31 && committed (memberCount l) (dag l) q) ≡ true = and-right (ltb (committedRound l) q) _ e in
+    let c : committed (memberCount l) (dag l) q ≡ true = and-right (leb q 31) _ t in
+    (ltb-true _ _ (and-left _ _ e), leb-true _ _ (and-left _ _ t), c, committed-held (memberCount l) (dag l) q c)
+
+-- All commits that follow keep the state sound.
+pub sound-commits : (k : ℕ) (l : List ℕ) → Sound l → Sound (commitUpTo l k)
+unfolding commitUpTo
+sound-commits zero l S = S
+sound-commits (suc k) l S = go (which (ltb (lowest l) 32)) (sound-commits k (commit l (lowest l)))
+  where
+    go : (ltb (lowest l) 32 ≡ true) ⊎ (ltb (lowest l) 32 ≡ false)
+        → (Sound (commit l (lowest l)) → Sound (commitUpTo (commit l (lowest l)) k)) → Sound (commitUpTo l (suc k))
+    go (inl e) ih =
+        let w = committable-round l (lowest l) (least-sat 32 (committable l) (ltb-true _ _ e)) in
+        rw e (ih (sound-commit l S (lowest l) (w .0) (w .1) (w .3)))
+    go (inr e) ih = rw e S
+
+-- ---- the calls
+
+-- the questions of the state and of the record, answered yes
+after-state : (l : List ℕ) (rest : List Question) → numberOf (firstNo (stateQuestions l ++ rest)) ≡ 0 → numberOf (firstNo rest) ≡ 0
+after-state l rest e =
+    let q1 = both-yes _ _ _ (eqb-false 1 0 refl) e in
+    both-yes _ _ _ (eqb-false 3 0 refl) (q1 .1) .1
+
+-- if all are answered yes, so are the first ones
+front-yes : (xs ys : List Question) → numberOf (firstNo (xs ++ ys)) ≡ 0 → numberOf (firstNo xs) ≡ 0
+unfolding firstNo
+front-yes [] ys e = refl
+front-yes ((true, why) ∷ xs) ys e = front-yes xs ys e
+front-yes ((false, why) ∷ xs) ys e = e
+
+-- then no question refuses the record, and those after it decide
+after-record : (n r p : ℕ) (body : List ℕ) (rest : List Question) → numberOf (firstNo (recordQuestions n r p body ++ rest)) ≡ 0
+    → (numberOf (bodyRefusal n r p body) ≡ 0) × (numberOf (firstNo rest) ≡ 0)
+unfolding bodyRefusal
+after-record n r p body rest e =
+    let q4 = both-yes _ _ _ (eqb-false 4 0 refl) e in
+    let q5 = both-yes _ _ _ (eqb-false 5 0 refl) (q4 .1) in
+    let q6 = both-yes _ _ _ (eqb-false 6 0 refl) (q5 .1) in
+    let q7 = both-yes _ _ _ (eqb-false 7 0 refl) (q6 .1) in
+    let q8 = both-yes _ _ _ (eqb-false 8 0 refl) (q7 .1) in
+    let q9 = both-yes _ _ _ (eqb-false 9 0 refl) (q8 .1) in
+    let q10 = both-yes _ _ _ (eqb-false 10 0 refl) (q9 .1) in
+    (front-yes (recordQuestions n r p body) rest e, both-yes _ _ _ (eqb-false 11 0 refl) (q10 .1) .1)
+
+-- a call whose words would be sound where it is admitted
+leaves : (why : Refusal) (l after : List ℕ) → Sound l → (numberOf why ≡ 0 → Sound after) → LeavesWellFormed (outcome why l after)
+unfolding outcome
+leaves why l after S f = go (which (eqb (numberOf why) 0))
+  where
+    good : (l : List ℕ) → Sound l → (length l ≡ stateSize) × (wellFormed l ≡ true)
+    good l S = (S .size, well-formed l S)
+
+    go : (eqb (numberOf why) 0 ≡ true) ⊎ (eqb (numberOf why) 0 ≡ false) → LeavesWellFormed (outcome why l after)
+    go (inl e) = rw e (good after (f (eqb-true _ _ e)))
+    go (inr e) = rw e (good l S)
+
+module _ (l : List ℕ) (S : Sound l) where
+  -- after an admitted vertex
+  pub sound-vertex : (r p : ℕ) (body : List ℕ) → numberOf (firstNo (vertexQuestions l r p body)) ≡ 0 → Sound (commitAll (raiseRound (putVertex l r p body)))
+  sound-vertex r p body e =
+      let a = after-record (memberCount l) r p body _ (after-state l _ e) in
+      let q12 = both-yes _ _ _ (eqb-false 12 0 refl) (a .1) in
+      let q13 = both-yes _ _ _ (eqb-false 13 0 refl) (q12 .1) in
+      let q14 = both-yes _ _ _ (eqb-false 14 0 refl) (q13 .1) in
+      sound-commits 31 (raiseRound (putVertex l r p body)) (sound-raise (putVertex l r p body) (sound-put l S r p body (a .0) (q14 .0)))
+
+  -- after an admitted first message
+  pub sound-first : (r p : ℕ) (body : List ℕ) → numberOf (firstNo (firstQuestions l r p body)) ≡ 0 → Sound (commitAll (hear l r p body))
+  sound-first r p body e =
+      let a = after-record (memberCount l) r p body _ (after-state l _ e) in
+      sound-commits 31 (hear l r p body) (sound-hear l S r p body (admitted (memberCount l) r p body (a .0)))
+
+  -- the round and the signer of a note that is admitted
+  note-range : (r p mask : ℕ) → numberOf (firstNo (noteQuestions l r p mask)) ≡ 0 → (1 ≤ r) × (r ≤ 32) × (p < memberCount l)
+  note-range r p mask e =
+      let q5 = both-yes _ _ _ (eqb-false 5 0 refl) (after-state l _ e) in
+      let q6 = both-yes _ _ _ (eqb-false 6 0 refl) (q5 .1) in
+      let w = round-range r (q5 .0) in
+      (w .0, w .1, ltb-true _ _ (q6 .0))
+
+-- Every call keeps a well-formed state well formed.
+pub keeps : KeepsWellFormed
+unfolding takeBody takeFirstBody takeTimeout takeNoVote
+keeps l size e =
+    let S = sound l size e in (
+      λ r p body. leaves _ l _ S (sound-vertex l S r p body),
+      λ r p body. leaves _ l _ S (sound-first l S r p body),
+      λ r p. leaves _ l _ S (λ d. let w = note-range l S r p (timeoutsMask l r) d in sound-raise _ (sound-timeout l S r p (w .0) (w .1) (w .2))),
+      λ r p. leaves _ l _ S (λ d. let w = note-range l S r p (noVotesMask l r) d in sound-no-vote l S r p (w .0) (w .1) (w .2)),
+    )

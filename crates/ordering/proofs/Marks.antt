@@ -1,0 +1,426 @@
+-- What an admitted call writes first keeps a state sound: a higher round, a member in a mask, a vertex in its cell. Assumes nothing.
+use mathlib.Core.Path.{_≡_, refl, sym, ap, ap₂, _∙_}
+use mathlib.Core.Bool.{true, false}
+use mathlib.Core.Logic.{_⊎_, inl, inr, ⊎-elim}
+use mathlib.Core.List.{List, _++_}
+use Prim.Native.Nat.{ℕ, zero, suc, _+_, _-_, _^_, _≤_, _<_}
+use native.Mathlib.Omega.{arith}
+use lib.Dec.{eqb, ltb}
+use lib.ListN.{length, getD, set, take, drop, length-set, List·getD-append}
+use lib.Seq.{getD-set-same, getD-set-other, getD-take, getD-drop, length-take-le, take-all, take-at, drop-at, drop-append-le, paste, length-paste, length-paste-head, take-paste, drop-paste}
+use borrow.Author.Tests.{eqb-true, eqb-false, eq-eqb, ltb-true, ltb-false}
+use Rattle.record.specs.Members.{legal, leader, has, add, idRound, idMember}
+use Rattle.record.specs.Refusals.{numberOf}
+use Rattle.record.specs.Questions.{roundOk, bodyRefusal}
+use Rattle.record.specs.Admitted.{Admitted}
+use Rattle.record.proofs.Booleans.{which, never, and-left, and-right, and-both, or-cases, or-left, or-right}
+use Rattle.record.proofs.Masks.{has-zero, has-add, add-lt}
+use Rattle.record.proofs.Turn.{round-range, admitted}
+use Rattle.protocol.specs.Dag.{votes}
+use Rattle.replica.specs.Layout.{masksAt, heldAt, heardAt, votesAt, timeoutsAt, noVotesAt, cellAt}
+use Rattle.replica.specs.State.{memberCount, currentRound, heldMask, heardMask, votesMask, cell, heldId}
+use Rattle.replica.specs.WellFormed.{parentsHeld}
+use Rattle.replica.proofs.Sound.{Masks, Cells, Sound}
+use Rattle.replica.proofs.Keeping.{Keeps, keeps-set, keeps-part, parents-more, front-kept, masks-kept, cells-kept, held-kept, held-id-kept, leaders-kept, journal-kept}
+use Rattle.ordering.specs.Commit.{passable, highestPassable, raiseRound}
+use Rattle.ordering.specs.Calls.{addMember, putVertex, hear}
+
+-- ---- the current round
+
+-- the highest passable round is among those asked
+highest-high : (l : List ℕ) (k : ℕ) → highestPassable l k ≤ k
+unfolding highestPassable
+highest-high l zero = omega arith
+highest-high l (suc k) = go (which (passable l (suc k))) (highest-high l k)
+  where
+    go : (passable l (suc k) ≡ true) ⊎ (passable l (suc k) ≡ false) → highestPassable l k ≤ k → highestPassable l (suc k) ≤ suc k
+    go (inl e) ih = rw e (omega arith)
+    go (inr e) ih = rw e (omega arith)
+
+-- any round from 1 to 33
+pub sound-round : (l : List ℕ) (x : ℕ) → 1 ≤ x → x ≤ 33 → Sound l → Sound (set l 1 x)
+sound-round l x a b S = record {
+  size = p .size ∙ S .size;
+  front = record {
+    members = ap legal n ∙ S .front .members;
+    low = rw n (S .front .low);
+    high = rw n (S .front .high);
+    round-low = rw here a;
+    round-high = rw here b;
+    zeros = λ i k. p .same (5 + i) (λ e. omega arith) ∙ S .front .zeros i k;
+  };
+  masks = masks-kept K l l′ p (λ e. omega arith) (λ r i c d k e. omega arith) (S .masks);
+  cells = cells-kept K l l′ p held (λ j c e. omega arith) (λ e. omega arith) (S .cells);
+  leaders = leaders-kept K l l′ p (λ e. omega arith) (λ e. omega arith) (λ e. omega arith) (λ j c d e. omega arith) (λ y e. held-id-kept K l l′ p held y ∙ e) (S .leaders);
+  journal = journal-kept K l l′ p (λ r c d e. omega arith) (λ e. omega arith) (λ e. omega arith) (λ j c d e. omega arith)
+      (λ r q c d e. held-kept K l l′ p held r q c d ∙ e) (S .journal);
+}
+  where
+    l′ : List ℕ
+    l′ = set l 1 x
+
+    K : ℕ → Type 0
+    K j = j ≡ 1 → ⊥
+
+    p : Keeps K l l′
+    p = keeps-set K l 1 x (λ j k e. k e)
+
+    n : memberCount l′ ≡ memberCount l
+    n = p .same 0 (λ e. omega arith)
+
+    here : currentRound l′ ≡ x
+    here = getD-set-same l 1 x 0 (omega (arith, S .size))
+
+    held : (r : ℕ) → 1 ≤ r → r ≤ 32 → K (heldAt r)
+    held r c d e = omega arith
+
+-- The round rule keeps the state sound.
+pub sound-raise : (l : List ℕ) → Sound l → Sound (raiseRound l)
+unfolding raiseRound
+sound-raise l S = go (which (ltb (currentRound l) (1 + highestPassable l 32)))
+  where
+    go : (ltb (currentRound l) (1 + highestPassable l 32) ≡ true) ⊎ (ltb (currentRound l) (1 + highestPassable l 32) ≡ false) → Sound (raiseRound l)
+    go (inl e) = rw e (sound-round l (1 + highestPassable l 32) (omega arith) (omega (arith, highest-high l 32)) S)
+    go (inr e) = rw e S
+
+-- ---- a member added to a mask
+
+module _ (l : List ℕ) (at p : ℕ) (fits : at < length l) where
+  add-here : getD (addMember l at p) at 0 ≡ add (getD l at 0) p
+  unfolding addMember
+  add-here = getD-set-same l at (add (getD l at 0) p) 0 fits
+
+  add-other : (j : ℕ) → (j ≡ at → ⊥) → getD (addMember l at p) j 0 ≡ getD l j 0
+  unfolding addMember
+  add-other j h = getD-set-other l at j (add (getD l at 0) p) 0 h
+
+  -- no bound of a mask is passed
+  add-low : (k j : ℕ) → p < k → getD l j 0 < 2 ^ k → getD (addMember l at p) j 0 < 2 ^ k
+  add-low k j h m = ⊎-elim
+      (λ d. let e = eqb-true j at d in rw e (rw add-here (add-lt k (getD l at 0) p (rw e at m) h)))
+      (λ d. rw (add-other j (eqb-false j at d)) m)
+      (which (eqb j at))
+
+  -- nobody is lost, and only p is new
+  add-more : (j q : ℕ) → has (getD l j 0) q ≡ true → has (getD (addMember l at p) j 0) q ≡ true
+  add-more j q h = ⊎-elim
+      (λ d. let e = eqb-true j at d in rw e (rw add-here (has-add (getD l at 0) p q ∙ or-left _ (rw e at h))))
+      (λ d. rw (add-other j (eqb-false j at d)) h)
+      (which (eqb j at))
+
+  add-new : (j q : ℕ) → has (getD (addMember l at p) j 0) q ≡ true → (has (getD l j 0) q ≡ true) ⊎ ((j ≡ at) × (p ≡ q))
+  add-new j q h = go (which (eqb j at))
+    where
+      go : (eqb j at ≡ true) ⊎ (eqb j at ≡ false) → (has (getD l j 0) q ≡ true) ⊎ ((j ≡ at) × (p ≡ q))
+      go (inl d) =
+          let e = eqb-true j at d in
+          ⊎-elim (λ c. inl (rw e c)) (λ c. inr (e, eqb-true p q c))
+          (or-cases _ _ (sym (ap (λ (i : ℕ). has (getD (addMember l at p) i 0) q) e ∙ ap (λ (m : ℕ). has m q) add-here ∙ has-add (getD l at 0) p q) ∙ h))
+      go (inr d) = inl (rw (add-other j (eqb-false j at d)) at h)
+
+  add-there : has (getD (addMember l at p) at 0) p ≡ true
+  add-there = rw add-here (has-add (getD l at 0) p p ∙ or-right (has (getD l at 0) p) (eq-eqb p p refl))
+
+-- ---- the masks that no list and no cell depends on
+
+-- j is none of the masks 1 to 4 of a round: heard, votes, timeouts, no-votes
+abbrev OffNotes : ℕ → Type 0
+OffNotes j = (r i : ℕ) → 1 ≤ r → r ≤ 32 → 1 ≤ i → i < 5 → j ≡ masksAt r + i → ⊥
+
+-- a state in which only those masks differ
+sound-notes : (l l′ : List ℕ) → Keeps OffNotes l l′ → Masks l′ → Sound l → Sound l′
+sound-notes l l′ p M S = record {
+  size = p .size ∙ S .size;
+  front = front-kept OffNotes l l′ p (λ j h r i a b c d e. omega arith) (λ j h k r i a b c d e. omega arith) (S .front);
+  masks = M;
+  cells = cells-kept OffNotes l l′ p held (λ j h r i a b c d e. omega arith) (λ r i a b c d e. omega arith) (S .cells);
+  leaders = leaders-kept OffNotes l l′ p (λ r i a b c d e. omega arith) (λ r i a b c d e. omega arith) (λ r i a b c d e. omega arith)
+      (λ j h k r i a b c d e. omega arith) (λ y e. held-id-kept OffNotes l l′ p held y ∙ e) (S .leaders);
+  journal = journal-kept OffNotes l l′ p (λ s h k r i a b c d e. omega arith) (λ r i a b c d e. omega arith) (λ r i a b c d e. omega arith)
+      (λ j h k r i a b c d e. omega arith) (λ r q a b e. held-kept OffNotes l l′ p held r q a b ∙ e) (S .journal);
+}
+  where
+    held : (s : ℕ) → 1 ≤ s → s ≤ 32 → OffNotes (heldAt s)
+    held s h k r i a b c d e = omega arith
+
+module _ (l : List ℕ) (S : Sound l) (r p : ℕ) (low : 1 ≤ r) (high : r ≤ 32) (few : p < memberCount l) where
+  module _ (i : ℕ) (from : 1 ≤ i) (to : i < 5) where
+    note-fits : masksAt r + i < length l
+    note-fits = omega (arith, S .size)
+
+    note-keeps : Keeps OffNotes l (addMember l (masksAt r + i) p)
+    unfolding addMember
+    note-keeps = keeps-set OffNotes l (masksAt r + i) (add (getD l (masksAt r + i) 0) p) (λ j k e. k r i low high from to e)
+
+    note-members : memberCount (addMember l (masksAt r + i) p) ≡ memberCount l
+    note-members = add-other l (masksAt r + i) p note-fits 0 (λ e. omega arith)
+
+    note-low : (j : ℕ) → getD l j 0 < 2 ^ memberCount l → getD (addMember l (masksAt r + i) p) j 0 < 2 ^ memberCount (addMember l (masksAt r + i) p)
+    note-low j h = rw note-members (add-low l (masksAt r + i) p note-fits (memberCount l) j few h)
+
+    -- where the votes are within heard, the masks are as they should be
+    note-masks : ((s q : ℕ) → 1 ≤ s → s ≤ 32 → has (votesMask (addMember l (masksAt r + i) p) s) q ≡ true → has (heardMask (addMember l (masksAt r + i) p) s) q ≡ true)
+        → votesMask (addMember l (masksAt r + i) p) 1 ≡ 0 → Masks (addMember l (masksAt r + i) p)
+    note-masks f g = record {
+      held-low = λ s a b. note-low (heldAt s) (S .masks .held-low s a b);
+      heard-low = λ s a b. note-low (heardAt s) (S .masks .heard-low s a b);
+      votes-low = λ s a b. note-low (votesAt s) (S .masks .votes-low s a b);
+      timeouts-low = λ s a b. note-low (timeoutsAt s) (S .masks .timeouts-low s a b);
+      no-votes-low = λ s a b. note-low (noVotesAt s) (S .masks .no-votes-low s a b);
+      votes-heard = f;
+      votes-first = g;
+    }
+
+    -- a member in any of the four masks but votes
+    pub sound-note : (i ≡ 2 → ⊥) → Sound (addMember l (masksAt r + i) p)
+    sound-note h = sound-notes l (addMember l (masksAt r + i) p) note-keeps (note-masks
+        (λ s q a b e. add-more l (masksAt r + i) p note-fits (heardAt s) q (S .masks .votes-heard s q a b
+        (rw (add-other l (masksAt r + i) p note-fits (votesAt s) (λ d. h (omega arith))) at e)))
+        (add-other l (masksAt r + i) p note-fits (votesAt 1) (λ d. h (omega arith)) ∙ S .masks .votes-first)) S
+
+  -- a member that is heard in votes, after round 1
+  pub sound-votes : (r ≡ 1 → ⊥) → has (heardMask l r) p ≡ true → Sound (addMember l (votesAt r) p)
+  sound-votes h e = sound-notes l (addMember l (votesAt r) p) (note-keeps 2 (omega arith) (omega arith)) (note-masks 2 (omega arith) (omega arith)
+      (λ s q a b d. add-more l (votesAt r) p fits (heardAt s) q
+      (⊎-elim (λ c. S .masks .votes-heard s q a b c) (λ c. same s q a (c .0) (c .1)) (add-new l (votesAt r) p fits (votesAt s) q d)))
+      (add-other l (votesAt r) p fits (votesAt 1) (λ d. h (omega arith)) ∙ S .masks .votes-first)) S
+    where
+      fits : votesAt r < length l
+      fits = note-fits 2 (omega arith) (omega arith)
+
+      same : (s q : ℕ) → 1 ≤ s → votesAt s ≡ votesAt r → p ≡ q → has (heardMask l s) q ≡ true
+      same s q a c d = ap₂ (λ (x y : ℕ). has (heardMask l x) y) (omega arith) (sym d) ∙ e
+
+  -- a timeout
+  pub sound-timeout : Sound (addMember l (timeoutsAt r) p)
+  sound-timeout = sound-note 3 (omega arith) (omega arith) (λ e. omega arith)
+
+  -- a no-vote
+  pub sound-no-vote : Sound (addMember l (noVotesAt r) p)
+  sound-no-vote = sound-note 4 (omega arith) (omega arith) (λ e. omega arith)
+
+  -- ---- a first message
+
+  heard : Sound (addMember l (heardAt r) p)
+  heard = sound-note 1 (omega arith) (omega arith) (λ e. omega arith)
+
+-- a first message of round 1 has no vote
+pub sound-hear : (l : List ℕ) → Sound l → (r p : ℕ) (body : List ℕ) → Admitted (memberCount l) r p body → Sound (hear l r p body)
+unfolding hear
+sound-hear l S r p body A = go (which (votes (memberCount l) (r - 1) body))
+  where
+    H : Sound (addMember l (heardAt r) p)
+    H = heard l S r p (A .round-low) (A .round-high) (A .source-low)
+
+    fits : heardAt r < length l
+    fits = omega (arith, S .size, A .round-low, A .round-high)
+
+    members : memberCount (addMember l (heardAt r) p) ≡ memberCount l
+    members = add-other l (heardAt r) p fits 0 (λ e. omega arith)
+
+    later : votes (memberCount l) (r - 1) body ≡ true → r ≡ 1 → ⊥
+    later e d = never (ap (λ (m : ℕ). has m (leader (memberCount l) (r - 1))) (sym (A .strong-first d)) ∙ e) (has-zero (leader (memberCount l) (r - 1)))
+
+    go : (votes (memberCount l) (r - 1) body ≡ true) ⊎ (votes (memberCount l) (r - 1) body ≡ false) → Sound (hear l r p body)
+    go (inl e) =
+        rw e (sound-votes (addMember l (heardAt r) p) H r p (A .round-low) (A .round-high) (rw members (A .source-low)) (later e) (add-there l (heardAt r) p fits))
+    go (inr e) = rw e H
+
+-- ---- words written over a part
+
+module _ (d : List ℕ) (at : ℕ) (s : List ℕ) (n : ℕ) (fits : at + n ≤ length d) (long : length s ≡ n) where
+  -- the words before, the words after, and those written
+  paste-before : (j : ℕ) → j < at → getD (paste d at s n) j 0 ≡ getD d j 0
+  paste-before j h =
+      sym (getD-take (at + n) (paste d at s n) j 0 (omega arith))
+      ∙ ap (λ (x : List ℕ). getD x j 0) (take-paste d at s n (omega arith) (omega arith))
+      ∙ List·getD-append (take at d) (take n s) 0 j (omega (arith, length-take-le at d (omega arith)))
+      ∙ getD-take at d j 0 h
+
+  paste-after : (j : ℕ) → at + n ≤ j → getD (paste d at s n) j 0 ≡ getD d j 0
+  paste-after j h =
+      ap (λ (i : ℕ). getD (paste d at s n) i 0) whole ∙ sym (getD-drop (at + n) (paste d at s n) (j - (at + n)) 0)
+      ∙ ap (λ (x : List ℕ). getD x (j - (at + n)) 0) (drop-paste d at s n (omega arith) (omega arith))
+      ∙ getD-drop (at + n) d (j - (at + n)) 0 ∙ ap (λ (i : ℕ). getD d i 0) (sym whole)
+    where
+      whole : j ≡ at + n + (j - (at + n))
+      whole = omega arith
+
+  paste-part : take n (drop at (paste d at s n)) ≡ s
+  paste-part =
+      ap (take n) (drop-append-le at (take at d ++ take n s) (drop (at + n) d) (omega (arith, length-paste-head d at s n (omega arith) (omega arith)))
+      ∙ ap (λ (x : List ℕ). x ++ drop (at + n) d) (drop-at (take at d) (take n s) at (length-take-le at d (omega arith))))
+      ∙ take-at (take n s) (drop (at + n) d) n (length-take-le n s (omega arith)) ∙ take-all n s (omega arith)
+
+-- ---- a vertex
+
+module _ (l : List ℕ) (S : Sound l) (r p : ℕ) (body : List ℕ) (ok : numberOf (bodyRefusal (memberCount l) r p body) ≡ 0) (there : parentsHeld l r body ≡ true) where
+  A : Admitted (memberCount l) r p body
+  A = admitted (memberCount l) r p body ok
+
+  low : 1 ≤ r
+  low = A .round-low
+
+  high : r ≤ 32
+  high = A .round-high
+
+  few : p < 16
+  few = omega (arith, A .source-low, S .front .high)
+
+  marked : List ℕ
+  marked = addMember l (heldAt r) p
+
+  mark-fits : heldAt r < length l
+  mark-fits = omega (arith, low, high, S .size)
+
+  mark-size : length marked ≡ length l
+  unfolding marked addMember
+  mark-size = length-set l (heldAt r) (add (getD l (heldAt r) 0) p)
+
+  cell-fits : cellAt r p + 10 ≤ length marked
+  cell-fits = rw mark-size (omega (arith, low, high, few, S .size))
+
+  -- the words that stay
+  OffVertex : ℕ → Type 0
+  OffVertex j = (j ≡ heldAt r → ⊥) × (cellAt r p ≤ j → j < cellAt r p + 10 → ⊥)
+
+  word : (j : ℕ) → (cellAt r p ≤ j → j < cellAt r p + 10 → ⊥) → getD (putVertex l r p body) j 0 ≡ getD marked j 0
+  unfolding putVertex marked
+  word j h = ⊎-elim
+      (λ e. paste-before marked (cellAt r p) body 10 cell-fits (A .size) j (ltb-true j (cellAt r p) e))
+      (λ e. paste-after marked (cellAt r p) body 10 cell-fits (A .size) j (past (ltb-false j (cellAt r p) e) (which (ltb j (cellAt r p + 10)))))
+      (which (ltb j (cellAt r p)))
+    where
+      past : cellAt r p ≤ j → (ltb j (cellAt r p + 10) ≡ true) ⊎ (ltb j (cellAt r p + 10) ≡ false) → cellAt r p + 10 ≤ j
+      past a (inl e) = absurd (h a (ltb-true j (cellAt r p + 10) e))
+      past a (inr e) = ltb-false j (cellAt r p + 10) e
+
+  put-keeps : Keeps OffVertex l (putVertex l r p body)
+  unfolding OffVertex
+  put-keeps = record { size = put-size ∙ mark-size; same = λ j k. word j (k .1) ∙ other j (k .0) }
+    where
+      put-size : length (putVertex l r p body) ≡ length marked
+      put-size = unfold putVertex marked in length-paste marked (cellAt r p) body 10 cell-fits (omega (arith, A .size))
+
+      other : (j : ℕ) → (j ≡ heldAt r → ⊥) → getD marked j 0 ≡ getD l j 0
+      other j h = unfold marked in add-other l (heldAt r) p mark-fits j h
+
+  put-cell : cell (putVertex l r p body) r p ≡ body
+  put-cell = unfold putVertex marked in paste-part marked (cellAt r p) body 10 cell-fits (A .size)
+
+  -- the held masks
+  mask-word : (s : ℕ) → 1 ≤ s → s ≤ 32 → heldMask (putVertex l r p body) s ≡ heldMask (addMember l (heldAt r) p) s
+  unfolding marked
+  mask-word s a b = word (heldAt s) (λ c d. omega arith)
+
+  put-more : (s q : ℕ) → 1 ≤ s → s ≤ 32 → has (heldMask l s) q ≡ true → has (heldMask (putVertex l r p body) s) q ≡ true
+  put-more s q a b h = ap (λ (m : ℕ). has m q) (mask-word s a b) ∙ add-more l (heldAt r) p mark-fits (heldAt s) q h
+
+  put-new : (s q : ℕ) → 1 ≤ s → s ≤ 32 → has (heldMask (putVertex l r p body) s) q ≡ true → (has (heldMask l s) q ≡ true) ⊎ ((s ≡ r) × (p ≡ q))
+  put-new s q a b h = ⊎-elim (λ c. inl c) (λ c. let e = c .0 in inr (omega (arith, low), c .1))
+      (add-new l (heldAt r) p mark-fits (heldAt s) q (ap (λ (m : ℕ). has m q) (sym (mask-word s a b)) ∙ h))
+
+  put-there : has (heldMask (putVertex l r p body) r) p ≡ true
+  put-there = ap (λ (m : ℕ). has m p) (mask-word r low high) ∙ add-there l (heldAt r) p mark-fits
+
+  put-id : (y : ℕ) → heldId l y ≡ true → heldId (putVertex l r p body) y ≡ true
+  put-id y e =
+      let t : roundOk (idRound y) ≡ true = and-left _ _ e in
+      let w = round-range (idRound y) t in
+      and-both t (put-more (idRound y) (idMember y) (w .0) (w .1) (and-right (roundOk (idRound y)) _ e))
+
+  members : memberCount (putVertex l r p body) ≡ memberCount l
+  unfolding OffVertex
+  members = put-keeps .same 0 (λ e. omega arith, λ a b. omega arith)
+
+  -- a word of another mask
+  off-mask : (s i : ℕ) → 1 ≤ s → s ≤ 32 → 1 ≤ i → i < 6 → OffVertex (masksAt s + i)
+  unfolding OffVertex
+  off-mask s i a b c d = (λ e. omega arith, λ e f. omega arith)
+
+  put-masks : Masks (putVertex l r p body)
+  put-masks = record {
+    held-low = λ s a b. rw (members, mask-word s a b) (add-low l (heldAt r) p mark-fits (memberCount l) (heldAt s) (A .source-low) (M .held-low s a b));
+    heard-low = λ s a b. rw (members, same s 1 a b (omega arith) (omega arith)) (M .heard-low s a b);
+    votes-low = λ s a b. rw (members, same s 2 a b (omega arith) (omega arith)) (M .votes-low s a b);
+    timeouts-low = λ s a b. rw (members, same s 3 a b (omega arith) (omega arith)) (M .timeouts-low s a b);
+    no-votes-low = λ s a b. rw (members, same s 4 a b (omega arith) (omega arith)) (M .no-votes-low s a b);
+    votes-heard = λ s q a b h. ap (λ (m : ℕ). has m q) (same s 1 a b (omega arith) (omega arith))
+        ∙ M .votes-heard s q a b (ap (λ (m : ℕ). has m q) (sym (same s 2 a b (omega arith) (omega arith))) ∙ h);
+    votes-first = same 1 2 (omega arith) (omega arith) (omega arith) (omega arith) ∙ M .votes-first;
+  }
+    where
+      M : Masks l
+      M = S .masks
+
+      same : (s i : ℕ) → 1 ≤ s → s ≤ 32 → 1 ≤ i → i < 6 → getD (putVertex l r p body) (masksAt s + i) 0 ≡ getD l (masksAt s + i) 0
+      same s i a b c d = put-keeps .same (masksAt s + i) (off-mask s i a b c d)
+
+  -- the other cells
+  other-cell : (s q : ℕ) → (cellAt s q ≡ cellAt r p → ⊥) → (j : ℕ) → cellAt s q ≤ j → j < cellAt s q + 10 → OffVertex j
+  unfolding OffVertex
+  other-cell s q h j a b = (λ e. omega (arith, low, high), λ c d. h (omega arith))
+
+  cell-same : (s q : ℕ) → (cellAt s q ≡ cellAt r p → ⊥) → cell (putVertex l r p body) s q ≡ cell l s q
+  cell-same s q h = keeps-part OffVertex l (putVertex l r p body) put-keeps (cellAt s q) 10 (other-cell s q h)
+
+  same-place : (s q : ℕ) → 1 ≤ s → q < 16 → cellAt s q ≡ cellAt r p → (s ≡ r) × (q ≡ p)
+  same-place s q a b e = let d : s ≡ r = omega (arith, low, few) in (d, omega arith)
+
+  put-cells : Cells (putVertex l r p body)
+  put-cells = record { admits = admits; parents = parents; zero-cell = zeros }
+    where
+      old : (s q : ℕ) → 1 ≤ s → s ≤ 32 → (cellAt s q ≡ cellAt r p → ⊥) → has (heldMask (putVertex l r p body) s) q ≡ true → has (heldMask l s) q ≡ true
+      old s q a b h e = ⊎-elim (λ c. c) (λ c. absurd (h (ap₂ cellAt (c .0) (sym (c .1))))) (put-new s q a b e)
+
+      admits : (s q : ℕ) → 1 ≤ s → s ≤ 32 → q < 16 → has (heldMask (putVertex l r p body) s) q ≡ true
+          → numberOf (bodyRefusal (memberCount (putVertex l r p body)) s q (cell (putVertex l r p body) s q)) ≡ 0
+      admits s q a b k h = go (which (eqb (cellAt s q) (cellAt r p)))
+        where
+          go : (eqb (cellAt s q) (cellAt r p) ≡ true) ⊎ (eqb (cellAt s q) (cellAt r p) ≡ false)
+              → numberOf (bodyRefusal (memberCount (putVertex l r p body)) s q (cell (putVertex l r p body) s q)) ≡ 0
+          go (inl e) =
+              let w = same-place s q a k (eqb-true _ _ e) in
+              rw (w .0, w .1) (ap₂ (λ (n : ℕ) (c : List ℕ). numberOf (bodyRefusal n r p c)) members put-cell ∙ ok)
+          go (inr e) =
+              let d = eqb-false (cellAt s q) (cellAt r p) e in
+              ap₂ (λ (n : ℕ) (c : List ℕ). numberOf (bodyRefusal n s q c)) members (cell-same s q d) ∙ S .cells .admits s q a b k (old s q a b d h)
+
+      parents : (s q : ℕ) → 1 ≤ s → s ≤ 32 → q < 16 → has (heldMask (putVertex l r p body) s) q ≡ true
+          → parentsHeld (putVertex l r p body) s (cell (putVertex l r p body) s q) ≡ true
+      parents s q a b k h = parents-more l (putVertex l r p body) put-id s (cell (putVertex l r p body) s q) (go (which (eqb (cellAt s q) (cellAt r p))))
+        where
+          go : (eqb (cellAt s q) (cellAt r p) ≡ true) ⊎ (eqb (cellAt s q) (cellAt r p) ≡ false) → parentsHeld l s (cell (putVertex l r p body) s q) ≡ true
+          go (inl e) =
+              let w = same-place s q a k (eqb-true _ _ e) in
+              rw (w .0, w .1) (ap (parentsHeld l r) put-cell ∙ there)
+          go (inr e) =
+              let d = eqb-false (cellAt s q) (cellAt r p) e in
+              ap (parentsHeld l s) (cell-same s q d) ∙ S .cells .parents s q a b k (old s q a b d h)
+
+      zeros : (s q i : ℕ) → 1 ≤ s → s ≤ 32 → q < 16 → i < 10 → has (heldMask (putVertex l r p body) s) q ≡ false → getD (putVertex l r p body) (cellAt s q + i) 0 ≡ 0
+      zeros s q i a b k m h = go (which (eqb (cellAt s q) (cellAt r p)))
+        where
+          go : (eqb (cellAt s q) (cellAt r p) ≡ true) ⊎ (eqb (cellAt s q) (cellAt r p) ≡ false) → getD (putVertex l r p body) (cellAt s q + i) 0 ≡ 0
+          go (inl e) =
+              let w = same-place s q a k (eqb-true _ _ e) in
+              never (ap₂ (λ (x y : ℕ). has (heldMask (putVertex l r p body) x) y) (w .0) (w .1) ∙ put-there) h
+          go (inr e) =
+              let d = eqb-false (cellAt s q) (cellAt r p) e in
+              put-keeps .same (cellAt s q + i) (other-cell s q d (cellAt s q + i) (omega arith) (omega arith))
+              ∙ S .cells .zero-cell s q i a b k m (⊎-elim (λ c. never (put-more s q a b c) h) (λ c. c) (which (has (heldMask l s) q)))
+
+  -- A vertex that no question refuses keeps the state sound.
+  pub sound-put : Sound (putVertex l r p body)
+  unfolding OffVertex
+  sound-put = record {
+    size = put-keeps .size ∙ S .size;
+    front = front-kept OffVertex l (putVertex l r p body) put-keeps (λ j a. (λ e. omega arith, λ b c. omega arith))
+        (λ j a b. (λ e. omega arith, λ c d. omega arith)) (S .front);
+    masks = put-masks;
+    cells = put-cells;
+    leaders = leaders-kept OffVertex l (putVertex l r p body) put-keeps (λ e. omega arith, λ b c. omega arith) (λ e. omega arith, λ b c. omega arith)
+        (λ e. omega arith, λ b c. omega arith) (λ j a b. (λ e. omega (arith, low, high), λ c d. omega arith)) put-id (S .leaders);
+    journal = journal-kept OffVertex l (putVertex l r p body) put-keeps (λ s a b. off-mask s 5 a b (omega arith) (omega arith)) (λ e. omega arith, λ b c. omega arith)
+        (λ e. omega arith, λ b c. omega arith) (λ j a b. (λ e. omega (arith, low, high), λ c d. omega arith)) put-more (S .journal);
+  }

@@ -1,0 +1,201 @@
+-- The questions of a call in turn: what stopped it, and what is known where nothing did. Assumes nothing.
+use mathlib.Core.Path.{_≡_, refl, sym, ap, _∙_}
+use mathlib.Core.Bool.{Bool, true, false, cond, not, _&&_}
+use mathlib.Core.List.{List, [], _∷_, _++_}
+use Prim.Native.Nat.{ℕ, _+_, _-_, _≤_, _<_}
+use native.Mathlib.Omega.{arith}
+use lib.Dec.{eqb, leb, ltb}
+use lib.ListN.{length, drop, getD, length-drop}
+use borrow.Author.Tests.{eqb-false, eq-eqb, ne-eqb, lt-ltb, le-ltb, lt-leb, ltb-true}
+use Rattle.record.specs.Below.{any, least}
+use Rattle.record.specs.Members.{has}
+use Rattle.record.specs.Refusals.{numberOf, Question, firstNo}
+use Rattle.record.specs.Layout.{roundOf, sourceOf, bodyOf}
+use Rattle.record.specs.Questions.{roundOk, recordQuestions, bodyRefusal, recordRefusal}
+use Rattle.record.specs.declared.refusal.Refusal.{Refusal}
+use Rattle.record.specs.declared.refusal.Refusal.the-variants.{None, Round, Source, Duplicate, Conflict, MissingParent}
+use Rattle.record.proofs.Booleans.{never, and-left, and-right, and-both, and-fails-left, and-fails-right}
+use Rattle.record.proofs.Below.{any-intro, any-false, least-sat, least-off}
+use Rattle.record.proofs.Turn.{next, stop, done, both-yes, round-range}
+use Rattle.record.proofs.Turn as turn
+use Rattle.protocol.specs.Journal.{idLimit}
+use Rattle.replica.specs.Layout.{stateSize}
+use Rattle.replica.specs.State.{memberCount, heldMask, heardMask, leaderCount, journalCount}
+use Rattle.replica.specs.WellFormed.{wellFormed, missing, parentsHeld}
+use Rattle.replica.specs.Outcome.{Outcome, told, refusedBy, refused, admitted, outcome}
+use Rattle.replica.specs.Lists.{stateQuestions}
+use Rattle.replica.proofs.Calls.{state-ok}
+use Rattle.replica.proofs.Sound.{Sound, sound}
+use Rattle.record.specs.Admitted.{Admitted}
+use Rattle.ordering.specs.Calls.{sameBody, placeQuestions, noteQuestions}
+
+-- ---- the first no of two lists
+
+-- every question has a refusal with a number
+pub numbered : List Question → Bool
+numbered [] = true
+numbered (q ∷ rest) = not (eqb (numberOf (q .1)) 0) && numbered rest
+
+pub front-no : (xs ys : List Question) → (numberOf (firstNo xs) ≡ 0 → ⊥) → firstNo xs ≡ firstNo (xs ++ ys)
+unfolding firstNo
+front-no [] ys h = absurd (h refl)
+front-no ((true, why) ∷ xs) ys h = front-no xs ys h
+front-no ((false, why) ∷ xs) ys h = refl
+
+pub front-yes : (xs ys : List Question) → numbered xs ≡ true → numberOf (firstNo xs) ≡ 0 → firstNo ys ≡ firstNo (xs ++ ys)
+unfolding firstNo numbered
+front-yes [] ys n h = refl
+front-yes ((true, why) ∷ xs) ys n h = front-yes xs ys (and-right (not (eqb (numberOf why) 0)) _ n) h
+front-yes ((false, why) ∷ xs) ys n h = never (and-left (not (eqb (numberOf why) 0)) _ n) (ap not (eq-eqb (numberOf why) 0 h))
+
+pub state-numbered : (l : List ℕ) → numbered (stateQuestions l) ≡ true
+unfolding numbered
+state-numbered l = refl
+
+pub record-numbered : (n r p : ℕ) (body : List ℕ) → numbered (recordQuestions n r p body) ≡ true
+unfolding numbered
+record-numbered n r p body = refl
+
+-- if all are answered yes, so are those of both lists
+pub both-fronts : (xs ys : List Question) → numbered xs ≡ true → numberOf (firstNo (xs ++ ys)) ≡ 0 → (numberOf (firstNo xs) ≡ 0) × (numberOf (firstNo ys) ≡ 0)
+unfolding firstNo numbered
+both-fronts [] ys n h = (refl, h)
+both-fronts ((true, why) ∷ xs) ys n h = both-fronts xs ys (and-right (not (eqb (numberOf why) 0)) _ n) h
+both-fronts ((false, why) ∷ xs) ys n h = never (and-left (not (eqb (numberOf why) 0)) _ n) (ap not (eq-eqb (numberOf why) 0 h))
+
+-- ---- the answers of a call with a record, whose last questions are rest
+
+module _ (l rec : List ℕ) (rest : List Question) where
+  abbrev asked : List Question
+  asked = stateQuestions l ++ (recordQuestions (memberCount l) (roundOf rec) (sourceOf rec) (bodyOf rec) ++ rest)
+
+  pub at-state : (why : Refusal) → why ≡ firstNo (stateQuestions l) → (numberOf why ≡ 0 → ⊥) → why ≡ firstNo asked
+  at-state why e h = e ∙ front-no (stateQuestions l) _ (λ d. h (ap numberOf e ∙ d))
+
+  pub past-state : (why r : Refusal) → why ≡ firstNo (stateQuestions l) → numberOf why ≡ 0
+      → r ≡ firstNo (recordQuestions (memberCount l) (roundOf rec) (sourceOf rec) (bodyOf rec) ++ rest) → r ≡ firstNo asked
+  past-state why r e h d = d ∙ front-yes (stateQuestions l) _ (state-numbered l) (sym (ap numberOf e) ∙ h)
+
+  pub at-record : (why r : Refusal) → why ≡ firstNo (stateQuestions l) → numberOf why ≡ 0 → r ≡ recordRefusal (memberCount l) rec → (numberOf r ≡ 0 → ⊥) → r ≡ firstNo asked
+  unfolding bodyRefusal
+  at-record why r e h d k = past-state why r e h (d ∙ front-no (recordQuestions (memberCount l) (roundOf rec) (sourceOf rec) (bodyOf rec)) rest (λ x. k (ap numberOf d ∙ x)))
+
+  pub past-record : (why r s : Refusal) → why ≡ firstNo (stateQuestions l) → numberOf why ≡ 0 → r ≡ recordRefusal (memberCount l) rec → numberOf r ≡ 0
+      → s ≡ firstNo rest → s ≡ firstNo asked
+  unfolding bodyRefusal
+  past-record why r s e h d k f =
+      past-state why s e h
+      (f ∙ front-yes (recordQuestions (memberCount l) (roundOf rec) (sourceOf rec) (bodyOf rec)) rest
+      (record-numbered (memberCount l) (roundOf rec) (sourceOf rec) (bodyOf rec)) (sym (ap numberOf d) ∙ k))
+
+-- what is known of a record that its questions admit, before the last ones are asked
+pub known-record : (l rec : List ℕ) (why r : Refusal) → why ≡ firstNo (stateQuestions l) → numberOf why ≡ 0 → r ≡ recordRefusal (memberCount l) rec → numberOf r ≡ 0
+    → Sound l × Admitted (memberCount l) (roundOf rec) (sourceOf rec) (bodyOf rec) × (numberOf (bodyRefusal (memberCount l) (roundOf rec) (sourceOf rec) (bodyOf rec)) ≡ 0) × (length rec ≡ 12)
+known-record l rec why r e h d k =
+    let s = state-ok l (sym (ap numberOf e) ∙ h) in
+    let n = sym (ap numberOf d) ∙ k in
+    let a = turn.admitted (memberCount l) (roundOf rec) (sourceOf rec) (bodyOf rec) n in
+    (sound l (s .0) (s .1), a, n, omega (arith, a .size, length-drop 2 rec))
+
+-- ---- the smallest missing parent
+
+pub missing-found : (l : List ℕ) (r : ℕ) (body : List ℕ) (x : ℕ) → x ≡ least idLimit (missing l r body) → x < 528 → parentsHeld l r body ≡ false
+unfolding parentsHeld
+missing-found l r body x e h = ap not (any-intro idLimit (missing l r body) (least idLimit (missing l r body)) (omega arith) (least-sat idLimit (missing l r body) (omega arith)))
+
+pub none-lacking : (l : List ℕ) (r : ℕ) (body : List ℕ) (x : ℕ) → x ≡ least idLimit (missing l r body) → 528 ≤ x → parentsHeld l r body ≡ true
+unfolding parentsHeld
+none-lacking l r body x e h = ap not (any-false idLimit (missing l r body) (λ y k. least-off idLimit (missing l r body) y (omega arith)))
+
+-- ---- questions 12 to 14 of a vertex
+
+module _ (l : List ℕ) (r p : ℕ) (body : List ℕ) where
+  pub place-same : has (heldMask l r) p ≡ true → sameBody l r p body ≡ true → Duplicate ≡ firstNo (placeQuestions l r p body)
+  place-same h e = stop _ _ (ap not (and-both h e))
+
+  pub place-other : has (heldMask l r) p ≡ true → sameBody l r p body ≡ false → Conflict ≡ firstNo (placeQuestions l r p body)
+  place-other h e = next _ _ (ap not (and-fails-right (has (heldMask l r) p) e)) (stop _ _ (ap not h))
+
+  pub place-lacking : (x : ℕ) → has (heldMask l r) p ≡ false → x ≡ least idLimit (missing l r body) → x < 528 → MissingParent x ≡ firstNo (placeQuestions l r p body)
+  place-lacking x h e k =
+      ap MissingParent e
+      ∙ next _ _ (ap not (and-fails-left (sameBody l r p body) h)) (next _ _ (ap not h) (stop _ _ (missing-found l r body x e k)))
+
+  pub place-free : (x : ℕ) → has (heldMask l r) p ≡ false → x ≡ least idLimit (missing l r body) → 528 ≤ x → None ≡ firstNo (placeQuestions l r p body)
+  place-free x h e k = next _ _ (ap not (and-fails-left (sameBody l r p body) h)) (next _ _ (ap not h) (next _ _ (none-lacking l r body x e k) done))
+
+-- ---- the last question of a first message, and those of a note
+
+pub heard-before : (mask p : ℕ) → has mask p ≡ true → Duplicate ≡ firstNo ((not (has mask p), Duplicate) ∷ [])
+heard-before mask p h = stop _ _ (ap not h)
+
+pub heard-first : (mask p : ℕ) → has mask p ≡ false → None ≡ firstNo ((not (has mask p), Duplicate) ∷ [])
+heard-first mask p h = next _ _ (ap not h) done
+
+module _ (l : List ℕ) (r p mask : ℕ) (why : Refusal) (e : why ≡ firstNo (stateQuestions l)) where
+  pub note-state : (numberOf why ≡ 0 → ⊥) → why ≡ firstNo (noteQuestions l r p mask)
+  note-state h = e ∙ front-no (stateQuestions l) _ (λ d. h (ap numberOf e ∙ d))
+
+  past-note : (s : Refusal) → numberOf why ≡ 0 → s ≡ firstNo ((roundOk r, Round) ∷ (ltb p (memberCount l), Source) ∷ (not (has mask p), Duplicate) ∷ []) → s ≡ firstNo (noteQuestions l r p mask)
+  past-note s h d = d ∙ front-yes (stateQuestions l) _ (state-numbered l) (sym (ap numberOf e) ∙ h)
+
+  pub note-round : numberOf why ≡ 0 → roundOk r ≡ false → Round ≡ firstNo (noteQuestions l r p mask)
+  note-round h a = past-note Round h (stop _ _ a)
+
+  pub note-signer : numberOf why ≡ 0 → roundOk r ≡ true → memberCount l ≤ p → Source ≡ firstNo (noteQuestions l r p mask)
+  note-signer h a b = past-note Source h (next _ _ a (stop _ _ (le-ltb p (memberCount l) b)))
+
+  pub note-before : numberOf why ≡ 0 → roundOk r ≡ true → p < memberCount l → has mask p ≡ true → Duplicate ≡ firstNo (noteQuestions l r p mask)
+  note-before h a b d = past-note Duplicate h (next _ _ a (next _ _ (lt-ltb p (memberCount l) b) (heard-before mask p d)))
+
+  pub note-new : numberOf why ≡ 0 → roundOk r ≡ true → p < memberCount l → has mask p ≡ false → None ≡ firstNo (noteQuestions l r p mask)
+  note-new h a b d = past-note None h (next _ _ a (next _ _ (lt-ltb p (memberCount l) b) (heard-first mask p d)))
+
+-- ---- outcomes
+
+pub outcome-refused : (why q : Refusal) (l after : List ℕ) → why ≡ q → (numberOf why ≡ 0 → ⊥) → told (refusedBy why) l ≡ outcome q l after
+unfolding outcome
+outcome-refused why q l after e h = rw (← e, ne-eqb (numberOf why) 0 h)
+
+pub outcome-admitted : (why q : Refusal) (l after : List ℕ) → why ≡ q → numberOf why ≡ 0 → admitted l after ≡ outcome q l after
+unfolding outcome
+outcome-admitted why q l after e h = rw (← e, eq-eqb (numberOf why) 0 h)
+
+-- ---- what is known of a call that nothing stopped
+
+-- of a call with a record, questions 1 to 11 and those after them
+pub record-passed : (l : List ℕ) (r p : ℕ) (body : List ℕ) (rest : List Question)
+    → numberOf (firstNo (stateQuestions l ++ (recordQuestions (memberCount l) r p body ++ rest))) ≡ 0
+    → Sound l × Admitted (memberCount l) r p body × (numberOf (bodyRefusal (memberCount l) r p body) ≡ 0) × (numberOf (firstNo rest) ≡ 0)
+unfolding bodyRefusal
+record-passed l r p body rest e =
+    let a = both-fronts (stateQuestions l) (recordQuestions (memberCount l) r p body ++ rest) (state-numbered l) e in
+    let b = both-fronts (recordQuestions (memberCount l) r p body) rest (record-numbered (memberCount l) r p body) (a .1) in
+    let s = state-ok l (a .0) in
+    (sound l (s .0) (s .1), turn.admitted (memberCount l) r p body (b .0), b .0, b .1)
+
+-- of a vertex: its parents are held
+pub parents-passed : (l : List ℕ) (r p : ℕ) (body : List ℕ) → numberOf (firstNo (placeQuestions l r p body)) ≡ 0 → parentsHeld l r body ≡ true
+parents-passed l r p body e =
+    let q12 = both-yes _ _ _ (eqb-false 12 0 refl) e in
+    let q13 = both-yes _ _ _ (eqb-false 13 0 refl) (q12 .1) in
+    both-yes _ _ _ (eqb-false 14 0 refl) (q13 .1) .0
+
+-- of a note: its round and signer
+pub note-passed : (l : List ℕ) (r p mask : ℕ) → numberOf (firstNo (noteQuestions l r p mask)) ≡ 0 → Sound l × (1 ≤ r) × (r ≤ 32) × (p < memberCount l)
+note-passed l r p mask e =
+    let a = both-fronts (stateQuestions l) _ (state-numbered l) e in
+    let s = state-ok l (a .0) in
+    let q5 = both-yes _ _ _ (eqb-false 5 0 refl) (a .1) in
+    let q6 = both-yes _ _ _ (eqb-false 6 0 refl) (q5 .1) in
+    let w = round-range r (q5 .0) in
+    (sound l (s .0) (s .1), w .0, w .1, ltb-true _ _ (q6 .0))
+
+-- rounds that are none
+pub round-below : (r : ℕ) → r < 1 → roundOk r ≡ false
+unfolding roundOk
+round-below r h = and-fails-left _ (lt-leb 1 r h)
+
+pub round-above : (r : ℕ) → 32 < r → roundOk r ≡ false
+unfolding roundOk
+round-above r h = and-fails-right (leb 1 r) (lt-leb r 32 h)

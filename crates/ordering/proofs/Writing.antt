@@ -1,0 +1,367 @@
+-- What the calls write before any commit: which words stay, and what becomes of the vertices and the first messages. Assumes nothing.
+use mathlib.Core.Path.{_≡_, refl, sym, ap, ap₂, _∙_}
+use mathlib.Core.Bool.{Bool, true, false, cond, _&&_, or-false}
+use mathlib.Core.Logic.{_⊎_, inl, inr, ⊎-elim}
+use mathlib.Core.List.{List, [], _∷_, _++_}
+use Prim.Native.Nat.{ℕ, _+_, _-_, _^_, _≤_, _<_}
+use native.Mathlib.Omega.{arith}
+use lib.Dec.{eqb, ltb}
+use lib.ListN.{length, getD, set, take, drop, length-set, List·getD-append}
+use lib.Seq.{getD-take, getD-drop, getD-set-same, getD-set-other, paste, take-paste, drop-paste, length-paste, length-paste-head, length-take-le, drop-append-le, drop-at, take-at, take-all}
+use borrow.Author.Tests.{eqb-true, eqb-false, eq-eqb, ltb-true, ltb-false}
+use Rattle.record.specs.Members.{leader, has, add}
+use Rattle.record.specs.Layout.{strongOf}
+use Rattle.record.specs.Questions.{roundOk}
+use Rattle.record.proofs.Booleans.{which, never, and-left, and-right, and-both, and-cong, cond-true, cond-cong}
+use Rattle.record.proofs.Masks.{has-add, has-add-same, has-zero, has-one, has-bound}
+use Rattle.record.proofs.Turn.{round-range}
+use Rattle.protocol.specs.Dag.{present, votes}
+use Rattle.replica.specs.Layout.{masksAt, heldAt, heardAt, votesAt, cellAt}
+use Rattle.replica.specs.State.{memberCount, currentRound, committedRound, leaderCount, journalCount, heldMask, heardMask, votesMask, leaderList, journalList, cell, vertices, firsts}
+use Rattle.replica.proofs.Parents.{round-in}
+use Rattle.replica.proofs.Keeping.{Keeps, keeps-part, vertices-kept}
+use Rattle.ordering.specs.Commit.{highestPassable, raiseRound}
+use Rattle.ordering.specs.Calls.{addMember, putVertex, hear}
+use Rattle.ordering.proofs.Frame.{Alike, alike-self, alike-set, loose-head}
+
+-- ---- the lists stay
+
+-- all words of the head but the current round, and those of both lists, are the same
+pub record Calm (l m : List ℕ) : Type 0 where
+  pub size : length m ≡ length l
+  pub head : (j : ℕ) → j < 8 → (j ≡ 1 → ⊥) → getD m j 0 ≡ getD l j 0
+  pub lists : (j : ℕ) → 200 ≤ j → j < 744 → getD m j 0 ≡ getD l j 0
+
+-- nothing changed
+pub calm-self : (l : List ℕ) → Calm l l
+calm-self l = record { size = refl; head = λ j a b. refl; lists = λ j a b. refl }
+
+-- one change after another
+pub calm-then : {l m o : List ℕ} → Calm l m → Calm m o → Calm l o
+calm-then a b = record {
+  size = b .size ∙ a .size;
+  head = λ j x y. b .head j x y ∙ a .head j x y;
+  lists = λ j x y. b .lists j x y ∙ a .lists j x y;
+}
+
+-- the current round
+calm-round : (l : List ℕ) (x : ℕ) → Calm l (set l 1 x)
+calm-round l x = record {
+  size = length-set l 1 x;
+  head = λ j a b. getD-set-other l 1 j x 0 b;
+  lists = λ j a b. getD-set-other l 1 j x 0 (λ e. omega arith);
+}
+
+-- a word of the masks
+calm-mask : (l : List ℕ) (i x : ℕ) → 8 ≤ i → i < 200 → Calm l (set l i x)
+calm-mask l i x low high = record {
+  size = length-set l i x;
+  head = λ j a b. getD-set-other l i j x 0 (λ e. omega arith);
+  lists = λ j a b. getD-set-other l i j x 0 (λ e. omega arith);
+}
+
+-- where they differ in no word that matters
+same-words : (l m : List ℕ) → length m ≡ length l → Keeps (λ j. getD m j 0 ≡ getD l j 0) l m
+same-words l m size = record { size = size; same = λ j e. e }
+
+-- the same run of words
+part-same : (l m : List ℕ) (k c : ℕ) → length m ≡ length l → ((j : ℕ) → k ≤ j → j < k + c → getD m j 0 ≡ getD l j 0) → take c (drop k m) ≡ take c (drop k l)
+part-same l m k c size same = keeps-part (λ j. getD m j 0 ≡ getD l j 0) l m (same-words l m size) k c same
+
+module _ {l m : List ℕ} (C : Calm l m) where
+  -- the member count
+  pub calm-members : memberCount m ≡ memberCount l
+  calm-members = C .head 0 (omega arith) (λ e. omega arith)
+
+  -- the committed round
+  pub calm-committed : committedRound m ≡ committedRound l
+  calm-committed = C .head 2 (omega arith) (λ e. omega arith)
+
+  -- the leader list
+  pub calm-leaders : leaderCount l ≤ 32 → leaderList m ≡ leaderList l
+  calm-leaders few = rw (C .head 3 (omega arith) (λ e. omega arith)) (part-same l m 200 (leaderCount l) (C .size) (λ j a b. C .lists j a (omega arith)))
+
+  -- the journal
+  pub calm-journal : journalCount l ≤ 512 → journalList m ≡ journalList l
+  calm-journal few = rw (C .head 4 (omega arith) (λ e. omega arith)) (part-same l m 232 (journalCount l) (C .size) (λ j a b. C .lists j (omega arith) (omega arith)))
+
+-- ---- where the vertices and the first messages stay
+
+-- the vertices rest on the held masks and the cells
+vertices-by : (l m : List ℕ) → length m ≡ length l → ((s : ℕ) → 1 ≤ s → s ≤ 32 → heldMask m s ≡ heldMask l s) → ((j : ℕ) → 744 ≤ j → getD m j 0 ≡ getD l j 0)
+    → vertices m ≡ vertices l
+vertices-by l m size masks cells = vertices-kept (λ j. getD m j 0 ≡ getD l j 0) l m (same-words l m size) masks cells
+
+-- a first message rests on its two bits
+firsts-by : (l m : List ℕ) → memberCount m ≡ memberCount l → (s q : ℕ) → (1 ≤ s → s ≤ 32 → has (heardMask m s) q ≡ has (heardMask l s) q)
+    → (1 ≤ s → s ≤ 32 → has (votesMask m s) q ≡ has (votesMask l s) q) → firsts m s q ≡ firsts l s q
+unfolding firsts
+firsts-by l m members s q heard voted = cond-cong
+    (and-cong {a = roundOk s} refl (λ e. let w = round-range s e in heard (w .0) (w .1)))
+    (λ e. let w = round-range s (and-left (roundOk s) _ e) in
+    ap₂ (λ (n : ℕ) (b : Bool). cond b (2 ^ leader n (s - 1)) 0 ∷ []) members (voted (w .0) (w .1))) refl
+
+-- ---- the round rule, and a note
+
+-- the lists stay
+pub raise-calm : (l : List ℕ) → Calm l (raiseRound l)
+unfolding raiseRound
+raise-calm l = go (which (ltb (currentRound l) (1 + highestPassable l 32)))
+  where
+    go : (ltb (currentRound l) (1 + highestPassable l 32) ≡ true) ⊎ (ltb (currentRound l) (1 + highestPassable l 32) ≡ false) → Calm l (raiseRound l)
+    go (inl e) = rw e (calm-round l (1 + highestPassable l 32))
+    go (inr e) = rw e (calm-self l)
+
+-- the records stay
+pub raise-alike : (l : List ℕ) → Alike l (raiseRound l)
+unfolding raiseRound
+raise-alike l = go (which (ltb (currentRound l) (1 + highestPassable l 32)))
+  where
+    go : (ltb (currentRound l) (1 + highestPassable l 32) ≡ true) ⊎ (ltb (currentRound l) (1 + highestPassable l 32) ≡ false) → Alike l (raiseRound l)
+    go (inl e) = rw e (alike-set l 1 (1 + highestPassable l 32) (loose-head 1 (omega arith) (omega arith)))
+    go (inr e) = rw e (alike-self l)
+
+-- a member in the timeouts or in the no-votes of round r
+module _ (l : List ℕ) (r i p : ℕ) (low : 1 ≤ r) (high : r ≤ 32) where
+  -- the lists stay
+  pub note-calm : i < 6 → Calm l (addMember l (masksAt r + i) p)
+  unfolding addMember
+  note-calm h = calm-mask l (masksAt r + i) _ (omega arith) (omega arith)
+
+  -- the records stay
+  pub note-alike : 3 ≤ i → i < 6 → Alike l (addMember l (masksAt r + i) p)
+  unfolding addMember
+  note-alike h k = alike-set l (masksAt r + i) _ (record { low = omega arith; high = omega arith; apart = λ s j a b c e. omega arith })
+
+-- ---- a first message
+
+module _ (l : List ℕ) (r p : ℕ) (body : List ℕ) (size : length l ≡ 5864) (low : 1 ≤ r) (high : r ≤ 32) where
+  -- the words after it: both masks of the round, and all others
+  heard-word : (j : ℕ) → (j ≡ heardAt r → ⊥) → (j ≡ votesAt r → ⊥) → getD (hear l r p body) j 0 ≡ getD l j 0
+  unfolding hear addMember
+  heard-word j a b = go (which (votes (memberCount l) (r - 1) body))
+    where
+      go : (votes (memberCount l) (r - 1) body ≡ true) ⊎ (votes (memberCount l) (r - 1) body ≡ false) → getD (hear l r p body) j 0 ≡ getD l j 0
+      go (inl e) = rw e (getD-set-other (set l (heardAt r) (add (getD l (heardAt r) 0) p)) (votesAt r) j _ 0 b ∙ getD-set-other l (heardAt r) j _ 0 a)
+      go (inr e) = rw e (getD-set-other l (heardAt r) j _ 0 a)
+
+  -- the heard mask
+  heard-mask : heardMask (hear l r p body) r ≡ add (heardMask l r) p
+  unfolding hear addMember
+  heard-mask = go (which (votes (memberCount l) (r - 1) body))
+    where
+      here : getD (set l (heardAt r) (add (getD l (heardAt r) 0) p)) (heardAt r) 0 ≡ add (heardMask l r) p
+      here = getD-set-same l (heardAt r) (add (getD l (heardAt r) 0) p) 0 (omega arith)
+
+      go : (votes (memberCount l) (r - 1) body ≡ true) ⊎ (votes (memberCount l) (r - 1) body ≡ false) → heardMask (hear l r p body) r ≡ add (heardMask l r) p
+      go (inl e) = rw e (getD-set-other (set l (heardAt r) (add (getD l (heardAt r) 0) p)) (votesAt r) (heardAt r) _ 0 (λ d. omega arith) ∙ here)
+      go (inr e) = rw e here
+
+  -- the votes mask
+  votes-mask : votesMask (hear l r p body) r ≡ cond (votes (memberCount l) (r - 1) body) (add (votesMask l r) p) (votesMask l r)
+  unfolding hear addMember
+  votes-mask = go (which (votes (memberCount l) (r - 1) body))
+    where
+      before : getD (set l (heardAt r) (add (getD l (heardAt r) 0) p)) (votesAt r) 0 ≡ votesMask l r
+      before = getD-set-other l (heardAt r) (votesAt r) _ 0 (λ d. omega arith)
+
+      go : (votes (memberCount l) (r - 1) body ≡ true) ⊎ (votes (memberCount l) (r - 1) body ≡ false)
+          → votesMask (hear l r p body) r ≡ cond (votes (memberCount l) (r - 1) body) (add (votesMask l r) p) (votesMask l r)
+      go (inl e) = rw e (getD-set-same (set l (heardAt r) (add (getD l (heardAt r) 0) p)) (votesAt r) _ 0
+          (omega (arith, length-set l (heardAt r) (add (getD l (heardAt r) 0) p)))
+          ∙ ap (λ (m : ℕ). add m p) before)
+      go (inr e) = rw e before
+
+  -- the lists stay
+  pub hear-calm : Calm l (hear l r p body)
+  unfolding hear addMember
+  hear-calm = go (which (votes (memberCount l) (r - 1) body))
+    where
+      first : Calm l (set l (heardAt r) (add (getD l (heardAt r) 0) p))
+      first = calm-mask l (heardAt r) _ (omega arith) (omega arith)
+
+      go : (votes (memberCount l) (r - 1) body ≡ true) ⊎ (votes (memberCount l) (r - 1) body ≡ false) → Calm l (hear l r p body)
+      go (inl e) = rw e (calm-then first (calm-mask (set l (heardAt r) (add (getD l (heardAt r) 0) p)) (votesAt r) _ (omega arith) (omega arith)))
+      go (inr e) = rw e first
+
+  -- the vertices stay
+  pub hear-vertices : vertices (hear l r p body) ≡ vertices l
+  hear-vertices = vertices-by l (hear l r p body) (hear-calm .size) (λ s a b. heard-word (heldAt s) (λ e. omega arith) (λ e. omega arith))
+      (λ j a. heard-word j (λ e. omega arith) (λ e. omega arith))
+
+  -- any other first message stays
+  pub hear-other : (s q : ℕ) → (eqb r s && eqb p q) ≡ false → firsts (hear l r p body) s q ≡ firsts l s q
+  hear-other s q e = go (which (eqb r s))
+    where
+      members : memberCount (hear l r p body) ≡ memberCount l
+      members = calm-members hear-calm
+
+      go : (eqb r s ≡ true) ⊎ (eqb r s ≡ false) → firsts (hear l r p body) s q ≡ firsts l s q
+      go (inl d) =
+          let same : r ≡ s = eqb-true r s d in
+          let k : eqb p q ≡ false = ⊎-elim (λ t. never (and-both d t) e) (λ t. t) (which (eqb p q)) in
+          let plus : (m : ℕ) → has (add m p) q ≡ has m q = λ m. has-add m p q ∙ rw k (or-false (has m q)) in
+          rw (← same) (firsts-by l (hear l r p body) members r q (λ a b. ap (λ (m : ℕ). has m q) heard-mask ∙ plus (heardMask l r))
+          (λ a b. ap (λ (m : ℕ). has m q) votes-mask ∙ chosen (votes (memberCount l) (r - 1) body) (plus (votesMask l r))))
+        where
+          chosen : (b : Bool) → has (add (votesMask l r) p) q ≡ has (votesMask l r) q → has (cond b (add (votesMask l r) p) (votesMask l r)) q ≡ has (votesMask l r) q
+          chosen true h = h
+          chosen false h = refl
+      go (inr d) =
+          let apart : r ≡ s → ⊥ = eqb-false r s d in
+          firsts-by l (hear l r p body) members s q
+          (λ a b. ap (λ (m : ℕ). has m q) (heard-word (heardAt s) (λ t. apart (omega arith)) (λ t. omega arith)))
+          (λ a b. ap (λ (m : ℕ). has m q) (heard-word (votesAt s) (λ t. omega arith) (λ t. apart (omega arith))))
+
+  -- its bit is set
+  in-round : (roundOk r && has (heardMask (hear l r p body) r) p) ≡ true
+  in-round = and-both (round-in r low high) (ap (λ (m : ℕ). has m p) heard-mask ∙ has-add-same (heardMask l r) p)
+
+  -- what is kept of it
+  first-word : firsts (hear l r p body) r p ≡ cond (has (votesMask (hear l r p body) r) p) (2 ^ leader (memberCount (hear l r p body)) (r - 1)) 0 ∷ []
+  unfolding firsts
+  first-word = cond-true _ _ in-round
+
+  -- the one that was heard is there
+  pub hear-here : present (firsts (hear l r p body) r p) ≡ true
+  hear-here = ap present first-word
+
+  -- and votes as its record does, if its vote was not there
+  pub hear-vote : has (votesMask l r) p ≡ false → (n : ℕ) → n ≡ memberCount l → votes n (r - 1) (firsts (hear l r p body) r p) ≡ votes n (r - 1) body
+  unfolding strongOf
+  hear-vote h n e = ap (votes n (r - 1)) first-word ∙ go (which (votes n (r - 1) body))
+    where
+      same : n ≡ memberCount (hear l r p body)
+      same = e ∙ sym (calm-members hear-calm)
+
+      bit : has (votesMask (hear l r p body) r) p ≡ has (cond (votes n (r - 1) body) (add (votesMask l r) p) (votesMask l r)) p
+      bit = ap (λ (x : ℕ). has x p) votes-mask ∙ ap (λ (x : ℕ). has (cond (votes x (r - 1) body) (add (votesMask l r) p) (votesMask l r)) p) (sym e)
+
+      go : (votes n (r - 1) body ≡ true) ⊎ (votes n (r - 1) body ≡ false)
+          → has (cond (has (votesMask (hear l r p body) r) p) (2 ^ leader (memberCount (hear l r p body)) (r - 1)) 0) (leader n (r - 1)) ≡ votes n (r - 1) body
+      go (inl d) =
+          let b : has (votesMask (hear l r p body) r) p ≡ true = bit ∙ rw d (has-add-same (votesMask l r) p) in
+          ap (λ (c : Bool). has (cond c (2 ^ leader (memberCount (hear l r p body)) (r - 1)) 0) (leader n (r - 1))) b
+          ∙ ap (λ (x : ℕ). has (2 ^ leader x (r - 1)) (leader n (r - 1))) (sym same)
+          ∙ has-one (leader n (r - 1)) (leader n (r - 1)) ∙ eq-eqb (leader n (r - 1)) (leader n (r - 1)) refl ∙ sym d
+      go (inr d) =
+          let b : has (votesMask (hear l r p body) r) p ≡ false = bit ∙ rw d h in
+          ap (λ (c : Bool). has (cond c (2 ^ leader (memberCount (hear l r p body)) (r - 1)) 0) (leader n (r - 1))) b ∙ has-zero (leader n (r - 1)) ∙ sym d
+
+-- ---- a vertex
+
+-- words written over a part
+module _ (d : List ℕ) (at : ℕ) (s : List ℕ) (n : ℕ) (fits : at + n ≤ length d) (long : length s ≡ n) where
+  -- the words before
+  paste-before : (j : ℕ) → j < at → getD (paste d at s n) j 0 ≡ getD d j 0
+  paste-before j h =
+      sym (getD-take (at + n) (paste d at s n) j 0 (omega arith))
+      ∙ ap (λ (x : List ℕ). getD x j 0) (take-paste d at s n (omega arith) (omega arith))
+      ∙ List·getD-append (take at d) (take n s) 0 j (omega (arith, length-take-le at d (omega arith)))
+      ∙ getD-take at d j 0 h
+
+  -- the words after
+  paste-after : (j : ℕ) → at + n ≤ j → getD (paste d at s n) j 0 ≡ getD d j 0
+  paste-after j h =
+      ap (λ (i : ℕ). getD (paste d at s n) i 0) whole ∙ sym (getD-drop (at + n) (paste d at s n) (j - (at + n)) 0)
+      ∙ ap (λ (x : List ℕ). getD x (j - (at + n)) 0) (drop-paste d at s n (omega arith) (omega arith))
+      ∙ getD-drop (at + n) d (j - (at + n)) 0 ∙ ap (λ (i : ℕ). getD d i 0) (sym whole)
+    where
+      whole : j ≡ at + n + (j - (at + n))
+      whole = omega arith
+
+  -- the words written
+  paste-part : take n (drop at (paste d at s n)) ≡ s
+  paste-part =
+      ap (take n) (drop-append-le at (take at d ++ take n s) (drop (at + n) d) (omega (arith, length-paste-head d at s n (omega arith) (omega arith)))
+      ∙ ap (λ (x : List ℕ). x ++ drop (at + n) d) (drop-at (take at d) (take n s) at (length-take-le at d (omega arith))))
+      ∙ take-at (take n s) (drop (at + n) d) n (length-take-le n s (omega arith)) ∙ take-all n s (omega arith)
+
+module _ (l : List ℕ) (r p : ℕ) (body : List ℕ) (size : length l ≡ 5864) (low : 1 ≤ r) (high : r ≤ 32) (few : p < 16) (long : length body ≡ 10) where
+  -- the held mask is written first
+  marked : List ℕ
+  marked = addMember l (heldAt r) p
+
+  -- its size
+  mark-size : length marked ≡ length l
+  unfolding marked addMember
+  mark-size = length-set l (heldAt r) _
+
+  -- any other word
+  mark-other : (j : ℕ) → (j ≡ heldAt r → ⊥) → getD marked j 0 ≡ getD l j 0
+  unfolding marked addMember
+  mark-other j h = getD-set-other l (heldAt r) j _ 0 h
+
+  -- the mask
+  mark-here : getD marked (heldAt r) 0 ≡ add (heldMask l r) p
+  unfolding marked addMember
+  mark-here = getD-set-same l (heldAt r) _ 0 (omega arith)
+
+  -- the cell lies within the state
+  fits : cellAt r p + 10 ≤ length marked
+  fits = omega (arith, mark-size)
+
+  -- then the cell
+  put-is : putVertex l r p body ≡ paste marked (cellAt r p) body 10
+  unfolding putVertex marked
+  put-is = refl
+
+  -- a word before the cells
+  put-before : (j : ℕ) → j < 744 → getD (putVertex l r p body) j 0 ≡ getD marked j 0
+  put-before j h = ap (λ (x : List ℕ). getD x j 0) put-is ∙ paste-before marked (cellAt r p) body 10 fits long j (omega arith)
+
+  -- the size stays
+  put-size : length (putVertex l r p body) ≡ length l
+  put-size = ap length put-is ∙ length-paste marked (cellAt r p) body 10 fits (omega arith) ∙ mark-size
+
+  -- a word of a cell but this one
+  put-off : (j : ℕ) → 744 ≤ j → (cellAt r p ≤ j → j < cellAt r p + 10 → ⊥) → getD (putVertex l r p body) j 0 ≡ getD l j 0
+  put-off j a h = ap (λ (x : List ℕ). getD x j 0) put-is ∙ go (which (ltb j (cellAt r p))) (which (ltb j (cellAt r p + 10))) ∙ mark-other j (λ e. omega arith)
+    where
+      go : (ltb j (cellAt r p) ≡ true) ⊎ (ltb j (cellAt r p) ≡ false) → (ltb j (cellAt r p + 10) ≡ true) ⊎ (ltb j (cellAt r p + 10) ≡ false)
+          → getD (paste marked (cellAt r p) body 10) j 0 ≡ getD marked j 0
+      go (inl e) d = paste-before marked (cellAt r p) body 10 fits long j (ltb-true j (cellAt r p) e)
+      go (inr e) (inl d) = absurd (h (ltb-false j (cellAt r p) e) (ltb-true j (cellAt r p + 10) d))
+      go (inr e) (inr d) = paste-after marked (cellAt r p) body 10 fits long j (ltb-false j (cellAt r p + 10) d)
+
+  -- the lists stay
+  pub put-calm : Calm l (putVertex l r p body)
+  put-calm = record {
+    size = put-size;
+    head = λ j a b. put-before j (omega arith) ∙ mark-other j (λ e. omega arith);
+    lists = λ j a b. put-before j b ∙ mark-other j (λ e. omega arith);
+  }
+
+  -- the first messages stay
+  pub put-firsts : (s q : ℕ) → firsts (putVertex l r p body) s q ≡ firsts l s q
+  put-firsts s q = firsts-by l (putVertex l r p body) (calm-members put-calm) s q
+      (λ a b. ap (λ (m : ℕ). has m q) (put-before (heardAt s) (omega arith) ∙ mark-other (heardAt s) (λ e. omega arith)))
+      (λ a b. ap (λ (m : ℕ). has m q) (put-before (votesAt s) (omega arith) ∙ mark-other (votesAt s) (λ e. omega arith)))
+
+  -- the vertex is there
+  pub put-here : vertices (putVertex l r p body) r p ≡ body
+  unfolding vertices
+  put-here = cond-true _ _ (and-both (round-in r low high) (ap (λ (m : ℕ). has m p) (put-before (heldAt r) (omega arith) ∙ mark-here) ∙ has-add-same (heldMask l r) p))
+      ∙ ap (λ (x : List ℕ). take 10 (drop (cellAt r p) x)) put-is ∙ paste-part marked (cellAt r p) body 10 fits long
+
+  -- any other stays, where no mask has a bit at 16 or above
+  pub put-other : ((s : ℕ) → 1 ≤ s → s ≤ 32 → heldMask l s < 2 ^ 16) → (s q : ℕ) → (eqb r s && eqb p q) ≡ false → vertices (putVertex l r p body) s q ≡ vertices l s q
+  unfolding vertices
+  put-other small s q e = cond-cong (and-cong {a = roundOk s} refl (λ d. let w = round-range s d in bit (w .0) (w .1) (which (eqb r s))))
+      (λ d. same d) refl
+    where
+      bit : 1 ≤ s → s ≤ 32 → (eqb r s ≡ true) ⊎ (eqb r s ≡ false) → has (heldMask (putVertex l r p body) s) q ≡ has (heldMask l s) q
+      bit a b (inl d) =
+          let k : eqb p q ≡ false = ⊎-elim (λ t. never (and-both d t) e) (λ t. t) (which (eqb p q)) in
+          let h : r ≡ s = eqb-true r s d in
+          rw (← h) (ap (λ (m : ℕ). has m q) (put-before (heldAt r) (omega arith) ∙ mark-here) ∙ has-add (heldMask l r) p q ∙ rw k (or-false (has (heldMask l r) q)))
+      bit a b (inr d) =
+          let h : r ≡ s → ⊥ = eqb-false r s d in
+          ap (λ (m : ℕ). has m q) (put-before (heldAt s) (omega arith) ∙ mark-other (heldAt s) (λ t. h (omega arith)))
+
+      same : (roundOk s && has (heldMask (putVertex l r p body) s) q) ≡ true → cell (putVertex l r p body) s q ≡ cell l s q
+      same d =
+          let w = round-range s (and-left (roundOk s) _ d) in
+          let k : q < 16 = has-bound 16 (heldMask l s) q (small s (w .0) (w .1)) (sym (bit (w .0) (w .1) (which (eqb r s))) ∙ and-right (roundOk s) _ d) in
+          part-same l (putVertex l r p body) (cellAt s q) 10 put-size (λ j a b. put-off j (omega arith) (λ x y. never (and-both
+          (eq-eqb r s (omega arith)) (eq-eqb p q (omega arith))) e))

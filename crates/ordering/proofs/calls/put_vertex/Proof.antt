@@ -1,0 +1,86 @@
+use mathlib.Core.Path.{ap₂}
+use mathlib.Core.List.{List}
+use Prim.Native.Nat.{ℕ, _+_}
+use lib.Seq.{paste, take-all}
+use Rattle.ordering.specs.Calls.{addMember, putVertex}
+use Rattle.ordering.proofs.Copying.{put-pasted}
+use mathlib.Core.Path.{_≡_, refl, sym, ap, _∙_}
+use native.Mathlib.Omega.{arith}
+use borrow.Author.Needs.{needs}
+use Rattle.ordering.proofs.calls.put_vertex.Statement.{statement}
+use Rattle.ordering.proofs.calls.put_vertex.Tie as tie
+use Rattle.ordering.proofs.calls.put_vertex.Reads as reads
+use Rattle.ordering.proofs.calls.put_vertex.Lts as lts
+use Rattle.ordering.proofs.calls.add_member.Reads as add-member-reads
+use Rattle.ordering.proofs.calls.write_body.Reads as write-body-reads
+use Rattle.replica.proofs.layout.cell_at.Reads as cell-at-reads
+use Rattle.replica.proofs.layout.masks_at.Reads as masks-at-reads
+
+-- src/calls.rt:140:16
+masks-at-requires : tie.Need-masks-at-requires
+masks-at-requires c κs = search needs
+
+-- src/calls.rt:140:16
+add-mask : tie.Need-add-mask
+add-mask c = search needs
+
+-- src/calls.rt:141:5
+add-member-requires : tie.Need-add-member-requires
+add-member-requires c κs = search needs
+
+-- src/calls.rt:142:9
+cell-at-requires : tie.Need-cell-at-requires
+cell-at-requires c κs = search needs
+
+-- src/calls.rt:143:15
+add-end : tie.Need-add-end
+add-end c = search needs
+
+-- src/calls.rt:144:16
+mul-write-body : tie.Need-mul-write-body
+mul-write-body c = search needs
+
+-- src/calls.rt:144:16
+sub-write-body : tie.Need-sub-write-body
+sub-write-body c = search needs
+
+-- src/calls.rt:144:16
+part-write-body-start : tie.Need-part-write-body-start
+part-write-body-start c = search needs
+
+-- src/calls.rt:144:16
+part-write-body-end : tie.Need-part-write-body-end
+part-write-body-end c = search needs
+
+-- src/calls.rt:144:5
+write-body-requires : tie.Need-write-body-requires
+write-body-requires c κs = search needs
+
+-- src/calls.rt:136:1
+same-length : tie.Need-same-length
+same-length c = search needs
+
+-- src/calls.rt:136:1
+returns : tie.Need-returns
+unfolding putVertex
+returns c = put-pasted (c .before .before .before .before .cell-at .result) 10 (c .before .before .before .before .before .before .before .add-member .last .0) (c .before .before .write-body .last .0) (c .before .before .before .before .before .before .before .before .before .before .before .before .args .body .now)
+    (c .before .before .write-body .ensures ∙ sym (take-all 10 (c .before .before .before .before .before .before .before .before .before .before .before .before .args .body .now) (omega (arith, c .before .before .before .before .before .before .before .before .before .before .before .before .pre .4))))
+    ∙ ap₂ (λ (x : List ℕ) (k : ℕ). paste x k (c .before .before .before .before .before .before .before .before .before .before .before .before .args .body .now) 10)
+    (c .before .before .before .before .before .before .before .add-member .ensures ∙ ap (λ (k : ℕ). addMember (c .before .before .before .before .before .before .before .before .before .before .before .before .args .state .now) (k + 0) (c .before .before .before .before .before .before .before .before .before .before .before .before .args .member)) (c .before .before .before .before .before .before .before .before .before .masks-at .ensures)) (c .before .before .before .before .cell-at .ensures)
+
+pub put-vertex-spec : {M : Type 1} → statement M
+put-vertex-spec =
+    tie.close
+    (tie.spec
+    masks-at-requires
+    add-mask
+    add-member-requires
+    cell-at-requires
+    add-end
+    mul-write-body
+    sub-write-body
+    part-write-body-start
+    part-write-body-end
+    write-body-requires
+    same-length
+    returns)

@@ -1,0 +1,76 @@
+use Rattle.ordering.specs.Commit.{appendLeader}
+use Rattle.record.proofs.Masks.{leader-lt, leader-small}
+use native.Mathlib.Omega.{arith}
+use borrow.Author.Needs.{needs}
+use Rattle.ordering.proofs.commit.append_leader.Statement.{statement}
+use Rattle.ordering.proofs.commit.append_leader.Tie as tie
+use Rattle.ordering.proofs.commit.append_leader.Reads as reads
+use Rattle.ordering.proofs.commit.append_leader.Lts as lts
+use Rattle.record.proofs.members.leader_of.Reads as leader-of-reads
+use Rattle.replica.proofs.layout.wide.Reads as wide-reads
+
+-- src/commit.rt:93:17
+slice-read-count : tie.Need-slice-read-count
+slice-read-count c = search needs
+
+-- src/commit.rt:94:14
+mul-id : tie.Need-mul-id
+mul-id c = search needs
+
+-- src/commit.rt:94:27
+leader-of-requires : tie.Need-leader-of-requires
+leader-of-requires c κs = search needs
+
+-- src/commit.rt:94:14
+add-id : tie.Need-add-id
+add-id c = omega (arith, c .leader-of .ensures, leader-small (c .before .before .before .args .n) (c .before .before .before .args .round) (omega arith))
+
+-- src/commit.rt:95:21
+wide-requires : tie.Need-wide-requires
+wide-requires c κs = search needs
+
+-- src/commit.rt:95:11
+add-state : tie.Need-add-state
+add-state c = search needs
+
+-- src/commit.rt:95:5
+mul-state : tie.Need-mul-state
+mul-state c = search needs
+
+-- src/commit.rt:95:5
+slice-write-state : tie.Need-slice-write-state
+slice-write-state c = search needs
+
+-- src/commit.rt:96:27
+add-state-2 : tie.Need-add-state-2
+add-state-2 c = search needs
+
+-- src/commit.rt:96:5
+slice-write-state-2 : tie.Need-slice-write-state-2
+slice-write-state-2 c = search needs
+
+-- src/commit.rt:89:1
+same-length : tie.Need-same-length
+same-length c = search needs
+
+-- src/commit.rt:89:1
+returns : tie.Need-returns
+unfolding appendLeader
+returns c = rw (c .wide .ensures, c .before .leader-of .ensures, c .before .before .before .before .pre .1)
+
+pub append-leader-spec : {M : Type 1} → statement M
+append-leader-spec =
+    tie.close
+    (tie.spec
+    slice-read-count
+    mul-id
+    leader-of-requires
+    add-id
+    wide-requires
+    add-state
+    mul-state
+    slice-write-state
+    add-state-2
+    slice-write-state-2
+    same-length
+    returns)

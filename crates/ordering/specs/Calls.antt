@@ -1,0 +1,79 @@
+-- The calls that admit something: a vertex, a first message, a timeout, a no-vote.
+use mathlib.Core.Bool.{Bool, cond, not, _&&_}
+use mathlib.Core.List.{List, [], _∷_, _++_}
+use Prim.Native.Nat.{ℕ, _+_, _-_}
+use lib.Dec.{eqb, ltb}
+use lib.ListN.{getD, set, length}
+use lib.Seq.{paste}
+use Rattle.record.specs.Below.{all, least}
+use Rattle.record.specs.Members.{has, add}
+use Rattle.record.specs.Refusals.{Question, firstNo}
+use Rattle.record.specs.Layout.{bodySize, roundOf, sourceOf, bodyOf}
+use Rattle.record.specs.Questions.{roundOk, recordQuestions}
+use Rattle.record.specs.declared.refusal.Refusal.the-variants.{Round, Source, Duplicate, Conflict, MissingParent}
+use Rattle.protocol.specs.Dag.{votes}
+use Rattle.protocol.specs.Journal.{idLimit}
+use Rattle.replica.specs.Layout.{heldAt, heardAt, votesAt, timeoutsAt, noVotesAt, cellAt}
+use Rattle.replica.specs.State.{memberCount, heldMask, heardMask, timeoutsMask, noVotesMask, cell}
+use Rattle.replica.specs.WellFormed.{missing, parentsHeld}
+use Rattle.replica.specs.Outcome.{Outcome, outcome}
+use Rattle.replica.specs.Lists.{stateQuestions}
+use Rattle.ordering.specs.Commit.{raiseRound, commitAll}
+
+-- member p is added to the mask in the word at
+unfoldable pub addMember : List ℕ → ℕ → ℕ → List ℕ
+addMember l at p = set l at (add (getD l at 0) p)
+
+-- ---- a vertex
+
+-- the cell of round r and member p has the words of this body
+unfoldable pub sameBody : List ℕ → ℕ → ℕ → List ℕ → Bool
+sameBody l r p body = all bodySize (λ i. eqb (getD l (cellAt r p + i) 0) (getD body i 0))
+
+-- questions 12 to 14
+abbrev pub placeQuestions : List ℕ → ℕ → ℕ → List ℕ → List Question
+placeQuestions l r p body =
+    (not (has (heldMask l r) p && sameBody l r p body), Duplicate)
+    ∷ (not (has (heldMask l r) p), Conflict)
+    ∷ (parentsHeld l r body, MissingParent (least idLimit (missing l r body)))
+    ∷ []
+
+abbrev pub vertexQuestions : List ℕ → ℕ → ℕ → List ℕ → List Question
+vertexQuestions l r p body = stateQuestions l ++ (recordQuestions (memberCount l) r p body ++ placeQuestions l r p body)
+
+-- the vertex is written to its cell and marked held
+unfoldable pub putVertex : List ℕ → ℕ → ℕ → List ℕ → List ℕ
+putVertex l r p body = paste (addMember l (heldAt r) p) (cellAt r p) body bodySize
+
+unfoldable pub takeBody : List ℕ → ℕ → ℕ → List ℕ → Outcome
+takeBody l r p body = outcome (firstNo (vertexQuestions l r p body)) l (commitAll (raiseRound (putVertex l r p body)))
+
+abbrev pub takeVertex : List ℕ → List ℕ → Outcome
+takeVertex l rec = takeBody l (roundOf rec) (sourceOf rec) (bodyOf rec)
+
+-- ---- a first message
+
+abbrev pub firstQuestions : List ℕ → ℕ → ℕ → List ℕ → List Question
+firstQuestions l r p body = stateQuestions l ++ (recordQuestions (memberCount l) r p body ++ ((not (has (heardMask l r) p), Duplicate) ∷ []))
+
+-- the source is heard, and in votes if the record votes for the previous round's leader
+unfoldable pub hear : List ℕ → ℕ → ℕ → List ℕ → List ℕ
+hear l r p body = cond (votes (memberCount l) (r - 1) body) (addMember (addMember l (heardAt r) p) (votesAt r) p) (addMember l (heardAt r) p)
+
+unfoldable pub takeFirstBody : List ℕ → ℕ → ℕ → List ℕ → Outcome
+takeFirstBody l r p body = outcome (firstNo (firstQuestions l r p body)) l (commitAll (hear l r p body))
+
+abbrev pub takeFirstMessage : List ℕ → List ℕ → Outcome
+takeFirstMessage l rec = takeFirstBody l (roundOf rec) (sourceOf rec) (bodyOf rec)
+
+-- ---- a timeout and a no-vote
+
+-- of a round and a signer, with the mask that the signer would join
+abbrev pub noteQuestions : List ℕ → ℕ → ℕ → ℕ → List Question
+noteQuestions l r p mask = stateQuestions l ++ ((roundOk r, Round) ∷ (ltb p (memberCount l), Source) ∷ (not (has mask p), Duplicate) ∷ [])
+
+unfoldable pub takeTimeout : List ℕ → ℕ → ℕ → Outcome
+takeTimeout l r p = outcome (firstNo (noteQuestions l r p (timeoutsMask l r))) l (raiseRound (addMember l (timeoutsAt r) p))
+
+unfoldable pub takeNoVote : List ℕ → ℕ → ℕ → Outcome
+takeNoVote l r p = outcome (firstNo (noteQuestions l r p (noVotesMask l r))) l (addMember l (noVotesAt r) p)

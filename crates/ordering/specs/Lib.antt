@@ -1,0 +1,4 @@
+pub mod Commit
+pub mod Calls
+pub mod Kept
+pub mod Standing

@@ -19,6 +19,8 @@ use Rattle.replica.specs.State.{committedRound, timeoutsMask, noVotesMask, lead
 use Rattle.replica.specs.Outcome.{outcome}
 use Rattle.replica.specs.Lists.{opened, openState}
 use Rattle.replica.proofs.Sound.{well-formed}
+use Rattle.protocol.specs.Chain.{leaders}
+use Rattle.protocol.specs.Journal.{journal}
 use Rattle.replica.proofs.Opened.{opened-members, opened-word, opened-leaders, opened-journal, opened-vertices, opened-firsts, opened-sound}
 use Rattle.ordering.specs.Commit.{raiseRound, commitAll}
 use Rattle.ordering.specs.Calls.{addMember, putVertex, hear, vertexQuestions, firstQuestions, noteQuestions, takeBody, takeFirstBody, takeTimeout, takeNoVote}
@@ -38,9 +40,9 @@ use Rattle.agreement.proofs.Following.{Follows, alike, at-cast, formed,
 
 -- by one call
 pub admit-more : (c : Call) (number : ℕ) (m : Model) → Inside m (admit c number m)
-admit-more (vertex rec) zero m = record { vertices = λ x h. List·Memᴰ·tail h; firsts = λ x h. h }
+admit-more (vertex rec) zero m = record { members = refl; vertices = λ x h. List·Memᴰ·tail h; firsts = λ x h. h }
 admit-more (vertex rec) (suc number) m = inside-self m
-admit-more (firstMessage rec) zero m = record { vertices = λ x h. h; firsts = λ x h. List·Memᴰ·tail h }
+admit-more (firstMessage rec) zero m = record { members = refl; vertices = λ x h. h; firsts = λ x h. List·Memᴰ·tail h }
 admit-more (firstMessage rec) (suc number) m = inside-self m
 admit-more (opening n) number m = inside-self m
 admit-more (timeout r p) number m = inside-self m
@@ -70,7 +72,7 @@ first-out rec (suc number) m d = refl
 -- ---- a state just opened
 
 -- it follows the empty model
-pub opened-follows : (n : ℕ) → legal n ≡ true → Follows n (opened n) empty
+pub opened-follows : (n : ℕ) → legal n ≡ true → Follows n (opened n) (empty n)
 opened-follows n g =
     let S = opened-sound n g in
     let same : (r p : ℕ) → vertices (opened n) r p ≡ recordsOf [] r p = λ r p. opened-vertices n r p ∙ sym (records-none r p) in
@@ -82,7 +84,7 @@ opened-follows n g =
         vertex = same;
         first = λ r p. ap present (none r p);
         vote = λ r p. ap (votes n (r - 1)) (none r p);
-        lists = at-cast (opened-word n 2 (omega arith)) (opened-leaders n) (opened-journal n) (at-open n (dagOf empty));
+        lists = at-cast (opened-word n 2 (omega arith)) (opened-leaders n) (opened-journal n) (at-open n (dagOf (empty n)));
       };
       over = λ q x y. sym (not-led n (dag (opened n)) q (ap present (opened-vertices n q (leader n q))));
     }
@@ -162,35 +164,37 @@ module _ (n : ℕ) (a b : Model) (honest : ℕ → Bool) (g : legal n ≡ true) 
 
   -- ---- the lists that are handed over
 
-  module _ (l : List ℕ) (m : Model) (f : Follows n l m) where
+  module _ (l : List ℕ) (m : Model) (count : m .n ≡ n) (f : Follows n l m) where
     -- no round of the model is left to commit
     over-model : (q : ℕ) → committedRound l < q → q ≤ 31 → committed n (dagOf m) q ≡ false
     over-model q x y = sym (committed-cong n (dag l) (dagOf m) (f .holds .vertex) (alike (f .holds)) q) ∙ f .over q x y
 
     -- the lists are the model's
-    matches : Matches n l m
+    matches : Matches l m
     matches =
         let S = f .holds .sound in
         record {
           leader-list = hand-leaders l (S .size) (well-formed l S)
-              ∙ at-leaders n (dagOf m) (committedRound l) (leaderList l) (journalList l) (f .holds .lists) (S .leaders .committed-high) over-model;
+              ∙ at-leaders n (dagOf m) (committedRound l) (leaderList l) (journalList l) (f .holds .lists) (S .leaders .committed-high) over-model
+              ∙ ap (λ (x : ℕ). leaders x (dagOf m)) (sym count);
           journal-list = hand-journal l (S .size) (well-formed l S)
-              ∙ at-journal n (dagOf m) (committedRound l) (leaderList l) (journalList l) (f .holds .lists) (S .leaders .committed-high) over-model;
+              ∙ at-journal n (dagOf m) (committedRound l) (leaderList l) (journalList l) (f .holds .lists) (S .leaders .committed-high) over-model
+              ∙ ap (λ (x : ℕ). journal x (dagOf m)) (sym count);
         }
 
   -- and of both, one is a prefix of the other
-  agreed : (l k : List ℕ) → Follows n l a → Follows n k b → Agreed n l k a b
-  agreed l k f h =
-      let x = matches l a f in
-      let y = matches k b h in
+  agreed : (l k : List ℕ) → a .n ≡ n → b .n ≡ n → Follows n l a → Follows n k b → Agreed l k a b
+  agreed l k ca cb f h =
+      let x = matches l a ca f in
+      let y = matches k b cb h in
       let i : Part n a b = record { model = a; inside = inl (inside-self a); formed = formed n l a (f .holds .sound) (f .holds .members) (f .holds .vertex) } in
       let j : Part n a b = record { model = b; inside = inr (inside-self b); formed = formed n k b (h .holds .sound) (h .holds .members) (h .holds .vertex) } in
       let both = agreement n (partDag n a b) honest (family n a b honest g P) i j in
       record {
         first = x;
         second = y;
-        leader-lists = rw (x .leader-list, y .leader-list) (⊎-elim (λ e. inl (e .0)) (λ e. inr (e .0)) both);
-        journals = rw (x .journal-list, y .journal-list) (⊎-elim (λ e. inl (e .1)) (λ e. inr (e .1)) both);
+        leader-lists = rw (x .leader-list, y .leader-list, ca, cb) (⊎-elim (λ e. inl (e .0)) (λ e. inr (e .0)) both);
+        journals = rw (x .journal-list, y .journal-list, ca, cb) (⊎-elim (λ e. inl (e .1)) (λ e. inr (e .1)) both);
       }
 
 -- THE CLAIM
@@ -199,8 +203,9 @@ agreement-claim n u w eu ew calls others ok fine honest P =
     let g = open-yes u n eu .0 in
     let l = openState u n .words in
     let k = openState w n .words in
-    let f : Follows n l empty = rw (open-yes u n eu .1) (opened-follows n g) in
-    let h : Follows n k empty = rw (open-yes w n ew .1) (opened-follows n g) in
-    agreed n (modelOf l calls) (modelOf k others) honest g P (run l calls) (run k others)
-    (follows n (modelOf l calls) (modelOf k others) honest g P calls l empty ok f (inl (inside-self _)))
-    (follows n (modelOf l calls) (modelOf k others) honest g P others k empty fine h (inr (inside-self _)))
+    let f : Follows n l (empty n) = rw (open-yes u n eu .1) (opened-follows n g) in
+    let h : Follows n k (empty n) = rw (open-yes w n ew .1) (opened-follows n g) in
+    agreed n (modelOf n l calls) (modelOf n k others) honest g P (run l calls) (run k others)
+    (follow-more calls (empty n) l .members) (follow-more others (empty n) k .members)
+    (follows n (modelOf n l calls) (modelOf n k others) honest g P calls l (empty n) ok f (inl (inside-self _)))
+    (follows n (modelOf n l calls) (modelOf n k others) honest g P others k (empty n) fine h (inr (inside-self _)))

@@ -1,5 +1,5 @@
 -- The family of all models within one of two, and that the premises of the claim are those of the safety theorem for it. Assumes nothing.
-use mathlib.Core.Path.{_≡_, sym, ap, ap₂, _∙_}
+use mathlib.Core.Path.{_≡_, refl, sym, ap, ap₂, _∙_}
 use mathlib.Core.Bool.{Bool, true}
 use mathlib.Core.Logic.{_⊎_, inl, inr, ⊎-elim}
 use mathlib.Core.List.{List}
@@ -17,16 +17,17 @@ use Rattle.agreement.proofs.Records.{Found, find-in}
 
 -- every record of the first model is one of the second
 pub record Inside (m a : Model) : Type 0 where
+  pub members : a .n ≡ m .n
   pub vertices : (x : List ℕ) → In x (m .vertices) → In x (a .vertices)
   pub firsts : (x : List ℕ) → In x (m .firsts) → In x (a .firsts)
 
 -- a model lies within itself
 pub inside-self : (m : Model) → Inside m m
-inside-self m = record { vertices = λ x h. h; firsts = λ x h. h }
+inside-self m = record { members = refl; vertices = λ x h. h; firsts = λ x h. h }
 
 -- one within another, and that within a third
 pub inside-then : {m a b : Model} → Inside m a → Inside a b → Inside m b
-inside-then i j = record { vertices = λ x h. j .vertices x (i .vertices x h); firsts = λ x h. j .firsts x (i .firsts x h) }
+inside-then i j = record { members = j .members ∙ i .members; vertices = λ x h. j .vertices x (i .vertices x h); firsts = λ x h. j .firsts x (i .firsts x h) }
 
 -- it lies within a, or within b
 abbrev pub Either : Model → Model → Model → Type 0

@@ -163,7 +163,7 @@ module _ (n : ℕ) (a b : Model) (honest : ℕ → Bool) (g : legal n ≡ true) 
   module _ (l : List ℕ) (m : Model) (rec : List ℕ) (h : Holds n l m) (ok : numberOf (firstNo (vertexQuestions l (roundOf rec) (sourceOf rec) (bodyOf rec))) ≡ 0) where
     -- the model with it
     abbrev more : Model
-    more = record { vertices = rec ∷ m .vertices; firsts = m .firsts }
+    more = record { n = m .n; vertices = rec ∷ m .vertices; firsts = m .firsts }
 
     -- the state with it
     abbrev put : List ℕ
@@ -229,7 +229,7 @@ module _ (n : ℕ) (a b : Model) (honest : ℕ → Bool) (g : legal n ≡ true) 
   module _ (l : List ℕ) (m : Model) (rec : List ℕ) (h : Holds n l m) (ok : numberOf (firstNo (firstQuestions l (roundOf rec) (sourceOf rec) (bodyOf rec))) ≡ 0) where
     -- the model with it
     abbrev further : Model
-    further = record { vertices = m .vertices; firsts = rec ∷ m .firsts }
+    further = record { n = m .n; vertices = m .vertices; firsts = rec ∷ m .firsts }
 
     -- the state with it
     abbrev after : List ℕ

@@ -29,7 +29,7 @@ use Rattle.agreement.proofs.Records.{Found, find-in}
 use Rattle.agreement.proofs.Family.{inside-self}
 use Rattle.agreement.proofs.Asked.{open-yes, open-taken}
 use Rattle.agreement.proofs.Following.{Follows}
-use Rattle.agreement.proofs.Claim.{opened-follows, agreement-claim}
+use Rattle.agreement.proofs.Claim.{opened-follows, follow-more, agreement-claim}
 use Rattle.agreement.proofs.Dry.{parentsIn, taken, allTaken, dry, all-allowed, dry-follow}
 
 -- ---- tests over lists of records
@@ -107,14 +107,14 @@ same-records l m e d = records-ext (recordsOf l) (recordsOf m) (λ r p. go r p (
 -- ---- the models
 
 -- every call is taken
-all-taken : (i : Bool) → allTaken 4 empty (callsOf i) ≡ true
+all-taken : (i : Bool) → allTaken 4 (empty 4) (callsOf i) ≡ true
 unfolding callsOf vertexOf firstOf early late allTaken taken parentsIn recordsOf legal leader has within meets strongOf timeoutsOf noVotesOf weakCountOf weakOf bodyRefusal firstNo roundOk masksOk strongOk lacksLeader quorumIf timeoutsOk noVotesOk weakIdOk rises slotOk weakOk all ones
 all-taken true = refl
 all-taken false = refl
 
 -- what the calls make of the empty model
 made : Bool → Model
-made i = dry empty (callsOf i)
+made i = dry (empty 4) (callsOf i)
 
 -- its vertices
 made-vertices : (i : Bool) → recordsOf (made i .vertices) ≡ recordsOf (vertexOf i)
@@ -209,14 +209,14 @@ opening-four : openState (opened 4) 4 .number ≡ 0
 opening-four = open-taken (opened 4) 4 (opened-size 4) four
 
 -- it follows the empty model
-start-follows : Follows 4 start empty
+start-follows : Follows 4 start (empty 4)
 start-follows = rw (open-yes (opened 4) 4 opening-four .1) (opened-follows 4 four)
 
 -- the calls make these models
 model-made : (i : Bool) → modelFor i ≡ made i
 unfolding made
-model-made true = dry-follow 4 (made true) (made false) honest four made-premises (callsOf true) start empty start-follows (all-taken true) (inl (inside-self _))
-model-made false = dry-follow 4 (made true) (made false) honest four made-premises (callsOf false) start empty start-follows (all-taken false) (inr (inside-self _))
+model-made true = dry-follow 4 (made true) (made false) honest four made-premises (callsOf true) start (empty 4) start-follows (all-taken true) (inl (inside-self _))
+model-made false = dry-follow 4 (made true) (made false) honest four made-premises (callsOf false) start (empty 4) start-follows (all-taken false) (inr (inside-self _))
 
 -- so the premises hold
 premises : Premises 4 (modelFor true) (modelFor false) honest
@@ -227,20 +227,24 @@ same-dag : (i : Bool) → dagOf (modelFor i) ≡ dag i
 same-dag i = ap dagOf (model-made i) ∙ made-dag i
 
 -- and the claim gives
-agreed : Agreed 4 (run start (callsOf true)) (run start (callsOf false)) (modelFor true) (modelFor false)
+-- the model's member count is that of the opening
+counted : (i : Bool) → modelFor i .n ≡ 4
+counted i = follow-more (callsOf i) (empty 4) start .members
+
+agreed : Agreed (run start (callsOf true)) (run start (callsOf false)) (modelFor true) (modelFor false)
 agreed = agreement-claim 4 (opened 4) (opened 4) opening-four opening-four (callsOf true) (callsOf false)
-    (all-allowed 4 (callsOf true) empty (all-taken true)) (all-allowed 4 (callsOf false) empty (all-taken false)) honest premises
+    (all-allowed 4 (callsOf true) (empty 4) (all-taken true)) (all-allowed 4 (callsOf false) (empty 4) (all-taken false)) honest premises
 
 -- The witness.
 pub witness : Witness
 witness = record {
   opens = opening-four;
-  allowed-calls = λ i. all-allowed 4 (callsOf i) empty (all-taken i);
+  allowed-calls = λ i. all-allowed 4 (callsOf i) (empty 4) (all-taken i);
   premises = premises;
   same-dag = same-dag;
   agreed = agreed;
-  leaders-first = agreed .first .leader-list ∙ ap (leaders 4) (same-dag true) ∙ protocol.witness .leaders-first;
-  leaders-second = agreed .second .leader-list ∙ ap (leaders 4) (same-dag false) ∙ protocol.witness .leaders-second;
-  journal-first = agreed .first .journal-list ∙ ap (journal 4) (same-dag true) ∙ protocol.witness .journal-first;
-  journal-second = agreed .second .journal-list ∙ ap (journal 4) (same-dag false) ∙ protocol.witness .journal-second;
+  leaders-first = agreed .first .leader-list ∙ ap₂ leaders (counted true) (same-dag true) ∙ protocol.witness .leaders-first;
+  leaders-second = agreed .second .leader-list ∙ ap₂ leaders (counted false) (same-dag false) ∙ protocol.witness .leaders-second;
+  journal-first = agreed .first .journal-list ∙ ap₂ journal (counted true) (same-dag true) ∙ protocol.witness .journal-first;
+  journal-second = agreed .second .journal-list ∙ ap₂ journal (counted false) (same-dag false) ∙ protocol.witness .journal-second;
 }

@@ -49,14 +49,14 @@ abbrev pub OnePrefix : List ℕ → List ℕ → Type 0
 OnePrefix xs ys = Prefix xs ys ⊎ Prefix ys xs
 
 -- the lists that handing over from entry 0 gives of a state are those of the model
-pub record Matches (n : ℕ) (l : List ℕ) (m : Model) : Type 0 where
-  pub leader-list : handLeaders l 0 ≡ leaders n (dagOf m)
-  pub journal-list : handJournal l 0 ≡ journal n (dagOf m)
+pub record Matches (l : List ℕ) (m : Model) : Type 0 where
+  pub leader-list : handLeaders l 0 ≡ leaders (m .n) (dagOf m)
+  pub journal-list : handJournal l 0 ≡ journal (m .n) (dagOf m)
 
 -- The states l and k after two lists of calls: each has exactly its model's lists, and of both lists one is a prefix of the other.
-pub record Agreed (n : ℕ) (l k : List ℕ) (a b : Model) : Type 0 where
-  pub first : Matches n l a
-  pub second : Matches n k b
+pub record Agreed (l k : List ℕ) (a b : Model) : Type 0 where
+  pub first : Matches l a
+  pub second : Matches k b
   pub leader-lists : OnePrefix (handLeaders l 0) (handLeaders k 0)
   pub journals : OnePrefix (handJournal l 0) (handJournal k 0)
 
@@ -65,5 +65,5 @@ abbrev pub AgreementClaim : Type 0
 AgreementClaim = (n : ℕ) (u w : List ℕ) → openState u n .number ≡ 0 → openState w n .number ≡ 0
     → (calls others : List Call) → allAllowed calls ≡ true → allAllowed others ≡ true
     → let l = openState u n .words in let k = openState w n .words in
-    (honest : ℕ → Bool) → Premises n (modelOf l calls) (modelOf k others) honest
-    → Agreed n (run l calls) (run k others) (modelOf l calls) (modelOf k others)
+    (honest : ℕ → Bool) → Premises n (modelOf n l calls) (modelOf n k others) honest
+    → Agreed (run l calls) (run k others) (modelOf n l calls) (modelOf n k others)

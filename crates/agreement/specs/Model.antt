@@ -5,18 +5,19 @@ use Rattle.protocol.specs.Dag.{Dag, recordsOf}
 use Rattle.agreement.specs.Call.{Call, opening, vertex, firstMessage, timeout, noVote, status, askLeaderList, askJournalList, handLeaderList, handJournalList, outcomeOf}
 
 pub record Model : Type 0 where
+  pub n : ℕ
   pub vertices : List (List ℕ)
   pub firsts : List (List ℕ)
 
--- none at first
-abbrev pub empty : Model
-empty = record { vertices = []; firsts = [] }
+-- of n members, with no record at first
+abbrev pub empty : ℕ → Model
+empty n = record { n = n; vertices = []; firsts = [] }
 
 -- a record that was taken with the number 0 joins its kind; nothing else changes the model
 abbrev pub admit : Call → ℕ → Model → Model
-admit (vertex rec) zero m = record { vertices = rec ∷ m .vertices; firsts = m .firsts }
+admit (vertex rec) zero m = record { n = m .n; vertices = rec ∷ m .vertices; firsts = m .firsts }
 admit (vertex rec) (suc number) m = m
-admit (firstMessage rec) zero m = record { vertices = m .vertices; firsts = rec ∷ m .firsts }
+admit (firstMessage rec) zero m = record { n = m .n; vertices = m .vertices; firsts = rec ∷ m .firsts }
 admit (firstMessage rec) (suc number) m = m
 admit (opening n) number m = m
 admit (timeout r p) number m = m
@@ -32,8 +33,8 @@ unfoldable pub follow : Model → List ℕ → List Call → Model
 follow m l [] = m
 follow m l (c ∷ calls) = follow (admit c (outcomeOf c l .number) m) (outcomeOf c l .words) calls
 
-abbrev pub modelOf : List ℕ → List Call → Model
-modelOf l calls = follow empty l calls
+abbrev pub modelOf : ℕ → List ℕ → List Call → Model
+modelOf n l calls = follow (empty n) l calls
 
 -- what the model holds, as a DAG
 abbrev pub dagOf : Model → Dag

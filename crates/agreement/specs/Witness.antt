@@ -22,7 +22,7 @@ callsOf i =
     ++ (map firstMessage (firstOf i) ++ (handJournalList 0 ∷ []))))
 
 abbrev pub modelFor : Bool → Model
-modelFor i = modelOf start (callsOf i)
+modelFor i = modelOf 4 start (callsOf i)
 
 pub record Witness : Type 0 where
   -- what the claim asks
@@ -33,7 +33,7 @@ pub record Witness : Type 0 where
   -- no-vote certificate; the first DAG commits rounds 3 and 4 by vertices, the second round 3 by first messages alone.
   pub same-dag : (i : Bool) → dagOf (modelFor i) ≡ dag i
   -- what the claim gives, and that it is not about empty lists
-  pub agreed : Agreed 4 (run start (callsOf true)) (run start (callsOf false)) (modelFor true) (modelFor false)
+  pub agreed : Agreed (run start (callsOf true)) (run start (callsOf false)) (modelFor true) (modelFor false)
   pub leaders-first : handLeaders (run start (callsOf true)) 0 ≡ 50 ∷ 67 ∷ []
   pub leaders-second : handLeaders (run start (callsOf false)) 0 ≡ 50 ∷ []
   pub journal-first : handJournal (run start (callsOf true)) 0 ≡ 16 ∷ 17 ∷ 18 ∷ 19 ∷ 32 ∷ 34 ∷ 35 ∷ 50 ∷ 33 ∷ 48 ∷ 49 ∷ 51 ∷ 67 ∷ []

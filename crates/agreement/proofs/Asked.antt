@@ -7,19 +7,20 @@ use Prim.Native.Nat.{ℕ, _≤_, _<_}
 use native.Mathlib.Omega.{arith}
 use lib.Dec.{eqb}
 use lib.ListN.{length}
-use borrow.Author.Tests.{eqb-true, eqb-false, eq-eqb, ne-eqb, ltb-true, not-true, le-leb}
+use borrow.Author.Tests.{eqb-true, eqb-false, eq-eqb, ne-eqb, not-true, le-leb}
 use Rattle.record.specs.Members.{legal, has}
-use Rattle.record.specs.Refusals.{numberOf, Question, firstNo}
-use Rattle.record.specs.Questions.{recordQuestions, bodyRefusal}
+use Rattle.record.specs.Refusals.{numberOf, firstNo}
+use Rattle.record.specs.Questions.{bodyRefusal}
 use Rattle.record.specs.declared.refusal.Refusal.{Refusal}
 use Rattle.record.proofs.Booleans.{which, never, cond-true, cond-false}
-use Rattle.record.proofs.Turn.{next, done, both-yes, round-range}
+use Rattle.record.proofs.Turn.{next, done, both-yes}
 use Rattle.replica.specs.State.{memberCount, leaderCount, journalCount, heldMask, heardMask, leaderList, journalList}
 use Rattle.replica.specs.WellFormed.{wellFormed, parentsHeld}
 use Rattle.replica.specs.Outcome.{Outcome, outcome}
-use Rattle.replica.specs.Lists.{opened, openQuestions, openState, stateQuestions, askLeaders, askJournal, handLeaders, handJournal}
+use Rattle.replica.specs.Lists.{opened, openQuestions, openState, askLeaders, askJournal, handLeaders, handJournal}
 use Rattle.replica.proofs.Calls.{leaders-some, journal-some}
-use Rattle.ordering.specs.Calls.{vertexQuestions, firstQuestions, noteQuestions}
+use Rattle.ordering.specs.Calls.{placeQuestions, vertexQuestions, firstQuestions}
+use Rattle.ordering.proofs.Turns.{record-passed, parents-passed}
 
 -- ---- an outcome
 
@@ -50,54 +51,20 @@ decided why = ⊎-elim (λ e. inl (eqb-true _ 0 e)) (λ e. inr (eqb-false _ 0 e)
 
 -- ---- the questions, all answered yes
 
--- those of the state
-after-state : (l : List ℕ) (rest : List Question) → numberOf (firstNo (stateQuestions l ++ rest)) ≡ 0 → numberOf (firstNo rest) ≡ 0
-after-state l rest e = both-yes _ _ _ (eqb-false 3 0 refl) (both-yes _ _ _ (eqb-false 1 0 refl) e .1) .1
-
--- if all are, so are the first ones
-front-yes : (xs ys : List Question) → numberOf (firstNo (xs ++ ys)) ≡ 0 → numberOf (firstNo xs) ≡ 0
-unfolding firstNo
-front-yes [] ys e = refl
-front-yes ((true, why) ∷ xs) ys e = front-yes xs ys e
-front-yes ((false, why) ∷ xs) ys e = e
-
--- those of a record: no question refuses its body
-after-record : (n r p : ℕ) (body : List ℕ) (rest : List Question) → numberOf (firstNo (recordQuestions n r p body ++ rest)) ≡ 0
-    → (numberOf (bodyRefusal n r p body) ≡ 0) × (numberOf (firstNo rest) ≡ 0)
-unfolding bodyRefusal
-after-record n r p body rest e =
-    let q4 = both-yes _ _ _ (eqb-false 4 0 refl) e in
-    let q5 = both-yes _ _ _ (eqb-false 5 0 refl) (q4 .1) in
-    let q6 = both-yes _ _ _ (eqb-false 6 0 refl) (q5 .1) in
-    let q7 = both-yes _ _ _ (eqb-false 7 0 refl) (q6 .1) in
-    let q8 = both-yes _ _ _ (eqb-false 8 0 refl) (q7 .1) in
-    let q9 = both-yes _ _ _ (eqb-false 9 0 refl) (q8 .1) in
-    let q10 = both-yes _ _ _ (eqb-false 10 0 refl) (q9 .1) in
-    (front-yes (recordQuestions n r p body) rest e, both-yes _ _ _ (eqb-false 11 0 refl) (q10 .1) .1)
-
 -- a vertex that is admitted was not held, and its parents are
 pub vertex-yes : (l : List ℕ) (r p : ℕ) (body : List ℕ) → numberOf (firstNo (vertexQuestions l r p body)) ≡ 0
     → (numberOf (bodyRefusal (memberCount l) r p body) ≡ 0) × (has (heldMask l r) p ≡ false) × (parentsHeld l r body ≡ true)
 vertex-yes l r p body e =
-    let a = after-record (memberCount l) r p body _ (after-state l _ e) in
-    let q12 = both-yes _ _ _ (eqb-false 12 0 refl) (a .1) in
-    let q13 = both-yes _ _ _ (eqb-false 13 0 refl) (q12 .1) in
-    (a .0, not-true _ (q13 .0), both-yes _ _ _ (eqb-false 14 0 refl) (q13 .1) .0)
+    let w = record-passed l r p body (placeQuestions l r p body) e in
+    let q12 = both-yes _ _ _ (eqb-false 12 0 refl) (w .3) in
+    (w .2, not-true _ (both-yes _ _ _ (eqb-false 13 0 refl) (q12 .1) .0), parents-passed l r p body (w .3))
 
 -- a first message that is admitted was not heard
 pub first-yes : (l : List ℕ) (r p : ℕ) (body : List ℕ) → numberOf (firstNo (firstQuestions l r p body)) ≡ 0
     → (numberOf (bodyRefusal (memberCount l) r p body) ≡ 0) × (has (heardMask l r) p ≡ false)
 first-yes l r p body e =
-    let a = after-record (memberCount l) r p body _ (after-state l _ e) in
-    (a .0, not-true _ (both-yes _ _ _ (eqb-false 12 0 refl) (a .1) .0))
-
--- a note that is admitted is of a round and a member
-pub note-yes : (l : List ℕ) (r p mask : ℕ) → numberOf (firstNo (noteQuestions l r p mask)) ≡ 0 → (1 ≤ r) × (r ≤ 32) × (p < memberCount l)
-note-yes l r p mask e =
-    let q5 = both-yes _ _ _ (eqb-false 5 0 refl) (after-state l _ e) in
-    let q6 = both-yes _ _ _ (eqb-false 6 0 refl) (q5 .1) in
-    let w = round-range r (q5 .0) in
-    (w .0, w .1, ltb-true _ _ (q6 .0))
+    let w = record-passed l r p body _ e in
+    (w .2, not-true _ (both-yes _ _ _ (eqb-false 12 0 refl) (w .3) .0))
 
 -- ---- opening
 

@@ -32,7 +32,8 @@ use Rattle.agreement.specs.Claim.{Premises, Matches, Agreed, AgreementCl
 use Rattle.agreement.proofs.Records.{records-none}
 use Rattle.agreement.proofs.Family.{Inside, inside-self, inside-then, Either, either-before, Part, partDag, family}
 use Rattle.agreement.proofs.Tracking.{at-open, at-leaders, at-journal}
-use Rattle.agreement.proofs.Asked.{number-yes, words-yes, number-no, words-no, decided, note-yes, open-yes, open-no, hand-leaders, hand-journal}
+use Rattle.ordering.proofs.Turns.{note-passed}
+use Rattle.agreement.proofs.Asked.{number-yes, words-yes, number-no, words-no, decided, open-yes, open-no, hand-leaders, hand-journal}
 use Rattle.ordering.proofs.Writing.{raise-calm, raise-alike, note-calm, note-alike}
 use Rattle.agreement.proofs.Following.{Follows, alike, at-cast, formed, follows-alike, vertex-follows, first-follows}
 
@@ -96,19 +97,19 @@ module _ (n : ℕ) (a b : Model) (honest : ℕ → Bool) (g : legal n ≡ true) 
   timeout-follows : (l : List ℕ) (m : Model) (r p : ℕ) → Follows n l m → numberOf (firstNo (noteQuestions l r p (timeoutsMask l r))) ≡ 0
       → Follows n (raiseRound (addMember l (timeoutsAt r) p)) m
   timeout-follows l m r p f e =
-      let w = note-yes l r p (timeoutsMask l r) e in
+      let w = note-passed l r p (timeoutsMask l r) e in
       let k : List ℕ = addMember l (timeoutsAt r) p in
-      let S = sound-timeout l (f .holds .sound) r p (w .0) (w .1) (w .2) in
+      let S = sound-timeout l (f .holds .sound) r p (w .1) (w .2) (w .3) in
       follows-alike n k (raiseRound k) m (raise-calm k) (sound-raise k S) (raise-alike k)
-      (follows-alike n l k m (note-calm l r 3 p (w .0) (w .1) (omega arith)) S (note-alike l r 3 p (w .0) (w .1) (omega arith) (omega arith)) f)
+      (follows-alike n l k m (note-calm l r 3 p (w .1) (w .2) (omega arith)) S (note-alike l r 3 p (w .1) (w .2) (omega arith) (omega arith)) f)
 
   -- a no-vote
   no-vote-follows : (l : List ℕ) (m : Model) (r p : ℕ) → Follows n l m → numberOf (firstNo (noteQuestions l r p (noVotesMask l r))) ≡ 0
       → Follows n (addMember l (noVotesAt r) p) m
   no-vote-follows l m r p f e =
-      let w = note-yes l r p (noVotesMask l r) e in
-      follows-alike n l (addMember l (noVotesAt r) p) m (note-calm l r 4 p (w .0) (w .1) (omega arith)) (sound-no-vote l (f .holds .sound) r p (w .0) (w .1) (w .2))
-      (note-alike l r 4 p (w .0) (w .1) (omega arith) (omega arith)) f
+      let w = note-passed l r p (noVotesMask l r) e in
+      follows-alike n l (addMember l (noVotesAt r) p) m (note-calm l r 4 p (w .1) (w .2) (omega arith)) (sound-no-vote l (f .holds .sound) r p (w .1) (w .2) (w .3))
+      (note-alike l r 4 p (w .1) (w .2) (omega arith) (omega arith)) f
 
   -- the model does not change
   noted : (why : Refusal) (l after : List ℕ) (m : Model) → Follows n l m → (numberOf why ≡ 0 → Follows n after m) → Follows n (outcome why l after .words) m

@@ -4,8 +4,8 @@ use mathlib.Core.List.{List, [], _∷_, _++_, append-assoc}
 use Prim.Native.Nat.{ℕ, _+_, _-_, _≤_, _<_}
 use native.Mathlib.Numerals.{add-one}
 use native.Mathlib.Omega.{arith}
-use lib.ListN.{length, getD, take, drop, set}
-use lib.Seq.{take-suc, take-suc-set, take-all, paste, drop-drop}
+use lib.ListN.{length, getD, take, drop, set, List·getD-append}
+use lib.Seq.{take-suc, take-suc-set, take-all, take-at, drop-at, drop-drop, drop-append-le, getD-take, getD-drop, length-take-le, paste, length-paste-head, take-paste, drop-paste}
 
 -- a turn of a loop that copies
 pub take-copied : (d s : List ℕ) (i : ℕ) → i < length d → i < length s → take i d ≡ take i s → take (i + 1) (set d i (getD s i 0)) ≡ take (i + 1) s
@@ -21,3 +21,29 @@ put-pasted a k d ys s e =
     let n : a + ((a + k) - a) ≡ a + k = omega arith in
     ap₂ (λ (y z : List ℕ). take a d ++ (y ++ z)) e (drop-drop ((a + k) - a) a d ∙ ap (λ (m : ℕ). drop m d) n)
     ∙ sym (append-assoc (take a d) (take k s) (drop (a + k) d))
+
+-- ---- words written over a part
+
+module _ (d : List ℕ) (at : ℕ) (s : List ℕ) (n : ℕ) (fits : at + n ≤ length d) (long : length s ≡ n) where
+  -- the words before, the words after, and those written
+  pub paste-before : (j : ℕ) → j < at → getD (paste d at s n) j 0 ≡ getD d j 0
+  paste-before j h =
+      sym (getD-take (at + n) (paste d at s n) j 0 (omega arith))
+      ∙ ap (λ (x : List ℕ). getD x j 0) (take-paste d at s n (omega arith) (omega arith))
+      ∙ List·getD-append (take at d) (take n s) 0 j (omega (arith, length-take-le at d (omega arith)))
+      ∙ getD-take at d j 0 h
+
+  pub paste-after : (j : ℕ) → at + n ≤ j → getD (paste d at s n) j 0 ≡ getD d j 0
+  paste-after j h =
+      ap (λ (i : ℕ). getD (paste d at s n) i 0) whole ∙ sym (getD-drop (at + n) (paste d at s n) (j - (at + n)) 0)
+      ∙ ap (λ (x : List ℕ). getD x (j - (at + n)) 0) (drop-paste d at s n (omega arith) (omega arith))
+      ∙ getD-drop (at + n) d (j - (at + n)) 0 ∙ ap (λ (i : ℕ). getD d i 0) (sym whole)
+    where
+      whole : j ≡ at + n + (j - (at + n))
+      whole = omega arith
+
+  pub paste-part : take n (drop at (paste d at s n)) ≡ s
+  paste-part =
+      ap (take n) (drop-append-le at (take at d ++ take n s) (drop (at + n) d) (omega (arith, length-paste-head d at s n (omega arith) (omega arith)))
+      ∙ ap (λ (x : List ℕ). x ++ drop (at + n) d) (drop-at (take at d) (take n s) at (length-take-le at d (omega arith))))
+      ∙ take-at (take n s) (drop (at + n) d) n (length-take-le n s (omega arith)) ∙ take-all n s (omega arith)

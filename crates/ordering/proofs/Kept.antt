@@ -7,15 +7,15 @@ use Prim.Native.Nat.{ℕ, zero, suc, _-_, _≤_, _<_}
 use native.Mathlib.Omega.{arith}
 use lib.Dec.{eqb, leb, ltb}
 use lib.ListN.{length}
-use borrow.Author.Tests.{eqb-true, eqb-false, eq-eqb, leb-true, ltb-true}
+use borrow.Author.Tests.{eqb-true, eq-eqb, leb-true, ltb-true}
 use Rattle.record.specs.Members.{leader, has, idOf, idRound, idMember}
-use Rattle.record.specs.Refusals.{numberOf, Question, firstNo}
-use Rattle.record.specs.Questions.{roundOk, recordQuestions, bodyRefusal}
+use Rattle.record.specs.Refusals.{numberOf, firstNo}
+use Rattle.record.specs.Questions.{roundOk}
 use Rattle.record.specs.declared.refusal.Refusal.{Refusal}
 use Rattle.record.proofs.Booleans.{which, and-left, and-right, and-both, or-cases, or-left, or-right}
 use Rattle.record.proofs.Below.{least-sat}
 use Rattle.record.proofs.Masks.{leader-lt, has-bound}
-use Rattle.record.proofs.Turn.{both-yes, round-range, admitted}
+use Rattle.record.proofs.Turn.{round-range}
 use Rattle.protocol.specs.Dag.{held, committed}
 use Rattle.protocol.specs.Chain.{walk, leaderId}
 use Rattle.protocol.specs.Journal.{among}
@@ -28,17 +28,17 @@ use Rattle.replica.specs.Layout.{stateSize, heldAt}
 use Rattle.replica.specs.State.{memberCount, committedRound, heldMask, orderedMask, timeoutsMask, noVotesMask, leaderList, journalList, vertices, dag, heldId, orderedId}
 use Rattle.replica.specs.WellFormed.{wellFormed}
 use Rattle.replica.specs.Outcome.{outcome}
-use Rattle.replica.specs.Lists.{stateQuestions}
 use Rattle.replica.proofs.Sound.{Sound, Leaders, Journal, Led, led-append, led-more, sound, well-formed}
 use Rattle.replica.proofs.Dags.{round-ok, held-id, in-mask}
 use Rattle.replica.proofs.Keeping.{Keeps, front-kept, masks-kept, cells-kept, held-kept, held-id-kept}
 use Rattle.ordering.specs.Commit.{taken, commit, committable, lowest, commitUpTo, commitAll, raiseRound}
-use Rattle.ordering.specs.Calls.{putVertex, hear, takeBody, takeFirstBody, takeTimeout, takeNoVote, vertexQuestions, firstQuestions, noteQuestions}
+use Rattle.ordering.specs.Calls.{putVertex, hear, takeBody, takeFirstBody, takeTimeout, takeNoVote, placeQuestions, vertexQuestions, firstQuestions}
 use Rattle.ordering.specs.Kept.{LeavesWellFormed, KeepsWellFormed}
 use Rattle.ordering.specs.Standing.{Standing, Room}
 use Rattle.ordering.proofs.Ground.{standing, room-limit}
 use Rattle.ordering.proofs.Frames.{OffLists, off-front, off-zeros, off-mask, off-cells}
 use Rattle.ordering.proofs.Growing.{Committed, grown, leaders-fit}
+use Rattle.ordering.proofs.Turns.{record-passed, parents-passed, note-passed}
 use Rattle.ordering.proofs.Marks.{sound-raise, sound-put, sound-hear, sound-timeout, sound-no-vote}
 
 -- ---- the leaders taken
@@ -169,33 +169,6 @@ sound-commits (suc k) l S = go (which (ltb (lowest l) 32)) (sound-commits k (com
 
 -- ---- the calls
 
--- the questions of the state and of the record, answered yes
-after-state : (l : List ℕ) (rest : List Question) → numberOf (firstNo (stateQuestions l ++ rest)) ≡ 0 → numberOf (firstNo rest) ≡ 0
-after-state l rest e =
-    let q1 = both-yes _ _ _ (eqb-false 1 0 refl) e in
-    both-yes _ _ _ (eqb-false 3 0 refl) (q1 .1) .1
-
--- if all are answered yes, so are the first ones
-front-yes : (xs ys : List Question) → numberOf (firstNo (xs ++ ys)) ≡ 0 → numberOf (firstNo xs) ≡ 0
-unfolding firstNo
-front-yes [] ys e = refl
-front-yes ((true, why) ∷ xs) ys e = front-yes xs ys e
-front-yes ((false, why) ∷ xs) ys e = e
-
--- then no question refuses the record, and those after it decide
-after-record : (n r p : ℕ) (body : List ℕ) (rest : List Question) → numberOf (firstNo (recordQuestions n r p body ++ rest)) ≡ 0
-    → (numberOf (bodyRefusal n r p body) ≡ 0) × (numberOf (firstNo rest) ≡ 0)
-unfolding bodyRefusal
-after-record n r p body rest e =
-    let q4 = both-yes _ _ _ (eqb-false 4 0 refl) e in
-    let q5 = both-yes _ _ _ (eqb-false 5 0 refl) (q4 .1) in
-    let q6 = both-yes _ _ _ (eqb-false 6 0 refl) (q5 .1) in
-    let q7 = both-yes _ _ _ (eqb-false 7 0 refl) (q6 .1) in
-    let q8 = both-yes _ _ _ (eqb-false 8 0 refl) (q7 .1) in
-    let q9 = both-yes _ _ _ (eqb-false 9 0 refl) (q8 .1) in
-    let q10 = both-yes _ _ _ (eqb-false 10 0 refl) (q9 .1) in
-    (front-yes (recordQuestions n r p body) rest e, both-yes _ _ _ (eqb-false 11 0 refl) (q10 .1) .1)
-
 -- a call whose words would be sound where it is admitted
 leaves : (why : Refusal) (l after : List ℕ) → Sound l → (numberOf why ≡ 0 → Sound after) → LeavesWellFormed (outcome why l after)
 unfolding outcome
@@ -212,25 +185,12 @@ module _ (l : List ℕ) (S : Sound l) where
   -- after an admitted vertex
   pub sound-vertex : (r p : ℕ) (body : List ℕ) → numberOf (firstNo (vertexQuestions l r p body)) ≡ 0 → Sound (commitAll (raiseRound (putVertex l r p body)))
   sound-vertex r p body e =
-      let a = after-record (memberCount l) r p body _ (after-state l _ e) in
-      let q12 = both-yes _ _ _ (eqb-false 12 0 refl) (a .1) in
-      let q13 = both-yes _ _ _ (eqb-false 13 0 refl) (q12 .1) in
-      let q14 = both-yes _ _ _ (eqb-false 14 0 refl) (q13 .1) in
-      sound-commits 31 (raiseRound (putVertex l r p body)) (sound-raise (putVertex l r p body) (sound-put l S r p body (a .0) (q14 .0)))
+      let w = record-passed l r p body (placeQuestions l r p body) e in
+      sound-commits 31 (raiseRound (putVertex l r p body)) (sound-raise (putVertex l r p body) (sound-put l S r p body (w .2) (parents-passed l r p body (w .3))))
 
   -- after an admitted first message
   pub sound-first : (r p : ℕ) (body : List ℕ) → numberOf (firstNo (firstQuestions l r p body)) ≡ 0 → Sound (commitAll (hear l r p body))
-  sound-first r p body e =
-      let a = after-record (memberCount l) r p body _ (after-state l _ e) in
-      sound-commits 31 (hear l r p body) (sound-hear l S r p body (admitted (memberCount l) r p body (a .0)))
-
-  -- the round and the signer of a note that is admitted
-  note-range : (r p mask : ℕ) → numberOf (firstNo (noteQuestions l r p mask)) ≡ 0 → (1 ≤ r) × (r ≤ 32) × (p < memberCount l)
-  note-range r p mask e =
-      let q5 = both-yes _ _ _ (eqb-false 5 0 refl) (after-state l _ e) in
-      let q6 = both-yes _ _ _ (eqb-false 6 0 refl) (q5 .1) in
-      let w = round-range r (q5 .0) in
-      (w .0, w .1, ltb-true _ _ (q6 .0))
+  sound-first r p body e = sound-commits 31 (hear l r p body) (sound-hear l S r p body (record-passed l r p body _ e .1))
 
 -- Every call keeps a well-formed state well formed.
 pub keeps : KeepsWellFormed
@@ -239,6 +199,6 @@ keeps l size e =
     let S = sound l size e in (
       λ r p body. leaves _ l _ S (sound-vertex l S r p body),
       λ r p body. leaves _ l _ S (sound-first l S r p body),
-      λ r p. leaves _ l _ S (λ d. let w = note-range l S r p (timeoutsMask l r) d in sound-raise _ (sound-timeout l S r p (w .0) (w .1) (w .2))),
-      λ r p. leaves _ l _ S (λ d. let w = note-range l S r p (noVotesMask l r) d in sound-no-vote l S r p (w .0) (w .1) (w .2)),
+      λ r p. leaves _ l _ S (λ d. let w = note-passed l r p (timeoutsMask l r) d in sound-raise _ (sound-timeout l S r p (w .1) (w .2) (w .3))),
+      λ r p. leaves _ l _ S (λ d. let w = note-passed l r p (noVotesMask l r) d in sound-no-vote l S r p (w .1) (w .2) (w .3)),
     )

@@ -2,12 +2,12 @@
 use mathlib.Core.Path.{_≡_, refl, sym, ap, ap₂, _∙_}
 use mathlib.Core.Bool.{true, false}
 use mathlib.Core.Logic.{_⊎_, inl, inr, ⊎-elim}
-use mathlib.Core.List.{List, _++_}
+use mathlib.Core.List.{List}
 use Prim.Native.Nat.{ℕ, zero, suc, _+_, _-_, _^_, _≤_, _<_}
 use native.Mathlib.Omega.{arith}
 use lib.Dec.{eqb, ltb}
-use lib.ListN.{length, getD, set, take, drop, length-set, List·getD-append}
-use lib.Seq.{getD-set-same, getD-set-other, getD-take, getD-drop, length-take-le, take-all, take-at, drop-at, drop-append-le, paste, length-paste, length-paste-head, take-paste, drop-paste}
+use lib.ListN.{length, getD, set, take, drop, length-set}
+use lib.Seq.{getD-set-same, getD-set-other, paste, length-paste}
 use borrow.Author.Tests.{eqb-true, eqb-false, eq-eqb, ltb-true, ltb-false}
 use Rattle.record.specs.Members.{legal, leader, has, add, idRound, idMember}
 use Rattle.record.specs.Refusals.{numberOf}
@@ -24,6 +24,7 @@ use Rattle.replica.proofs.Sound.{Masks, Cells, Sound}
 use Rattle.replica.proofs.Keeping.{Keeps, keeps-set, keeps-part, parents-more, front-kept, masks-kept, cells-kept, held-kept, held-id-kept, leaders-kept, journal-kept}
 use Rattle.ordering.specs.Commit.{passable, highestPassable, raiseRound}
 use Rattle.ordering.specs.Calls.{addMember, putVertex, hear}
+use Rattle.ordering.proofs.Copying.{paste-before, paste-after, paste-part}
 
 -- ---- the current round
 
@@ -225,32 +226,6 @@ sound-hear l S r p body A = go (which (votes (memberCount l) (r - 1) body))
     go (inl e) =
         rw e (sound-votes (addMember l (heardAt r) p) H r p (A .round-low) (A .round-high) (rw members (A .source-low)) (later e) (add-there l (heardAt r) p fits))
     go (inr e) = rw e H
-
--- ---- words written over a part
-
-module _ (d : List ℕ) (at : ℕ) (s : List ℕ) (n : ℕ) (fits : at + n ≤ length d) (long : length s ≡ n) where
-  -- the words before, the words after, and those written
-  paste-before : (j : ℕ) → j < at → getD (paste d at s n) j 0 ≡ getD d j 0
-  paste-before j h =
-      sym (getD-take (at + n) (paste d at s n) j 0 (omega arith))
-      ∙ ap (λ (x : List ℕ). getD x j 0) (take-paste d at s n (omega arith) (omega arith))
-      ∙ List·getD-append (take at d) (take n s) 0 j (omega (arith, length-take-le at d (omega arith)))
-      ∙ getD-take at d j 0 h
-
-  paste-after : (j : ℕ) → at + n ≤ j → getD (paste d at s n) j 0 ≡ getD d j 0
-  paste-after j h =
-      ap (λ (i : ℕ). getD (paste d at s n) i 0) whole ∙ sym (getD-drop (at + n) (paste d at s n) (j - (at + n)) 0)
-      ∙ ap (λ (x : List ℕ). getD x (j - (at + n)) 0) (drop-paste d at s n (omega arith) (omega arith))
-      ∙ getD-drop (at + n) d (j - (at + n)) 0 ∙ ap (λ (i : ℕ). getD d i 0) (sym whole)
-    where
-      whole : j ≡ at + n + (j - (at + n))
-      whole = omega arith
-
-  paste-part : take n (drop at (paste d at s n)) ≡ s
-  paste-part =
-      ap (take n) (drop-append-le at (take at d ++ take n s) (drop (at + n) d) (omega (arith, length-paste-head d at s n (omega arith) (omega arith)))
-      ∙ ap (λ (x : List ℕ). x ++ drop (at + n) d) (drop-at (take at d) (take n s) at (length-take-le at d (omega arith))))
-      ∙ take-at (take n s) (drop (at + n) d) n (length-take-le n s (omega arith)) ∙ take-all n s (omega arith)
 
 -- ---- a vertex
 

@@ -22,6 +22,7 @@ use Rattle.protocol.specs.Dag.{Records, Dag, present, held, votes, enough, comm
 use Rattle.protocol.specs.Chain.{leaderId}
 use Rattle.replica.specs.Layout.{cellAt, orderedAt}
 use Rattle.replica.specs.State.{memberCount, committedRound, leaderCount, journalCount, heldMask, heardMask, votesMask, orderedMask, cell, vertices, firsts, dag, orderedId}
+use Rattle.replica.proofs.Parents.{round-in}
 use Rattle.ordering.specs.Commit.{appendLeader, appendLeaders, enter, enterAll, committable, lowest}
 use Rattle.ordering.specs.Standing.{Standing, Room, orderId}
 use Rattle.ordering.proofs.Laws.{strong-word}
@@ -165,10 +166,6 @@ room-for l y R low high e =
     )
 
 -- ---- votes
-
-round-in : (r : ℕ) → 1 ≤ r → r ≤ 32 → roundOk r ≡ true
-unfolding roundOk
-round-in r low high = and-both (le-leb 1 r low) (le-leb r 32 high)
 
 -- a first message votes exactly if its bit is in the votes mask
 pub first-votes : (l : List ℕ) → Standing l → (n q p : ℕ) → n ≡ memberCount l → 1 ≤ q → q ≤ 31 → votes n q (firsts l (suc q) p) ≡ has (votesMask l (suc q)) p

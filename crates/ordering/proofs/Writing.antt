@@ -2,12 +2,12 @@
 use mathlib.Core.Path.{_≡_, refl, sym, ap, ap₂, _∙_}
 use mathlib.Core.Bool.{Bool, true, false, cond, _&&_, or-false}
 use mathlib.Core.Logic.{_⊎_, inl, inr, ⊎-elim}
-use mathlib.Core.List.{List, [], _∷_, _++_}
+use mathlib.Core.List.{List, [], _∷_}
 use Prim.Native.Nat.{ℕ, _+_, _-_, _^_, _≤_, _<_}
 use native.Mathlib.Omega.{arith}
 use lib.Dec.{eqb, ltb}
-use lib.ListN.{length, getD, set, take, drop, length-set, List·getD-append}
-use lib.Seq.{getD-take, getD-drop, getD-set-same, getD-set-other, paste, take-paste, drop-paste, length-paste, length-paste-head, length-take-le, drop-append-le, drop-at, take-at, take-all}
+use lib.ListN.{length, getD, set, take, drop, length-set}
+use lib.Seq.{getD-set-same, getD-set-other, paste, length-paste}
 use borrow.Author.Tests.{eqb-true, eqb-false, eq-eqb, ltb-true, ltb-false}
 use Rattle.record.specs.Members.{leader, has, add}
 use Rattle.record.specs.Layout.{strongOf}
@@ -22,6 +22,7 @@ use Rattle.replica.proofs.Parents.{round-in}
 use Rattle.replica.proofs.Keeping.{Keeps, keeps-part, vertices-kept}
 use Rattle.ordering.specs.Commit.{highestPassable, raiseRound}
 use Rattle.ordering.specs.Calls.{addMember, putVertex, hear}
+use Rattle.ordering.proofs.Copying.{paste-before, paste-after, paste-part}
 use Rattle.ordering.proofs.Frame.{Alike, alike-self, alike-set, loose-head}
 
 -- ---- the lists stay
@@ -249,33 +250,6 @@ module _ (l : List ℕ) (r p : ℕ) (body : List ℕ) (size : length l ≡ 5864)
           ap (λ (c : Bool). has (cond c (2 ^ leader (memberCount (hear l r p body)) (r - 1)) 0) (leader n (r - 1))) b ∙ has-zero (leader n (r - 1)) ∙ sym d
 
 -- ---- a vertex
-
--- words written over a part
-module _ (d : List ℕ) (at : ℕ) (s : List ℕ) (n : ℕ) (fits : at + n ≤ length d) (long : length s ≡ n) where
-  -- the words before
-  paste-before : (j : ℕ) → j < at → getD (paste d at s n) j 0 ≡ getD d j 0
-  paste-before j h =
-      sym (getD-take (at + n) (paste d at s n) j 0 (omega arith))
-      ∙ ap (λ (x : List ℕ). getD x j 0) (take-paste d at s n (omega arith) (omega arith))
-      ∙ List·getD-append (take at d) (take n s) 0 j (omega (arith, length-take-le at d (omega arith)))
-      ∙ getD-take at d j 0 h
-
-  -- the words after
-  paste-after : (j : ℕ) → at + n ≤ j → getD (paste d at s n) j 0 ≡ getD d j 0
-  paste-after j h =
-      ap (λ (i : ℕ). getD (paste d at s n) i 0) whole ∙ sym (getD-drop (at + n) (paste d at s n) (j - (at + n)) 0)
-      ∙ ap (λ (x : List ℕ). getD x (j - (at + n)) 0) (drop-paste d at s n (omega arith) (omega arith))
-      ∙ getD-drop (at + n) d (j - (at + n)) 0 ∙ ap (λ (i : ℕ). getD d i 0) (sym whole)
-    where
-      whole : j ≡ at + n + (j - (at + n))
-      whole = omega arith
-
-  -- the words written
-  paste-part : take n (drop at (paste d at s n)) ≡ s
-  paste-part =
-      ap (take n) (drop-append-le at (take at d ++ take n s) (drop (at + n) d) (omega (arith, length-paste-head d at s n (omega arith) (omega arith)))
-      ∙ ap (λ (x : List ℕ). x ++ drop (at + n) d) (drop-at (take at d) (take n s) at (length-take-le at d (omega arith))))
-      ∙ take-at (take n s) (drop (at + n) d) n (length-take-le n s (omega arith)) ∙ take-all n s (omega arith)
 
 module _ (l : List ℕ) (r p : ℕ) (body : List ℕ) (size : length l ≡ 5864) (low : 1 ≤ r) (high : r ≤ 32) (few : p < 16) (long : length body ≡ 10) where
   -- the held mask is written first

@@ -1,0 +1,24 @@
+use mathlib.Core.Path.{_∙_, ap}
+use Rattle.capi.specs.Plain.{plainHead}
+use borrow.Author.Needs.{needs}
+use Rattle.capi.proofs.calls.yardbook_status.Statement.{statement}
+use Rattle.capi.proofs.calls.yardbook_status.Tie as tie
+use Rattle.capi.proofs.calls.yardbook_status.Reads as reads
+use Rattle.capi.proofs.calls.yardbook_status.Lts as lts
+use Rattle.capi.proofs.answer.plain_status.Reads as plain-status-reads
+use Rattle.replica.proofs.lists.status.Reads as status-reads
+
+-- src/calls.rt:65:18
+status-requires : tie.Need-status-requires
+status-requires c κs = search needs
+
+-- src/calls.rt:65:5
+plain-status-requires : tie.Need-plain-status-requires
+plain-status-requires c κs = search needs
+
+-- src/calls.rt:61:1
+returns : tie.Need-returns
+returns c = ap plainHead (c .plain-status .ensures) ∙ c .before .status .ensures
+
+pub yardbook-status-spec : {M : Type 1} → statement M
+yardbook-status-spec = tie.close (tie.spec status-requires plain-status-requires returns)

@@ -37,6 +37,18 @@ use Rattle.agreement.proofs.Asked.{number-yes, words-yes, number-no, wo
 use Rattle.ordering.proofs.Writing.{raise-calm, raise-alike, note-calm, note-alike}
 use Rattle.agreement.proofs.Following.{Follows, alike, at-cast, formed, follows-alike, vertex-follows, first-follows}
 
+-- ---- refused records
+
+-- a refused record does not join
+vertex-out : (rec : List ℕ) (number : ℕ) (m : Model) → (number ≡ 0 → ⊥) → admit (vertex rec) number m ≡ m
+vertex-out rec zero m d = absurd (d refl)
+vertex-out rec (suc number) m d = refl
+
+-- nor a first message
+first-out : (rec : List ℕ) (number : ℕ) (m : Model) → (number ≡ 0 → ⊥) → admit (firstMessage rec) number m ≡ m
+first-out rec zero m d = absurd (d refl)
+first-out rec (suc number) m d = refl
+
 -- ---- models only gain records
 
 -- by one call
@@ -59,16 +71,6 @@ pub follow-more : (calls : List Call) (m : Model) (l : List ℕ) → Inside m (f
 unfolding follow
 follow-more [] m l = inside-self m
 follow-more (c ∷ calls) m l = inside-then (admit-more c (outcomeOf c l .number) m) (follow-more calls (admit c (outcomeOf c l .number) m) (outcomeOf c l .words))
-
--- a refused record does not join
-vertex-out : (rec : List ℕ) (number : ℕ) (m : Model) → (number ≡ 0 → ⊥) → admit (vertex rec) number m ≡ m
-vertex-out rec zero m d = absurd (d refl)
-vertex-out rec (suc number) m d = refl
-
--- nor a first message
-first-out : (rec : List ℕ) (number : ℕ) (m : Model) → (number ≡ 0 → ⊥) → admit (firstMessage rec) number m ≡ m
-first-out rec zero m d = absurd (d refl)
-first-out rec (suc number) m d = refl
 
 -- ---- a state just opened
 

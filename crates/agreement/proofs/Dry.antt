@@ -94,7 +94,7 @@ past-record n r p body rest e =
     next _ _ (q4 .0) (next _ _ (q5 .0) (next _ _ (q6 .0) (next _ _ (q7 .0) (next _ _ (q8 .0) (next _ _ (q9 .0) (next _ _ (q10 .0) (next _ _ (q11 .0) refl)))))))
 
 -- and those of a sound state
-past-state : (l : List ℕ) (rest : List Question) → Sound l → firstNo rest ≡ firstNo (stateQuestions l ++ rest)
+pub past-state : (l : List ℕ) (rest : List Question) → Sound l → firstNo rest ≡ firstNo (stateQuestions l ++ rest)
 past-state l rest S = next _ _ (eq-eqb (length l) 5864 (S .size)) (next _ _ (well-formed l S) refl)
 
 module _ (n : ℕ) (l : List ℕ) (m : Model) (h : Holds n l m) (r p : ℕ) (body : List ℕ) (ok : numberOf (bodyRefusal n r p body) ≡ 0) where

@@ -6,3 +6,4 @@ pub mod Following
 pub mod Claim
 pub mod Dry
 pub mod Witness
+pub mod Worked

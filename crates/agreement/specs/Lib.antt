@@ -2,3 +2,4 @@ pub mod Call
 pub mod Model
 pub mod Claim
 pub mod Witness
+pub mod Worked

@@ -1,0 +1,327 @@
+-- The worked cases. On a sound state questions 1 and 3 are answered yes, and every call leaves one, so a row is computed without them. Assumes nothing.
+use mathlib.Core.Path.{_≡_, refl, sym, ap, ap₂, _∙_}
+use mathlib.Core.Bool.{Bool, true, false, cond, not, _&&_}
+use mathlib.Core.Logic.{_⊎_, inl, inr, ⊎-elim}
+use mathlib.Core.List.{List, [], _∷_, _++_, map, List·Memᴰ, List·Memᴰ·cases-cons, List·Memᴰ·not-nil, List·Memᴰ·append-cases}
+use Prim.Native.Nat.{ℕ, zero, suc, _+_, _<_}
+use native.Mathlib.Omega.{arith}
+use lib.Count.{ones, onesIn}
+use lib.Dec.{eqb, leb, ltb}
+use lib.ListN.{length, getD, set, take, drop, length-replicate}
+use borrow.Author.Tests.{eq-eqb, ltb-true}
+use Rattle.record.specs.Below.{all, any, count, select, least}
+use Rattle.record.specs.Members.{legal, leader, has, within, meets}
+use Rattle.record.specs.Refusals.{Question, firstNo}
+use Rattle.record.specs.Layout.{roundOf, sourceOf, bodyOf, strongOf, timeoutsOf, noVotesOf, weakCountOf, weakOf}
+use Rattle.record.specs.Questions.{roundOk, masksOk, strongOk, lacksLeader, quorumIf, timeoutsOk, noVotesOk, weakIdOk, rises, slotOk, weakOk, recordQuestions}
+use Rattle.record.specs.declared.refusal.Refusal.{Refusal}
+use Rattle.record.specs.declared.refusal.Refusal.the-variants.{None, MemberCount, PastEnd, Round, Source, Duplicate}
+use Rattle.record.proofs.Booleans.{which, and-left, and-right, and-both, cond-true, cond-false}
+use Rattle.record.proofs.Turn.{next, stop, done}
+use Rattle.protocol.specs.Dag.{Records, committed}
+use Rattle.protocol.specs.Paths.{path, historyUpTo}
+use Rattle.protocol.specs.Chain.{chain, walk}
+use Rattle.protocol.proofs.Laws.{records-ext}
+use Rattle.replica.specs.Layout.{stateSize, timeoutsAt, noVotesAt}
+use Rattle.replica.specs.State.{memberCount, currentRound, committedRound, leaderCount, journalCount, heardMask, timeoutsMask, noVotesMask, leaderList, journalList, vertices, firsts}
+use Rattle.replica.specs.WellFormed.{isParent, missing, parentsHeld, wellFormed}
+use Rattle.replica.specs.Outcome.{Outcome, outcome}
+use Rattle.replica.specs.Lists.{opened, openState, stateQuestions, askLeaders, askJournal, handLeaders, handJournal}
+use Rattle.replica.proofs.Sound.{Sound, sound, well-formed}
+use Rattle.replica.proofs.Opened.{opened-sound}
+use Rattle.ordering.specs.Commit.{passable, highestPassable, raiseRound, appendLeader, appendLeaders, enter, enterAll, orderLeader, orderLeaders, commit, committable, lowest, commitUpTo}
+use Rattle.ordering.specs.Calls.{addMember, sameBody, placeQuestions, putVertex, takeBody, hear, takeFirstBody, takeTimeout, takeNoVote}
+use Rattle.ordering.proofs.Kept.{keeps}
+use Rattle.agreement.specs.Call.{Call, opening, vertex, firstMessage, timeout, noVote, status, askLeaderList, askJournalList, handLeaderList, handJournalList, reading, outcomeOf, run}
+use Rattle.agreement.specs.Worked.{Seen, seen, Row, zeros, allAdmitted, ending, Passes, rows, Worked}
+use Rattle.agreement.proofs.Asked.{open-yes, open-no, open-taken, hand-leaders, hand-journal}
+use Rattle.agreement.proofs.Dry.{past-state}
+
+-- ---- commits that look each cell up once
+
+-- the values of f at i, i + 1, .., k of them
+line : {A : Type 0} → (ℕ → A) → ℕ → ℕ → List A
+line f i zero = []
+line f i (suc k) = f i ∷ line f (suc i) k
+
+-- found again
+line-at : {A : Type 0} (f : ℕ → A) (k i j : ℕ) (d : A) → j < k → getD (line f i k) j d ≡ f (i + j)
+unfolding line
+line-at f zero i j d h = absurd (omega arith)
+line-at f (suc k) i zero d h = ap f (omega arith)
+line-at f (suc k) i (suc j) d h = line-at f k (suc i) j d (omega arith) ∙ ap f (omega arith)
+
+-- the records v, by a list of lists of those of rounds up to 32 and members below 16
+listed : Records → List (List (List ℕ)) → Records
+listed v t r p = cond (ltb r 33 && ltb p 16) (getD (getD t r []) p []) (v r p)
+
+-- so that a cell that is asked for many times is taken out of the words once
+byList : Records → Records
+byList v = listed v (line (λ r. line (v r) 0 16) 0 33)
+
+-- the records are the same
+listed-is : (v : Records) → byList v ≡ v
+unfolding byList listed
+listed-is v = records-ext (byList v) v (λ r p. go r p (which (ltb r 33 && ltb p 16)))
+  where
+    go : (r p : ℕ) → ((ltb r 33 && ltb p 16) ≡ true) ⊎ ((ltb r 33 && ltb p 16) ≡ false) → byList v r p ≡ v r p
+    go r p (inl e) =
+        cond-true _ _ e
+        ∙ ap (λ (t : List (List ℕ)). getD t p [])
+        (line-at (λ r. line (v r) 0 16) 33 0 r [] (ltb-true r 33 (and-left _ _ e)) ∙ ap (λ (x : ℕ). line (v x) 0 16) (omega arith))
+        ∙ line-at (v r) 16 0 p [] (ltb-true p 16 (and-right (ltb r 33) _ e)) ∙ ap (v r) (omega arith)
+    go r p (inr e) = cond-false _ _ e
+
+-- a commit where the vertices are v
+commitBy : Records → List ℕ → ℕ → List ℕ
+commitBy v l q = orderLeaders v (set (appendLeaders l (chain (memberCount l) v (committedRound l) q)) 2 q) (chain (memberCount l) v (committedRound l) q)
+
+-- all commits
+shortCommits : List ℕ → ℕ → List ℕ
+shortCommits l zero = l
+shortCommits l (suc k) = cond (ltb (lowest l) 32) (shortCommits (commitBy (byList (vertices l)) l (lowest l)) k) l
+
+-- they end in the same words
+commits-are : (k : ℕ) (l : List ℕ) → commitUpTo l k ≡ shortCommits l k
+unfolding commitUpTo shortCommits commitBy commit
+commits-are zero l = refl
+commits-are (suc k) l = ap (λ (x : List ℕ). cond (ltb (lowest l) 32) x l)
+    (commits-are k (commit l (lowest l)) ∙ ap (λ (v : Records). shortCommits (commitBy v l (lowest l)) k) (sym (listed-is (vertices l))))
+
+-- ---- calls on a sound state, without the questions of the state
+
+-- the refusal of a vertex
+shortVertex : List ℕ → List ℕ → Refusal
+shortVertex l rec =
+    firstNo (recordQuestions (memberCount l) (roundOf rec) (sourceOf rec) (bodyOf rec) ++ placeQuestions l (roundOf rec) (sourceOf rec) (bodyOf rec))
+
+-- of a first message
+shortFirst : List ℕ → List ℕ → Refusal
+shortFirst l rec =
+    firstNo (recordQuestions (memberCount l) (roundOf rec) (sourceOf rec) (bodyOf rec) ++ ((not (has (heardMask l (roundOf rec)) (sourceOf rec)), Duplicate) ∷ []))
+
+-- of a timeout or a no-vote
+shortNote : List ℕ → ℕ → ℕ → ℕ → Refusal
+shortNote l r p mask = firstNo ((roundOk r, Round) ∷ (ltb p (memberCount l), Source) ∷ (not (has mask p), Duplicate) ∷ [])
+
+-- of asking for entries k and on of a list of so many
+shortList : ℕ → ℕ → Refusal
+shortList k size = firstNo ((leb k size, PastEnd) ∷ [])
+
+-- the outcomes
+shortOf : Call → List ℕ → Outcome
+shortOf (opening n) l = outcome (firstNo ((legal n, MemberCount) ∷ [])) l (opened n)
+shortOf (vertex rec) l = outcome (shortVertex l rec) l (shortCommits (raiseRound (putVertex l (roundOf rec) (sourceOf rec) (bodyOf rec))) 31)
+shortOf (firstMessage rec) l = outcome (shortFirst l rec) l (shortCommits (hear l (roundOf rec) (sourceOf rec) (bodyOf rec)) 31)
+shortOf (timeout r p) l = outcome (shortNote l r p (timeoutsMask l r)) l (raiseRound (addMember l (timeoutsAt r) p))
+shortOf (noVote r p) l = outcome (shortNote l r p (noVotesMask l r)) l (addMember l (noVotesAt r) p)
+shortOf status l = reading (firstNo []) l
+shortOf (askLeaderList k) l = reading (shortList k (leaderCount l)) l
+shortOf (askJournalList k) l = reading (shortList k (journalCount l)) l
+shortOf (handLeaderList k) l = reading (shortList k (leaderCount l)) l
+shortOf (handJournalList k) l = reading (shortList k (journalCount l)) l
+
+module _ (l : List ℕ) (S : Sound l) where
+  -- the questions of the state are passed over
+  past : (rest : List Question) (after : List ℕ) → outcome (firstNo (stateQuestions l ++ rest)) l after ≡ outcome (firstNo rest) l after
+  past rest after = ap (λ (why : Refusal). outcome why l after) (sym (past-state l rest S))
+
+  -- so by a call that only reads
+  past-reading : (rest : List Question) → reading (firstNo (stateQuestions l ++ rest)) l ≡ reading (firstNo rest) l
+  past-reading rest = ap (λ (why : Refusal). reading why l) (sym (past-state l rest S))
+
+  -- the outcomes are those of the calls
+  short-is : (c : Call) → outcomeOf c l ≡ shortOf c l
+  unfolding shortOf shortVertex shortFirst shortNote shortList openState takeBody takeFirstBody takeTimeout takeNoVote askLeaders askJournal
+  short-is (opening n) = ap (λ (why : Refusal). outcome why l (opened n)) (sym (next _ _ (eq-eqb (length l) 5864 (S .size)) refl))
+  short-is (vertex rec) = past _ _ ∙ ap (outcome (shortVertex l rec) l) (commits-are 31 _)
+  short-is (firstMessage rec) = past _ _ ∙ ap (outcome (shortFirst l rec) l) (commits-are 31 _)
+  short-is (timeout r p) = past _ _
+  short-is (noVote r p) = past _ _
+  short-is status = past-reading []
+  short-is (askLeaderList k) = past-reading _
+  short-is (askJournalList k) = past-reading _
+  short-is (handLeaderList k) = past-reading _
+  short-is (handJournalList k) = past-reading _
+
+  -- a state that a call leaves well formed
+  sound-kept : (k : List ℕ) → (length k ≡ stateSize) × (wellFormed k ≡ true) → Sound k
+  sound-kept k h = sound k (h .0) (h .1)
+
+  -- an opening, admitted or refused
+  sound-opening : (n : ℕ) → (legal n ≡ true) ⊎ (legal n ≡ false) → Sound (openState l n .words)
+  sound-opening n (inl e) = rw (open-yes l n (open-taken l n (S .size) e) .1) (opened-sound n e)
+  sound-opening n (inr e) = rw (open-no l n e) S
+
+  -- every call leaves a sound state
+  sound-after : (c : Call) → Sound (outcomeOf c l .words)
+  sound-after (opening n) = sound-opening n (which (legal n))
+  sound-after (vertex rec) = sound-kept _ (keeps l (S .size) (well-formed l S) .0 _ _ _)
+  sound-after (firstMessage rec) = sound-kept _ (keeps l (S .size) (well-formed l S) .1 _ _ _)
+  sound-after (timeout r p) = sound-kept _ (keeps l (S .size) (well-formed l S) .2 r p)
+  sound-after (noVote r p) = sound-kept _ (keeps l (S .size) (well-formed l S) .3 r p)
+  sound-after status = S
+  sound-after (askLeaderList k) = S
+  sound-after (askJournalList k) = S
+  sound-after (handLeaderList k) = S
+  sound-after (handJournalList k) = S
+
+-- a list of calls
+shortRun : List ℕ → List Call → List ℕ
+shortRun l [] = l
+shortRun l (c ∷ calls) = shortRun (shortOf c l .words) calls
+
+-- it ends in the same words, and they are sound
+run-is : (calls : List Call) (l : List ℕ) → Sound l → (run l calls ≡ shortRun l calls) × Sound (run l calls)
+unfolding run shortRun
+run-is [] l S = (refl, S)
+run-is (c ∷ calls) l S =
+    let w = run-is calls (outcomeOf c l .words) (sound-after l S c) in
+    (w .0 ∙ ap (λ (o : Outcome). shortRun (o .words) calls) (short-is l S c), w .1)
+
+-- every call has the number 0
+shortAdmitted : List ℕ → List Call → Bool
+shortAdmitted l [] = true
+shortAdmitted l (c ∷ calls) = eqb (shortOf c l .number) 0 && shortAdmitted (shortOf c l .words) calls
+
+-- the same test
+admitted-is : (calls : List Call) (l : List ℕ) → Sound l → allAdmitted l calls ≡ shortAdmitted l calls
+unfolding allAdmitted shortAdmitted
+admitted-is [] l S = refl
+admitted-is (c ∷ calls) l S =
+    ap (λ (b : Bool). eqb (outcomeOf c l .number) 0 && b) (admitted-is calls (outcomeOf c l .words) (sound-after l S c))
+    ∙ ap (λ (o : Outcome). eqb (o .number) 0 && shortAdmitted (o .words) calls) (short-is l S c)
+
+-- what is seen, without asking for the lists
+shortSeen : Outcome → Seen
+shortSeen o = record {
+  number = o .number;
+  id = o .id;
+  round = currentRound (o .words);
+  committed = committedRound (o .words);
+  leaders = leaderList (o .words);
+  journal = journalList (o .words);
+}
+
+-- it is the same
+seen-is : (o : Outcome) → Sound (o .words) → seen o ≡ shortSeen o
+unfolding shortSeen
+seen-is o S =
+    let l = o .words in
+    ap₂ (λ (x y : List ℕ). record { number = o .number; id = o .id; round = currentRound l; committed = committedRound l; leaders = x; journal = y })
+    (hand-leaders l (S .size) (well-formed l S)) (hand-journal l (S .size) (well-formed l S))
+
+-- ---- the rows
+
+-- as many words as a state has
+zeros-size : length zeros ≡ stateSize
+zeros-size = length-replicate {A = ℕ} stateSize 0
+
+-- an opening with a member count of the five
+opens : (n : ℕ) → legal n ≡ true → openState zeros n .words ≡ opened n
+opens n e = open-yes zeros n (open-taken zeros n zeros-size e) .1
+
+-- what a row's calls end in where they start with opening 4
+shortEnd : Row → Seen
+shortEnd x = shortSeen (shortOf (x .last) (shortRun (opened 4) (drop 1 (x .calls))))
+
+-- four members
+four : legal 4 ≡ true
+unfolding legal
+four = refl
+
+-- it is what the row's calls end in
+end-is : (x : Row) → x .calls ≡ opening 4 ∷ drop 1 (x .calls) → ending x ≡ shortEnd x
+unfolding run shortEnd
+end-is x e =
+    let before = drop 1 (x .calls) in
+    let start : run zeros (x .calls) ≡ run (opened 4) before = ap (run zeros) e ∙ ap (λ (l : List ℕ). run l before) (opens 4 four) in
+    let w = run-is before (opened 4) (opened-sound 4 four) in
+    ap (λ (l : List ℕ). seen (outcomeOf (x .last) l)) start
+    ∙ seen-is (outcomeOf (x .last) (run (opened 4) before)) (sound-after (run (opened 4) before) (w .1) (x .last))
+    ∙ ap shortSeen (short-is (run (opened 4) before) (w .1) (x .last) ∙ ap (shortOf (x .last)) (w .0))
+
+-- its calls before the last are admitted where the test says so of those after the opening
+calls-admitted : (x : Row) → x .calls ≡ opening 4 ∷ drop 1 (x .calls) → shortAdmitted (opened 4) (drop 1 (x .calls)) ≡ true → allAdmitted zeros (x .calls) ≡ true
+unfolding allAdmitted
+calls-admitted x e h =
+    let before = drop 1 (x .calls) in
+    ap (allAdmitted zeros) e
+    ∙ and-both (eq-eqb _ 0 (open-taken zeros 4 zeros-size four))
+    (ap (λ (l : List ℕ). allAdmitted l before) (opens 4 four) ∙ admitted-is before (opened 4) (opened-sound 4 four) ∙ h)
+
+-- two functions with the same values over a list agree at each of its members
+same-at : {A : Type 0} (f g : Row → A) (xs : List Row) → map f xs ≡ map g xs → (x : Row) → List·Memᴰ x xs → f x ≡ g x
+same-at f g [] e x m = absurd (List·Memᴰ·not-nil m)
+same-at f g (y ∷ xs) e x m = ⊎-elim (λ d. ap f d ∙ here ∙ sym (ap g d)) (same-at f g xs there x) (List·Memᴰ·cases-cons m)
+  where
+    here : f y ≡ g y
+    here = cc
+
+    there : map f xs ≡ map g xs
+    there = cc
+
+-- the rows after the four about opening
+later : List Row
+later = drop 4 rows
+
+-- they start with opening 4
+starts : map (λ (x : Row). x .calls) later ≡ map (λ (x : Row). opening 4 ∷ drop 1 (x .calls)) later
+unfolding later rows
+starts = refl
+
+-- their other calls before the last are admitted, and they end as they must: this computes them
+computed : Row → Bool × Seen
+computed x = (shortAdmitted (opened 4) (drop 1 (x .calls)), shortEnd x)
+
+ends : map computed later ≡ map (λ (x : Row). (true, x .end)) later
+unfolding later rows computed shortAdmitted shortEnd shortSeen shortOf shortVertex shortFirst shortNote shortList shortRun opened outcome legal leader has within meets
+    firstNo strongOf timeoutsOf noVotesOf weakCountOf weakOf roundOk masksOk strongOk lacksLeader quorumIf timeoutsOk noVotesOk weakIdOk rises
+    slotOk weakOk all any count select least committed path historyUpTo chain walk vertices firsts isParent missing parentsHeld passable
+    highestPassable raiseRound appendLeader appendLeaders enter enterAll orderLeader orderLeaders line listed byList commitBy shortCommits
+    committable addMember sameBody putVertex hear ones onesIn
+ends = refl
+
+-- what is seen after an opening with answer 0
+opened-seen : (n : ℕ) → legal n ≡ true → seen (openState zeros n) ≡ record { number = 0; id = 0; round = 1; committed = 0; leaders = []; journal = [] }
+opened-seen n e = ap seen same ∙ seen-is (outcome None zeros (opened n)) (unfold outcome in opened-sound n e) ∙ unfold outcome shortSeen opened in refl
+  where
+    same : openState zeros n ≡ outcome None zeros (opened n)
+    same = unfold openState in ap (λ (why : Refusal). outcome why zeros (opened n)) (sym (next _ _ (eq-eqb _ _ zeros-size) (next _ _ e done)))
+
+-- and after one with another member count
+refused-seen : (n : ℕ) → legal n ≡ false → seen (openState zeros n) ≡ record { number = 2; id = 0; round = 0; committed = 0; leaders = []; journal = [] }
+refused-seen n e = ap seen same ∙ unfold outcome handLeaders handJournal askLeaders askJournal firstNo wellFormed legal in refl
+  where
+    same : openState zeros n ≡ outcome MemberCount zeros (opened n)
+    same = unfold openState in ap (λ (why : Refusal). outcome why zeros (opened n)) (sym (next _ _ (eq-eqb _ _ zeros-size) (stop _ _ e)))
+
+-- equal lists from equal entries
+cons : {x y : Seen} {xs ys : List Seen} → x ≡ y → xs ≡ ys → x ∷ xs ≡ y ∷ ys
+cons e d = ap₂ (λ (z : Seen) (zs : List Seen). z ∷ zs) e d
+
+-- the four rows about opening
+openings : map ending (take 4 rows) ≡ map (λ (x : Row). x .end) (take 4 rows)
+unfolding rows legal run
+openings = cons (opened-seen 4 refl) (cons (opened-seen 16 refl) (cons (refused-seen 5 refl) (cons (refused-seen 19 refl) refl)))
+
+-- one of the later rows
+later-row : (x : Row) → List·Memᴰ x later → Passes x
+unfolding computed
+later-row x m =
+    let start : x .calls ≡ opening 4 ∷ drop 1 (x .calls) = same-at (λ (y : Row). y .calls) (λ (y : Row). opening 4 ∷ drop 1 (y .calls)) later starts x m in
+    let made : computed x ≡ (true, x .end) = same-at computed (λ (y : Row). (true, y .end)) later ends x m in
+    record { admitted = calls-admitted x start (ap (λ (w : Bool × Seen). w .0) made); end = end-is x start ∙ ap (λ (w : Bool × Seen). w .1) made }
+
+-- one of the first four, which have no call before the last
+first-row : (x : Row) → List·Memᴰ x (take 4 rows) → Passes x
+unfolding rows allAdmitted
+first-row x m = record {
+  admitted = same-at (λ (y : Row). allAdmitted zeros (y .calls)) (λ (y : Row). true) (take 4 rows) refl x m;
+  end = same-at ending (λ (y : Row). y .end) (take 4 rows) openings x m;
+}
+
+-- All rows of the table.
+pub worked : Worked
+unfolding rows later
+worked x m = ⊎-elim (first-row x) (later-row x) (List·Memᴰ·append-cases (take 4 rows) m)

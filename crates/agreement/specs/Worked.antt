@@ -1,0 +1,137 @@
+-- Document 01's worked cases on four members, those marked *: one table of rows, and one claim about all of them.
+use mathlib.Core.Path.{_≡_}
+use mathlib.Core.Bool.{Bool, true, _&&_}
+use mathlib.Core.List.{List, [], _∷_, _++_, List·Memᴰ}
+use Prim.Native.Nat.{ℕ}
+use lib.Dec.{eqb}
+use lib.ListN.{replicate}
+use Rattle.replica.specs.Layout.{stateSize}
+use Rattle.replica.specs.State.{currentRound, committedRound}
+use Rattle.replica.specs.Outcome.{Outcome}
+use Rattle.replica.specs.Lists.{handLeaders, handJournal}
+use Rattle.agreement.specs.Call.{Call, opening, vertex, firstMessage, timeout, askJournalList, handJournalList, outcomeOf, run}
+
+-- what is seen after a call: its number and id, the rounds, and the two lists as handing over from entry 0 gives them
+pub record Seen : Type 0 where
+  pub number : ℕ
+  pub id : ℕ
+  pub round : ℕ
+  pub committed : ℕ
+  pub leaders : List ℕ
+  pub journal : List ℕ
+
+abbrev pub seen : Outcome → Seen
+seen o = record {
+  number = o .number;
+  id = o .id;
+  round = currentRound (o .words);
+  committed = committedRound (o .words);
+  leaders = handLeaders (o .words) 0;
+  journal = handJournal (o .words) 0;
+}
+
+-- a row: calls on 5,864 zero words, which are all admitted; a last call; and what must be seen then
+pub record Row : Type 0 where
+  pub calls : List Call
+  pub last : Call
+  pub end : Seen
+
+abbrev pub zeros : List ℕ
+zeros = replicate stateSize 0
+
+-- every call has the number 0
+unfoldable pub allAdmitted : List ℕ → List Call → Bool
+allAdmitted l [] = true
+allAdmitted l (c ∷ calls) = eqb (outcomeOf c l .number) 0 && allAdmitted (outcomeOf c l .words) calls
+
+-- what is seen after the last call
+abbrev pub ending : Row → Seen
+ending x = seen (outcomeOf (x .last) (run zeros (x .calls)))
+
+pub record Passes (x : Row) : Type 0 where
+  pub admitted : allAdmitted zeros (x .calls) ≡ true
+  pub end : ending x ≡ x .end
+
+-- ---- how a row is written
+
+-- a record of round r and source p, with its three masks and its tag, and no weak ids
+abbrev pub rec : ℕ → ℕ → ℕ → ℕ → ℕ → ℕ → List ℕ
+rec r p strong timeouts noVotes tag = r ∷ p ∷ strong ∷ timeouts ∷ noVotes ∷ tag ∷ 0 ∷ 0 ∷ 0 ∷ 0 ∷ 0 ∷ 0 ∷ []
+
+-- a vertex and a first message r/p with this strong mask, the other masks 0
+abbrev pub v : ℕ → ℕ → ℕ → Call
+v r p strong = vertex (rec r p strong 0 0 0)
+
+abbrev pub f : ℕ → ℕ → ℕ → Call
+f r p strong = firstMessage (rec r p strong 0 0 0)
+
+-- a vertex with timeouts, and with no-votes too
+abbrev pub vt : ℕ → ℕ → ℕ → ℕ → Call
+vt r p strong timeouts = vertex (rec r p strong timeouts 0 0)
+
+abbrev pub vtn : ℕ → ℕ → ℕ → ℕ → ℕ → Call
+vtn r p strong timeouts noVotes = vertex (rec r p strong timeouts noVotes 0)
+
+-- a vertex of round 1, with its tag
+abbrev pub v1 : ℕ → ℕ → Call
+v1 p tag = vertex (rec 1 p 0 0 0 tag)
+
+-- the calls before the last one, the last one, and then: number, id, current round, committed round, leader list, journal
+abbrev pub row : List Call → Call → ℕ → ℕ → ℕ → ℕ → List ℕ → List ℕ → Row
+row calls last number id round committed leaders journal =
+    record { calls = calls; last = last; end = record { number = number; id = id; round = round; committed = committed; leaders = leaders; journal = journal } }
+
+-- a state opened with 4, and after it S
+abbrev pub fresh : List Call
+fresh = opening 4 ∷ []
+
+abbrev pub s : List Call
+s = opening 4 ∷ v1 0 10 ∷ v1 1 11 ∷ v1 2 12 ∷ []
+
+-- ---- the table
+
+unfoldable pub rows : List Row
+rows =
+    -- Open with 4 or 16: 0. With 5 or 19: 2.
+    row [] (opening 4) 0 0 1 0 [] []
+    ∷ row [] (opening 16) 0 0 1 0 [] []
+    ∷ row [] (opening 5) 2 0 0 0 [] []
+    ∷ row [] (opening 19) 2 0 0 0 [] []
+    -- S, vertex 1/0 again: 12. With tag 99: 13.
+    ∷ row s (v1 0 10) 12 0 2 0 [] []
+    ∷ row s (v1 0 99) 13 0 2 0 [] []
+    -- S, vertex 2/0, strong 7: 0. Strong 3: 8. Strong 23: 7.
+    ∷ row s (v 2 0 7) 0 0 2 0 [] []
+    ∷ row s (v 2 0 3) 8 0 2 0 [] []
+    ∷ row s (v 2 0 23) 7 0 2 0 [] []
+    -- S, vertex 2/0, strong 15: 14 with ref 19. Strong 14: 9. Strong 7 with timeouts 7: 9.
+    ∷ row s (v 2 0 15) 14 19 2 0 [] []
+    ∷ row s (v 2 0 14) 9 0 2 0 [] []
+    ∷ row s (vt 2 0 7 7) 9 0 2 0 [] []
+    -- S, vertex 2/1, strong 14, timeouts 7: 10.
+    ∷ row s (vt 2 1 14 7) 10 0 2 0 [] []
+    -- Round 1 from 1, 2, 3 only: current round 1; timeout notes from 0 and 1: still 1; from 2: current round 2.
+    ∷ row (fresh ++ v1 1 11 ∷ v1 2 12 ∷ []) (v1 3 13) 0 0 1 0 [] []
+    ∷ row (fresh ++ v1 1 11 ∷ v1 2 12 ∷ v1 3 13 ∷ timeout 1 0 ∷ []) (timeout 1 1) 0 0 1 0 [] []
+    ∷ row (fresh ++ v1 1 11 ∷ v1 2 12 ∷ v1 3 13 ∷ timeout 1 0 ∷ timeout 1 1 ∷ []) (timeout 1 2) 0 0 2 0 [] []
+    -- S, vertices 2/0 and 2/1, strong 7: committed 0. Then 2/2, strong 7: committed 1.
+    ∷ row (s ++ v 2 0 7 ∷ []) (v 2 1 7) 0 0 2 0 [] []
+    ∷ row (s ++ v 2 0 7 ∷ v 2 1 7 ∷ []) (v 2 2 7) 0 0 3 1 (16 ∷ []) (16 ∷ [])
+    -- S, first messages 2/0 and 2/1, vertex 2/2, all strong 7: committed 0.
+    ∷ row (s ++ f 2 0 7 ∷ f 2 1 7 ∷ []) (v 2 2 7) 0 0 2 0 [] []
+    -- S, vertices 1/3; 2/0 and 2/1, strong 7; 2/3, strong 14, timeouts 7; first messages 3/0, 3/1, 3/2, strong 11:
+    -- leaders 16 33, journal 16 17 18 33.
+    ∷ row (s ++ v1 3 13 ∷ v 2 0 7 ∷ v 2 1 7 ∷ vt 2 3 14 7 ∷ f 3 0 11 ∷ f 3 1 11 ∷ []) (f 3 2 11) 0 0 3 2 (16 ∷ 33 ∷ []) (16 ∷ 17 ∷ 18 ∷ 33 ∷ [])
+    -- S, vertex 1/3; 2/0 and 2/2, strong 14, timeouts 7; 2/1, strong 14, timeouts 7, no-votes 14; first messages 3/0, 3/1, 3/2, strong 7:
+    -- leaders 33, journal 17 18 19 33.
+    ∷ row (s ++ v1 3 13 ∷ vt 2 0 14 7 ∷ vt 2 2 14 7 ∷ vtn 2 1 14 7 14 ∷ f 3 0 7 ∷ f 3 1 7 ∷ []) (f 3 2 7) 0 0 3 2 (33 ∷ []) (17 ∷ 18 ∷ 19 ∷ 33 ∷ [])
+    -- Fresh state, journal from 0: 0 and an empty part. From 1: 15.
+    ∷ row fresh (askJournalList 0) 0 0 1 0 [] []
+    ∷ row fresh (handJournalList 0) 0 0 1 0 [] []
+    ∷ row fresh (askJournalList 1) 15 0 1 0 [] []
+    ∷ row fresh (handJournalList 1) 15 0 1 0 [] []
+    ∷ []
+
+-- THE CLAIM: every row of the table passes.
+abbrev pub Worked : Type 0
+Worked = (x : Row) → List·Memᴰ x rows → Passes x

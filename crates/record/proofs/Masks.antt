@@ -6,14 +6,14 @@ use Prim.Native.Nat.{ℕ, zero, suc, _+_, _-_, _*_, _/_, _%_, _^_, _≤_, _<_}
 use native.Mathlib.Nat.{pow-suc, mul-comm, one-mul, lt-of-lt-of-le, mod-lt, mod-le, zero-mod, zero-div, div-eq-of-lt, div-div-eq-div-mul}
 use native.Mathlib.Omega.{arith}
 use lib.Arith.{lt-one}
-use lib.Bits.{bitOr, bitAnd, or-shr, or-mod, or-lt, and-shr, and-mod}
+use lib.Bits.{bitOr, bitAnd, or-shr, or-mod, or-lt, or-add-and, and-le-l, and-le-r, and-shr, and-mod}
 use lib.Count.{ones, ones-step}
 use lib.Dec.{eqb, leb, ltb, eqb·zero-suc, eqb·suc-zero, eqb·suc-suc, lit<}
 use lib.Pow.{pow-mono, pow-lt, pow-pos, shl-exact, split}
 use borrow.Author.Tests.{leb-true, leb-false, lt-ltb, ltb-true, eqb-true, eq-eqb, ne-eqb}
 use Rattle.record.specs.Below.{count}
 use Rattle.record.specs.Members.{legal, faulty, quorum, leader, has, add, within, meets}
-use Rattle.record.proofs.Booleans.{which, and-left, and-right, or-left, or-right, bool-ext}
+use Rattle.record.proofs.Booleans.{which, and-left, and-right, and-both, or-left, or-right, bool-ext}
 use Rattle.record.proofs.Below.{count-cong, count-low}
 
 -- ---- the group
@@ -175,6 +175,21 @@ meets-count n m l = ap (leb (quorum n)) (ones-count n m l)
 pub within-lt : (n m : ℕ) → within n m ≡ true → m < 2 ^ n
 unfolding within
 within-lt n m e = ltb-true m (2 ^ n) e
+
+pub lt-within : (n m : ℕ) → m < 2 ^ n → within n m ≡ true
+unfolding within
+lt-within n m l = lt-ltb m (2 ^ n) l
+
+-- joined masks are within n members exactly if each is
+pub within-or : (n a b : ℕ) → within n (bitOr a b) ≡ (within n a && within n b)
+within-or n a b =
+    bool-ext
+    (λ e. let l : bitOr a b < 2 ^ n = within-lt n (bitOr a b) e in
+    and-both (lt-within n a (omega (arith, or-add-and a b, and-le-r a b))) (lt-within n b (omega (arith, or-add-and a b, and-le-l a b))))
+    (λ e. lt-within n (bitOr a b) (or-lt n a b (within-lt n a (and-left _ _ e)) (within-lt n b (and-right (within n a) _ e))))
+
+pub within-three : (n a b c : ℕ) → within n (bitOr a (bitOr b c)) ≡ (within n a && (within n b && within n c))
+within-three n a b c = within-or n a (bitOr b c) ∙ ap (λ (x : Bool). within n a && x) (within-or n b c)
 
 -- the tests of a program: 32 members or more hold every word, and `m >> n == 0`
 pub within-wide : (n m : ℕ) → 32 ≤ n → m < 2 ^ 32 → within n m ≡ true

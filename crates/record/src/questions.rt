@@ -64,13 +64,7 @@ fn round_ok(round: u32) -> bool
 fn masks_ok(n: u32, strong: u32, timeouts: u32, no_votes: u32) -> bool
     ensures { λ r. ⌜ r ≡ (within n strong && (within n timeouts && within n «no_votes»)) ⌝ }
 {
-    if !is_within(n, strong) {
-        return false;
-    }
-    if !is_within(n, timeouts) {
-        return false;
-    }
-    is_within(n, no_votes)
+    is_within(n, strong | (timeouts | no_votes))
 }
 
 // 8

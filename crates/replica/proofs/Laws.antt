@@ -5,16 +5,16 @@ use mathlib.Core.List.{List}
 use Prim.Native.Nat.{ℕ, _+_, _^_, _≤_, _<_}
 use native.Mathlib.Numerals.{add-one}
 use native.Mathlib.Omega.{arith}
-use lib.Bits.{bitOr, bitAnd, or-add-and, and-le-l, and-le-r, or-lt}
+use lib.Bits.{bitOr, bitAnd, or-add-and, and-le-l, and-le-r}
 use lib.Dec.{eqb}
 use lib.ListN.{length, getD, take, drop, length-drop}
 use lib.Seq.{length-take-le, getD-take, getD-drop}
-use borrow.Author.Tests.{eqb-true, eq-eqb, lt-ltb}
+use borrow.Author.Tests.{eqb-true, eq-eqb}
 use Rattle.record.specs.Below.{all}
 use Rattle.record.specs.Members.{has, within}
 use Rattle.record.proofs.Booleans.{and-left, and-right, and-both, bool-ext}
 use Rattle.record.proofs.Below.{all-cong}
-use Rattle.record.proofs.Masks.{has-and, mask-ext, within-lt}
+use Rattle.record.proofs.Masks.{has-and, mask-ext, within-lt, within-or}
 use Rattle.replica.specs.WellFormed.{subset}
 
 -- ---- words that are zero
@@ -48,18 +48,6 @@ part-zero l a k h =
     (λ i b. ap (λ (x : ℕ). eqb x 0) (getD-take k (drop a l) i 0 b ∙ getD-drop a l i 0)))
 
 -- ---- masks
-
-pub lt-within : (n m : ℕ) → m < 2 ^ n → within n m ≡ true
-unfolding within
-lt-within n m l = lt-ltb m (2 ^ n) l
-
--- joined masks are within n members exactly if each is
-pub within-or : (n a b : ℕ) → within n (bitOr a b) ≡ (within n a && within n b)
-within-or n a b =
-    bool-ext
-    (λ e. let l : bitOr a b < 2 ^ n = within-lt n (bitOr a b) e in
-    and-both (lt-within n a (omega (arith, or-add-and a b, and-le-r a b))) (lt-within n b (omega (arith, or-add-and a b, and-le-l a b))))
-    (λ e. lt-within n (bitOr a b) (or-lt n a b (within-lt n a (and-left _ _ e)) (within-lt n b (and-right (within n a) _ e))))
 
 -- a mask within another
 pub subset-has : (a b p : ℕ) → subset a b ≡ true → has a p ≡ true → has b p ≡ true

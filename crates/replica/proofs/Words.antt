@@ -15,11 +15,10 @@ use borrow.Author.Tests.{eqb-true, eq-eqb}
 use Rattle.record.specs.Members.{legal, has, within, idOf, idRound, idMember}
 use Rattle.record.proofs.Booleans.{and-left, and-right, and-both, or-left, or-right, or-cases}
 use Rattle.record.proofs.Below.{all-elim}
-use Rattle.record.proofs.Masks.{within-lt, legal-range}
+use Rattle.record.proofs.Masks.{within-lt, lt-within, legal-range}
 use Rattle.protocol.specs.Journal.{among}
 use Rattle.replica.specs.State.{memberCount, leaderCount, journalCount, heldMask, heardMask, votesMask, timeoutsMask, noVotesMask, orderedMask, leaderWord, journalWord, leaderList, journalList, heldId, orderedId}
 use Rattle.replica.specs.WellFormed.{eachRound, masksWithin}
-use Rattle.replica.proofs.Laws.{lt-within}
 use Rattle.replica.proofs.Parents.{round-in}
 
 -- ---- ids

@@ -344,10 +344,10 @@ fn body_ok(state: &[u32]) -> bool
     if votes_mask(state, 1) != 0 {
         return false;
     }
-    if !ordered_held(state) {
+    if !cells_ok(state) {
         return false;
     }
-    cells_ok(state)
+    ordered_held(state)
 }
 
 pub fn is_well_formed(state: &[u32]) -> bool

@@ -1,5 +1,5 @@
 -- The tests in turn.
-use mathlib.Core.Bool.{and-true}
+use mathlib.Core.Bool.{and-true, and-false}
 use borrow.Author.Tests.{eq-eqb, ne-eqb}
 use borrow.Author.Needs.{needs}
 use Rattle.record.proofs.Booleans.{passed, failed}
@@ -24,17 +24,17 @@ votes-mask-requires c κs = search needs
 returns-3 : tie.Need-returns-3
 returns-3 c = simp (passed (c .before .before .before .before .before .masks-within .ensures) (c .before .before .before .before .if1 .left), passed (c .before .before .before .votes-heard .ensures) (c .before .before .if2 .left), ne-eqb _ _ (rw (c .before .votes-mask .ensures) at (c .if3 .taken)))
 
+cells-ok-requires : tie.Need-cells-ok-requires
+cells-ok-requires c κs = (c .before .before .before .before .before .before .before .pre .0, c .before .before .before .before .before .before .before .pre .1, passed (c .before .before .before .before .before .masks-within .ensures) (c .before .before .before .before .if1 .left))
+
+returns-4 : tie.Need-returns-4
+returns-4 c = simp (passed (c .before .before .before .before .before .before .before .masks-within .ensures) (c .before .before .before .before .before .before .if1 .left), passed (c .before .before .before .before .before .votes-heard .ensures) (c .before .before .before .before .if2 .left), eq-eqb _ _ (rw (c .before .before .before .votes-mask .ensures) at (c .before .before .if3 .left)), failed (c .before .cells-ok .ensures) (c .if4 .taken), and-false)
+
 ordered-held-requires : tie.Need-ordered-held-requires
 ordered-held-requires c κs = search needs
 
-returns-4 : tie.Need-returns-4
-returns-4 c = simp (passed (c .before .before .before .before .before .before .before .masks-within .ensures) (c .before .before .before .before .before .before .if1 .left), passed (c .before .before .before .before .before .votes-heard .ensures) (c .before .before .before .before .if2 .left), eq-eqb _ _ (rw (c .before .before .before .votes-mask .ensures) at (c .before .before .if3 .left)), failed (c .before .ordered-held .ensures) (c .if4 .taken))
-
-cells-ok-requires : tie.Need-cells-ok-requires
-cells-ok-requires c κs = (c .before .before .before .before .before .before .before .before .before .pre .0, c .before .before .before .before .before .before .before .before .before .pre .1, passed (c .before .before .before .before .before .before .before .masks-within .ensures) (c .before .before .before .before .before .before .if1 .left))
-
 returns-5 : tie.Need-returns-5
-returns-5 c = simp (passed (c .before .before .before .before .before .before .before .before .masks-within .ensures) (c .before .before .before .before .before .before .before .if1 .left), passed (c .before .before .before .before .before .before .votes-heard .ensures) (c .before .before .before .before .before .if2 .left), eq-eqb _ _ (rw (c .before .before .before .before .votes-mask .ensures) at (c .before .before .before .if3 .left)), passed (c .before .before .ordered-held .ensures) (c .before .if4 .left), and-true) (c .cells-ok .ensures)
+returns-5 c = simp (passed (c .before .before .before .before .before .before .before .before .masks-within .ensures) (c .before .before .before .before .before .before .before .if1 .left), passed (c .before .before .before .before .before .before .votes-heard .ensures) (c .before .before .before .before .before .if2 .left), eq-eqb _ _ (rw (c .before .before .before .before .votes-mask .ensures) at (c .before .before .before .if3 .left)), passed (c .before .before .cells-ok .ensures) (c .before .if4 .left), and-true) (c .ordered-held .ensures)
 
 pub body-ok-spec : {M : Type 1} → statement M
 body-ok-spec =
@@ -46,7 +46,7 @@ body-ok-spec =
     returns-2
     votes-mask-requires
     returns-3
-    ordered-held-requires
-    returns-4
     cells-ok-requires
+    returns-4
+    ordered-held-requires
     returns-5)

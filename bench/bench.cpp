@@ -1,0 +1,242 @@
+// Times each call of three engines on the same words: the library, the plain engine, and the second implementation.
+// Answers and all words are compared in every case, and while the states are built.
+//
+//     bench [--quick] [--short] picture.svg
+#include <algorithm>
+#include <array>
+#include <chrono>
+#include <cmath>
+#include <cstdio>
+#include <cstdlib>
+#include <string>
+#include <string_view>
+#include <vector>
+
+#include <x86intrin.h>
+
+#include "cases.hpp"
+#include "picture.hpp"
+#include "stack.hpp"
+
+namespace {
+
+constexpr std::array<u32, 5> member_counts{4, 7, 10, 13, 16};
+constexpr std::array<u32, 4> fullness{0, 8, 16, 31};
+
+std::uint64_t ticks() {
+    unsigned aux;
+    _mm_lfence();
+    const std::uint64_t t = __rdtscp(&aux);
+    _mm_lfence();
+    return t;
+}
+
+double ticks_per_ns() {
+    const auto from = std::chrono::steady_clock::now();
+    const std::uint64_t t = ticks();
+    while (std::chrono::steady_clock::now() - from < std::chrono::milliseconds(50)) {}
+    const std::chrono::duration<double, std::nano> ns = std::chrono::steady_clock::now() - from;
+    return static_cast<double>(ticks() - t) / ns.count();
+}
+
+using Samples = std::vector<std::uint64_t>;
+
+double median(Samples& v) {
+    const auto middle = v.begin() + static_cast<std::ptrdiff_t>(v.size() / 2);
+    std::nth_element(v.begin(), middle, v.end());
+    return static_cast<double>(*middle);
+}
+
+alignas(64) u32 words[state_words];  // what the engines are lent
+
+struct Timed {
+    Case c;
+    Said answer;
+    std::vector<std::size_t> changed;  // the words that the call changes
+    std::array<Samples, engines + 1> samples;
+    std::array<double, engines> ns{};
+
+    explicit Timed(Case its) : c(std::move(its)) {
+        std::vector<u32> after = c.state;
+        answer = agreed(c.call, after, true);
+        if (answer[0] != c.number) {
+            std::fprintf(stderr, "bench: %s, n = %u, %u rounds: answered %u\n", c.name.c_str(), c.n, c.rounds, answer[0]);
+            std::exit(1);
+        }
+        for (std::size_t i = 0; i < state_words; ++i)
+            if (after[i] != c.state[i]) changed.push_back(i);
+    }
+
+    // Runs one call and says how long it took. The words that it changes are put back after it, untimed, so that each call starts
+    // from the same words.
+    std::uint64_t once(Engine engine) {
+        const std::uint64_t from = ticks();
+        const Said said = run(engine, c.call, words);
+        const std::uint64_t to = ticks();
+        if (engine != nothing && said != answer) fail();
+        for (const std::size_t i : changed) words[i] = c.state[i];
+        return to - from;
+    }
+
+    // The same call by the same engine runs just before, so that code and words are warm for all alike.
+    void sample(Engine engine) {
+        once(engine);
+        samples[engine].push_back(once(engine));
+    }
+
+    // The order of the library and the plain engine alternates. The second implementation is slow and runs every 8th time.
+    void measure(int times) {
+        std::copy(c.state.begin(), c.state.end(), words);
+        for (int i = 0; i < times; ++i) {
+            sample(i % 2 == 0 ? ours : plain_engine);
+            sample(i % 2 == 0 ? plain_engine : ours);
+            if (i % 8 != 0) continue;
+            sample(second);
+            sample(nothing);
+        }
+        if (!std::equal(c.state.begin(), c.state.end(), words)) fail();
+    }
+
+    [[noreturn]] void fail() const {
+        std::fprintf(stderr, "bench: %s, n = %u, %u rounds: an engine differs\n", c.name.c_str(), c.n, c.rounds);
+        std::exit(1);
+    }
+};
+
+// Less than the timer can tell.
+constexpr double least_ns = 10;
+
+std::string cost(double ns) { return ns < least_ns ? "< 10" : std::to_string(std::lround(ns)); }
+
+std::string ratio(double a, double b) {
+    if (a < least_ns || b < least_ns) return "-";
+    std::array<char, 32> text{};
+    std::snprintf(text.data(), text.size(), "%.2f", a / b);
+    return text.data();
+}
+
+void print_table(const std::vector<Timed>& all) {
+    std::puts("| call                   |  n | full rounds | library, ns | plain C++, ns | second, ns | library / plain | library / second |\n"
+              "|:-----------------------|---:|------------:|------------:|--------------:|-----------:|----------------:|-----------------:|");
+    for (const Timed& t : all) {
+        const double our = t.ns[ours], plain = t.ns[plain_engine], its = t.ns[second];
+        std::printf("| %-22s | %2u | %11u | %11s | %13s | %10s | %15s | %16s |\n", t.c.name.c_str(), t.c.n, t.c.rounds,
+                    cost(our).c_str(), cost(plain).c_str(), cost(its).c_str(), ratio(our, plain).c_str(), ratio(our, its).c_str());
+    }
+}
+
+const Timed* find(const std::vector<Timed>& all, std::string_view name, u32 n, u32 rounds) {
+    const auto it = std::find_if(all.begin(), all.end(),
+                                 [&](const Timed& t) { return t.c.name == name && t.c.n == n && t.c.rounds == rounds; });
+    return it == all.end() ? nullptr : &*it;
+}
+
+void print_cell(const Timed* t) {
+    if (t == nullptr) {
+        std::printf(" - | - |");
+        return;
+    }
+    const double our = t->ns[ours], plain = t->ns[plain_engine], its = t->ns[second];
+    std::printf(" %s / %s / %s | %s, %s |", cost(our).c_str(), cost(plain).c_str(), cost(its).c_str(), ratio(our, plain).c_str(),
+                ratio(our, its).c_str());
+}
+
+// A row for each n and the calls that differ much, with the emptiest and the fullest state.
+void print_short_table(const std::vector<Timed>& all) {
+    static constexpr std::array<std::string_view, 19> names{
+        "open", "open: 2", "vertex", "vertex: 12", "vertex: 14", "vertex, commits", "vertex, commits all",
+        "first message", "first message: 12", "timeout", "timeout: 12", "no-vote", "no-vote: 12",
+        "status", "status: 3", "ask journal", "ask journal: 15", "hand journal", "hand journal: 15"};
+    std::puts("| call | n | 0 full rounds: library / plain / second, ns | ratios | 31 full rounds | ratios |");
+    std::puts("|:--|--:|:--|:--|:--|:--|");
+    for (const std::string_view name : names)
+        for (const u32 n : member_counts) {
+            std::printf("| %.*s | %u |", static_cast<int>(name.size()), name.data(), n);
+            print_cell(find(all, name, n, fullness.front()));
+            print_cell(find(all, name, n, fullness.back()));
+            std::puts("");
+        }
+}
+
+std::vector<Panel> panels(const std::vector<Timed>& all) {
+    struct Shown {
+        const char *name, *text;
+    };
+    static constexpr std::array<Shown, 3> shown{{
+        {"status", "status"},
+        {"vertex", "vertex, admitted"},
+        {"vertex, commits all", "vertex that commits all rounds"},
+    }};
+    std::vector<Panel> made;
+    for (const Shown& s : shown)
+        for (const u32 n : {4u, 16u}) {
+            Panel panel{std::string(s.text) + ", n = " + std::to_string(n), {}};
+            for (const u32 rounds : fullness)
+                if (const Timed* t = find(all, s.name, n, rounds)) panel.points.push_back({rounds, t->ns});
+            made.push_back(std::move(panel));
+        }
+    return made;
+}
+
+void print_stack() {
+    std::array<std::size_t, engines> most{};
+    std::array<std::string, engines> by;
+    for (const Case& c : cases_of(16, 31))
+        for (const Engine e : all_engines) {
+            std::copy(c.state.begin(), c.state.end(), words);
+            const std::size_t used = stack_used(e, c.call, words);
+            if (used <= most[e]) continue;
+            most[e] = used;
+            by[e] = c.name;
+        }
+    std::printf("\nDeepest stack of a call, every call on a state with n = 16 and 31 full rounds: library %zu bytes (%s), "
+                "plain C++ %zu bytes (%s), second implementation %zu bytes (%s).\n",
+                most[ours], by[ours].c_str(), most[plain_engine], by[plain_engine].c_str(), most[second], by[second].c_str());
+}
+
+}  // namespace
+
+int main(int argc, char** argv) {
+    bool quick = false, brief = false;
+    std::string picture;
+    for (int i = 1; i < argc; ++i) {
+        const std::string_view word = argv[i];
+        if (word == "--quick") quick = true;
+        else if (word == "--short") brief = true;
+        else picture = word;
+    }
+    if (picture.empty()) {
+        std::fputs("usage: bench [--quick] [--short] picture.svg\n", stderr);
+        return 2;
+    }
+    compare_at_random(3000);
+    compare_grown(120);
+    const double per_ns = ticks_per_ns();
+    std::vector<Timed> all;
+    for (const u32 n : member_counts)
+        for (const u32 rounds : fullness)
+            for (Case& c : cases_of(n, rounds)) all.emplace_back(std::move(c));
+    // Passes over all cases, so that a disturbance meets only some samples of a case.
+    const int passes = quick ? 3 : 11, times = quick ? 24 : 64;
+    for (int pass = 0; pass < passes; ++pass)
+        for (Timed& t : all) t.measure(times);
+    Samples empty;
+    for (const Timed& t : all) empty.insert(empty.end(), t.samples[nothing].begin(), t.samples[nothing].end());
+    const double timer = median(empty);
+    for (Timed& t : all)
+        for (const Engine e : all_engines) t.ns[e] = std::max(0.0, median(t.samples[e]) - timer) / per_ns;
+
+    if (brief) print_short_table(all);
+    else print_table(all);
+    std::printf("\nMedians of %d calls of the library and of the plain engine, and %d of the second implementation, interleaved. "
+                "The words are warm: each timed call follows the same call by the same engine on the same words. "
+                "The cost of an empty call, %.0f ns with the timer, is taken off each. "
+                "A number after a call's name is the refusal that it answers.\n",
+                passes * times, passes * times / 8, timer / per_ns);
+    print_stack();
+    if (!write_picture(picture, panels(all))) {
+        std::fprintf(stderr, "bench: cannot write %s\n", picture.c_str());
+        return 1;
+    }
+    return 0;
+}

@@ -1,0 +1,254 @@
+#include "cases.hpp"
+
+#include <algorithm>
+#include <bit>
+#include <cstdio>
+#include <cstdlib>
+
+namespace {
+
+[[noreturn]] void differ(const char* what, Engine engine) {
+    const char* name = engine == plain_engine ? "the plain engine" : "the second implementation";
+    std::fprintf(stderr, "bench: %s differs in %s\n", name, what);
+    std::exit(1);
+}
+
+struct Random {
+    std::uint64_t seed;
+    u32 below(u32 bound) {
+        seed = seed * 6364136223846793005u + 1442695040888963407u;
+        return static_cast<u32>((seed >> 33) % bound);
+    }
+};
+
+struct Builder {
+    u32 n;
+    Random random;
+    std::vector<u32> state = std::vector<u32>(state_words);
+
+    explicit Builder(u32 members) : n(members), random{members} { must({Kind::open, {}, n, 0}); }
+
+    u32 f() const { return (n - 1) / 3; }
+    u32 quorum() const { return 2 * f() + 1; }
+    u32 leader(u32 round) const { return (round - 1) % n; }
+    u32 all() const { return (1u << n) - 1; }
+
+    Said must(const Call& call) {
+        const Said answer = agreed(call, state, false);
+        if (answer[0] != 0) {
+            std::fprintf(stderr, "bench: a call of the state's making was answered %u\n", answer[0]);
+            std::exit(1);
+        }
+        return answer;
+    }
+
+    u32 held(u32 round) const { return state[8 + 6 * (round - 1)]; }
+
+    // Leaves out members other than `keep` at random; a quorum stays.
+    u32 thinned(u32 mask, u32 keep) {
+        const u32 members = static_cast<u32>(std::popcount(mask));
+        for (u32 left = members > quorum() ? random.below(members - quorum() + 1) : 0; left != 0;) {
+            const u32 bit = 1u << random.below(n);
+            if ((mask & bit) == 0 || bit == keep) continue;
+            mask ^= bit;
+            --left;
+        }
+        return mask;
+    }
+
+    // A record with random strong parents and, from round 3 on, random weak parents, up to `most_weak`. With `of_held` all parents
+    // are held, and whether it votes depends also on which are.
+    Record record(u32 round, u32 source, bool votes, bool of_held = false, u32 most_weak = 0) {
+        Record r{round, source};
+        r[5] = 1000 * round + source;
+        if (round == 1) return r;
+        const u32 before = of_held ? held(round - 1) : all(), lead = 1u << leader(round - 1);
+        if (of_held) votes = (before & lead) != 0 && (votes || static_cast<u32>(std::popcount(before & ~lead)) < quorum());
+        r[2] = votes ? thinned(before, lead) : thinned(before & ~lead, 0);
+        if (!votes) {
+            r[3] = thinned(all(), 0);
+            if (source == leader(round)) r[4] = thinned(all(), 0);
+        }
+        if (round < 3) return r;
+        std::vector<u32> weak;
+        for (u32 left = random.below(std::max(f(), most_weak) + 1); left != 0; --left) {
+            const u32 back = 2 + random.below(std::min(3u, round - 2)), p = random.below(n);
+            if (!of_held || (held(round - back) >> p & 1) != 0) weak.push_back(16 * (round - back) + p);
+        }
+        std::sort(weak.begin(), weak.end());
+        weak.erase(std::unique(weak.begin(), weak.end()), weak.end());
+        r[6] = static_cast<u32>(weak.size());
+        std::copy(weak.begin(), weak.end(), r.begin() + 7);
+        return r;
+    }
+
+    // Fills the rounds. Of a round's vertices the first `voters`, counted from its leader, vote for the leader of the round before.
+    void full(u32 rounds, u32 voters) {
+        for (u32 round = 1; round <= rounds; ++round)
+            for (u32 p = 0; p < n; ++p) must({Kind::vertex, record(round, p, (p + n - leader(round)) % n < voters)});
+    }
+};
+
+}  // namespace
+
+Said agreed(const Call& call, std::vector<u32>& state, bool all) {
+    std::vector<u32> after = state;
+    const Said answer = run(ours, call, after.data());
+    for (const Engine engine : {plain_engine, second}) {
+        if (engine == second && !all) continue;
+        std::vector<u32> its = state;
+        if (run(engine, call, its.data()) != answer) differ("an answer", engine);
+        if (its != after) differ("the words", engine);
+    }
+    state = after;
+    return answer;
+}
+
+std::vector<Case> cases_of(u32 n, u32 rounds) {
+    std::vector<Case> cases;
+    Builder b(n);
+    b.full(rounds, n);
+    const std::vector<u32> state = b.state;
+    const u32 next = rounds + 1;
+    auto add = [&](const char* name, const std::vector<u32>& from, Call call, u32 number) {
+        cases.push_back({name, n, rounds, from, call, number});
+    };
+    const Call vertex{Kind::vertex, b.record(next, 0, true)};
+
+    add("open", state, {Kind::open, {}, n, 0}, 0);
+    add("open: 2", state, {Kind::open, {}, 5, 0}, 2);
+    add("vertex", state, vertex, 0);
+    {
+        b.must(vertex);
+        add("vertex: 12", b.state, vertex, 12);
+        Call conflict = vertex;
+        ++conflict.record[5];
+        add("vertex: 13", b.state, conflict, 13);
+        b.state = state;
+    }
+    if (next < YARDBOOK_ROUNDS) {
+        const Call missing{Kind::vertex, Record{next + 1, 0, b.all(), 0, 0, 7}};
+        add("vertex: 14", state, missing, 14);
+    } else {
+        // Here the last full round lacks one vertex.
+        Builder gap(n);
+        gap.full(rounds - 1, n);
+        for (u32 p = 0; p + 1 < n; ++p) gap.must({Kind::vertex, gap.record(rounds, p, true)});
+        add("vertex: 14", gap.state, {Kind::vertex, Record{next, 0, gap.all(), 0, 0, 7}}, 14);
+    }
+    {
+        Call narrow = vertex;
+        narrow.record[2] = 1u << n;
+        add("vertex: 7", state, narrow, 7);
+    }
+    Call first = vertex;
+    first.kind = Kind::first;
+    add("first message", state, first, 0);
+    b.must(first);
+    add("first message: 12", b.state, first, 12);
+    b.state = state;
+    if (rounds > 0) {
+        // One vote short of a quorum, and the vote that commits.
+        for (u32 p = 0; p + 1 < b.quorum(); ++p) b.must({Kind::vertex, b.record(next, p, true)});
+        add("vertex, commits", b.state, {Kind::vertex, b.record(next, b.quorum() - 1, true)}, 0);
+        b.state = state;
+        for (u32 p = 0; p + 1 < b.quorum(); ++p) b.must({Kind::first, b.record(next, p, true)});
+        add("first message, commits", b.state, {Kind::first, b.record(next, b.quorum() - 1, true)}, 0);
+
+        // No round is committed until the last, whose leader reaches nearly everything. Without votes before, it is the only leader
+        // taken; with 2f a round, the leaders of all rounds are.
+        for (const u32 voters : {0u, b.quorum() - 1}) {
+            Builder late(n);
+            late.full(rounds, voters);
+            for (u32 p = 0; p + 1 < b.quorum(); ++p) late.must({Kind::vertex, late.record(next, p, true)});
+            const Call last{Kind::vertex, late.record(next, late.quorum() - 1, true)};
+            add(voters == 0 ? "vertex, orders all" : "vertex, commits all", late.state, last, 0);
+        }
+        b.state = state;
+    }
+    const Call timeout{Kind::timeout, {}, next, 1};
+    add("timeout", state, timeout, 0);
+    b.must(timeout);
+    add("timeout: 12", b.state, timeout, 12);
+    const Call no_vote{Kind::no_vote, {}, next, 1};
+    add("no-vote", state, no_vote, 0);
+    b.must(no_vote);
+    add("no-vote: 12", b.state, no_vote, 12);
+    add("status", state, {Kind::status}, 0);
+    std::vector<u32> damaged = state;
+    damaged[state_words - 1] = 1;
+    add("status: 3", damaged, {Kind::status}, 3);
+    add("ask leaders", state, {Kind::ask_leaders}, 0);
+    add("ask leaders: 15", state, {Kind::ask_leaders, {}, 33, 0}, 15);
+    add("ask journal", state, {Kind::ask_journal}, 0);
+    add("ask journal: 15", state, {Kind::ask_journal, {}, 513, 0}, 15);
+    add("hand leaders", state, {Kind::hand_leaders}, 0);
+    add("hand leaders: 15", state, {Kind::hand_leaders, {}, 33, 0}, 15);
+    add("hand journal", state, {Kind::hand_journal}, 0);
+    add("hand journal: 15", state, {Kind::hand_journal, {}, 513, 0}, 15);
+    return cases;
+}
+
+void compare_grown(int states) {
+    Random random{777};
+    for (int i = 0; i < states; ++i) {
+        static constexpr std::array<u32, 5> member_counts{4, 7, 10, 13, 16};
+        Builder b(member_counts[random.below(5)]);
+        b.random.seed = random.seed;
+        const u32 voters = 1 + random.below(8);  // of eight
+        std::vector<Call> late;
+        for (u32 round = 1; round <= YARDBOOK_ROUNDS; ++round) {
+            u32 absent = 0;
+            for (u32 k = random.below(b.f() + 1); k != 0; --k) absent |= 1u << random.below(b.n);
+            if (!late.empty() && random.below(2) == 0) {
+                agreed(late.back(), b.state, i % 4 == 0);
+                late.pop_back();
+            }
+            for (u32 p = 0; p < b.n; ++p) {
+                Call call{Kind::vertex, b.record(round, p, random.below(8) < voters, true)};
+                if (random.below(4) == 0) {
+                    Call first = call;
+                    first.kind = Kind::first;
+                    agreed(first, b.state, i % 4 == 0);
+                }
+                if (absent >> p & 1) late.push_back(call);
+                else agreed(call, b.state, i % 4 == 0);
+            }
+            if ((absent >> b.leader(round) & 1) == 0) continue;
+            for (u32 p = 0; p < b.n; ++p) {
+                if (random.below(4) == 0) continue;
+                const Kind note = random.below(4) == 0 ? Kind::no_vote : Kind::timeout;
+                agreed({note, {}, round, p}, b.state, i % 4 == 0);
+            }
+        }
+    }
+}
+
+void compare_at_random(int calls) {
+    Random random{12345};
+    for (const u32 n : {4u, 7u, 10u, 13u, 16u}) {
+        Builder b(n);
+        b.full(n == 4 ? 20 : 6, n);
+        const std::vector<u32> start = b.state;
+        for (int i = 0; i < calls; ++i) {
+            if (random.below(64) == 0) b.state = start;
+            std::vector<u32> state = b.state;
+            const u32 damage = random.below(3);
+            for (u32 k = 0; k < damage; ++k) {
+                static constexpr std::array<u32, 6> ends{8, 200, 232, 744, 1500, 5864};
+                state[random.below(ends[random.below(6)])] ^= 1u << random.below(random.below(2) ? 32 : 10);
+            }
+            Call call{static_cast<Kind>(random.below(10))};
+            const u32 top = std::min(32u, state[1] % 64 + 1);
+            const u32 most_weak = random.below(4) == 0 ? 5 : 0;
+            call.record = b.record(1 + random.below(top), random.below(n), random.below(4) != 0, false, most_weak);
+            if (random.below(3) == 0) call.record[random.below(12)] ^= 1u << random.below(20);
+            const bool note = call.kind == Kind::timeout || call.kind == Kind::no_vote;
+            call.a = random.below(call.kind == Kind::open ? 20 : note ? top + 2 : 40);
+            call.b = random.below(n + 1);
+            const bool keep = damage == 0 && call.kind != Kind::open;
+            agreed(call, state, i % 8 == 0);
+            if (keep) b.state = state;
+        }
+    }
+}

@@ -1,0 +1,64 @@
+#include "engines.hpp"
+
+#include <cstdlib>
+
+#include "plain.hpp"
+
+// The second implementation's calls: those of host/yardbook.h by another name.
+extern "C" {
+yardbook_answer reference_open(u32*, std::size_t, u32);
+yardbook_answer reference_take_vertex(u32*, std::size_t, const u32*, std::size_t);
+yardbook_answer reference_take_first_message(u32*, std::size_t, const u32*, std::size_t);
+yardbook_answer reference_take_timeout(u32*, std::size_t, u32, u32);
+yardbook_answer reference_take_no_vote(u32*, std::size_t, u32, u32);
+yardbook_state_status reference_status(const u32*, std::size_t);
+u32 reference_ask_leaders(const u32*, std::size_t, u32);
+u32 reference_ask_journal(const u32*, std::size_t, u32);
+yardbook_part reference_hand_leaders(const u32*, std::size_t, u32);
+yardbook_part reference_hand_journal(const u32*, std::size_t, u32);
+}
+
+namespace {
+
+[[gnu::noipa]] yardbook_answer nothing_open(u32*, std::size_t, u32) { return {}; }
+[[gnu::noipa]] yardbook_answer nothing_take_vertex(u32*, std::size_t, const u32*, std::size_t) { return {}; }
+[[gnu::noipa]] yardbook_answer nothing_take_first_message(u32*, std::size_t, const u32*, std::size_t) { return {}; }
+[[gnu::noipa]] yardbook_answer nothing_take_timeout(u32*, std::size_t, u32, u32) { return {}; }
+[[gnu::noipa]] yardbook_answer nothing_take_no_vote(u32*, std::size_t, u32, u32) { return {}; }
+[[gnu::noipa]] yardbook_state_status nothing_status(const u32*, std::size_t) { return {}; }
+[[gnu::noipa]] u32 nothing_ask_leaders(const u32*, std::size_t, u32) { return 0; }
+[[gnu::noipa]] u32 nothing_ask_journal(const u32*, std::size_t, u32) { return 0; }
+[[gnu::noipa]] yardbook_part nothing_hand_leaders(const u32*, std::size_t, u32) { return {}; }
+[[gnu::noipa]] yardbook_part nothing_hand_journal(const u32*, std::size_t, u32) { return {}; }
+
+Said said(yardbook_answer a) { return {a.number, a.id, a.leaders, a.journal, 0}; }
+Said said(yardbook_state_status s) { return {s.number, s.current_round, s.committed_round, s.leader_count, s.journal_count}; }
+Said said(yardbook_part p) { return {p.number, p.start, p.length, 0, 0}; }
+Said said(u32 number) { return {number, 0, 0, 0, 0}; }
+
+#define CALLS(prefix)                                                                                                     \
+    switch (call.kind) {                                                                                                  \
+    case Kind::open: return said(prefix##open(state, state_words, call.a));                                               \
+    case Kind::vertex: return said(prefix##take_vertex(state, state_words, call.record.data(), call.record.size()));      \
+    case Kind::first: return said(prefix##take_first_message(state, state_words, call.record.data(), call.record.size())); \
+    case Kind::timeout: return said(prefix##take_timeout(state, state_words, call.a, call.b));                            \
+    case Kind::no_vote: return said(prefix##take_no_vote(state, state_words, call.a, call.b));                            \
+    case Kind::status: return said(prefix##status(state, state_words));                                                   \
+    case Kind::ask_leaders: return said(prefix##ask_leaders(state, state_words, call.a));                                 \
+    case Kind::ask_journal: return said(prefix##ask_journal(state, state_words, call.a));                                 \
+    case Kind::hand_leaders: return said(prefix##hand_leaders(state, state_words, call.a));                               \
+    case Kind::hand_journal: return said(prefix##hand_journal(state, state_words, call.a));                               \
+    }                                                                                                                     \
+    std::abort();
+
+[[gnu::noipa]] Said call_ours(const Call& call, u32* state) { CALLS(yardbook_) }
+[[gnu::noipa]] Said call_plain(const Call& call, u32* state) { CALLS(plain_) }
+[[gnu::noipa]] Said call_second(const Call& call, u32* state) { CALLS(reference_) }
+[[gnu::noipa]] Said call_nothing(const Call& call, u32* state) { CALLS(nothing_) }
+
+}  // namespace
+
+Said run(Engine engine, const Call& call, u32* state) {
+    static constexpr std::array<Said (*)(const Call&, u32*), engines + 1> by{call_ours, call_plain, call_second, call_nothing};
+    return by[engine](call, state);
+}

@@ -1,0 +1,33 @@
+// The engines behind one kind of call: the library, the plain engine, and the second implementation.
+#ifndef ENGINES_HPP
+#define ENGINES_HPP
+
+#include <array>
+#include <cstddef>
+#include <cstdint>
+
+#include "../host/yardbook.h"
+
+using u32 = std::uint32_t;
+using Record = std::array<u32, YARDBOOK_RECORD_WORDS>;
+inline constexpr std::size_t state_words = YARDBOOK_STATE_WORDS;
+
+// `nothing` has the calls of the others, empty: what calling costs by itself.
+enum Engine : std::size_t { ours, plain_engine, second, nothing };
+inline constexpr std::size_t engines = 3;
+inline constexpr std::array<Engine, engines> all_engines{ours, plain_engine, second};
+
+enum class Kind { open, vertex, first, timeout, no_vote, status, ask_leaders, ask_journal, hand_leaders, hand_journal };
+
+struct Call {
+    Kind kind;
+    Record record{};
+    u32 a = 0, b = 0;
+};
+
+// Number, id and counts; a status; a number; or a part.
+using Said = std::array<u32, 5>;
+
+Said run(Engine engine, const Call& call, u32* state);
+
+#endif

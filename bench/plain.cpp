@@ -1,0 +1,322 @@
+// A plain engine for the comparison: document 01's rules on the same words, as one would write them by hand for speed, without
+// vector intrinsics. It tests at every call that the state is well formed, as the library does.
+#include "plain.hpp"
+
+#include <bit>
+#include <cstring>
+
+namespace {
+
+using u32 = std::uint32_t;
+
+constexpr u32 rounds = 32;
+constexpr u32 slots = 16;
+constexpr std::size_t leaders_at = 200, leaders_size = 32, journal_at = 232, journal_size = 512, cells_at = 744;
+constexpr std::size_t body_words = 10;
+enum Mask { held, heard, votes, timeouts, no_votes, ordered };
+
+u32 mask(const u32* state, u32 round, Mask kind) { return state[8 + 6 * (round - 1) + kind]; }
+u32& mask(u32* state, u32 round, Mask kind) { return state[8 + 6 * (round - 1) + kind]; }
+const u32* cell(const u32* state, u32 round, u32 p) { return state + cells_at + body_words * (slots * (round - 1) + p); }
+
+// Without the popcnt instruction g++ would call a function here, and the archive is made without it.
+u32 count(u32 x) {
+#ifdef __POPCNT__
+    return static_cast<u32>(std::popcount(x));
+#else
+    x -= x >> 1 & 0x55555555;
+    x = (x & 0x33333333) + (x >> 2 & 0x33333333);
+    return ((x + (x >> 4)) & 0x0f0f0f0f) * 0x01010101 >> 24;
+#endif
+}
+
+bool has(u32 bits, u32 p) { return bits >> p & 1; }
+
+struct Group {
+    u32 n, f, quorum, outside;
+    explicit Group(u32 members) : n(members), f((members - 1) / 3), quorum(2 * f + 1), outside(~0u << members) {}
+    u32 leader(u32 round) const { return (round - 1) % n; }
+};
+
+bool legal(u32 n) { return n >= 4 && n <= 16 && n % 3 == 1; }
+
+// Questions 7 to 11.
+u32 check_body(const Group& g, u32 round, u32 source, u32 leader, u32 previous, const u32* body) {
+    const u32 strong = body[0], timeout_mask = body[1], no_vote_mask = body[2], weak_count = body[4];
+    if ((strong | timeout_mask | no_vote_mask) & g.outside) return 7;
+    bool lack = false;
+    if (round == 1) {
+        if (strong != 0) return 8;
+    } else {
+        if (count(strong) < g.quorum) return 8;
+        lack = !has(strong, previous);
+    }
+    if (lack ? count(timeout_mask) < g.quorum : timeout_mask != 0) return 9;
+    if (lack && source == leader ? count(no_vote_mask) < g.quorum : no_vote_mask != 0) return 10;
+    if (weak_count > g.f) return 11;
+    u32 last = 0, i = 0;
+    for (; i < weak_count; ++i) {
+        const u32 x = body[5 + i];
+        if (x <= last || x % 16 >= g.n || x < 16 || x / 16 + 2 > round) return 11;
+        last = x;
+    }
+    for (; i < 5; ++i)
+        if (body[5 + i] != 0) return 11;
+    return 0;
+}
+
+// All parents of a checked body are held.
+bool parents_held(const u32* state, u32 round, const u32* body) {
+    if (round == 1) return true;
+    if (body[0] & ~mask(state, round - 1, held)) return false;
+    for (u32 i = 0; i < body[4]; ++i)
+        if (!has(mask(state, body[5 + i] / 16, held), body[5 + i] % 16)) return false;
+    return true;
+}
+
+bool masks_ok(const Group& g, const u32* state) {
+    u32 bad = mask(state, 1, votes);
+    for (u32 r = 1; r <= rounds; ++r) {
+        const u32* m = state + 8 + 6 * (r - 1);
+        bad |= (m[held] | m[heard] | m[votes] | m[timeouts] | m[no_votes] | m[ordered]) & g.outside;
+        bad |= m[votes] & ~m[heard];
+        bad |= m[ordered] & ~m[held];
+    }
+    return bad == 0;
+}
+
+bool cells_ok(const Group& g, const u32* state) {
+    u32 leader = 0, previous = 0;
+    for (u32 r = 1; r <= rounds; ++r) {
+        const u32 here = mask(state, r, held);
+        u32 stray = 0;
+        for (u32 p = 0; p < slots; ++p) {
+            const u32* body = cell(state, r, p);
+            if (has(here, p)) {
+                if (check_body(g, r, p, leader, previous, body) != 0) return false;
+                if (!parents_held(state, r, body)) return false;
+            } else {
+                for (std::size_t i = 0; i < body_words; ++i) stray |= body[i];
+            }
+        }
+        if (stray != 0) return false;
+        previous = leader;
+        leader = leader + 1 == g.n ? 0 : leader + 1;
+    }
+    return true;
+}
+
+bool leaders_ok(const Group& g, const u32* state) {
+    const u32 size = state[3];
+    if (size > leaders_size) return false;
+    u32 last = 0;
+    for (u32 i = 0; i < size; ++i) {
+        const u32 x = state[leaders_at + i], round = x / 16;
+        if (round <= last || round > rounds || x % 16 != g.leader(round) || !has(mask(state, round, held), x % 16)) return false;
+        last = round;
+    }
+    return last == state[2];
+}
+
+bool journal_ok(const u32* state) {
+    const u32 size = state[4];
+    if (size > journal_size) return false;
+    u32 left[rounds + 1] = {};
+    for (u32 r = 1; r <= rounds; ++r) left[r] = mask(state, r, ordered);
+    for (u32 i = 0; i < size; ++i) {
+        const u32 x = state[journal_at + i], round = x / 16, bit = 1u << x % 16;
+        if (round > rounds || (left[round] & bit) == 0) return false;
+        left[round] ^= bit;
+    }
+    u32 rest = 0;
+    for (u32 r = 1; r <= rounds; ++r) rest |= left[r];
+    return rest == 0;
+}
+
+bool zero(const u32* from, const u32* to) {
+    u32 joined = 0;
+    for (; from != to; ++from) joined |= *from;
+    return joined == 0;
+}
+
+bool well_formed(const u32* state) {
+    if (!legal(state[0]) || state[1] < 1 || state[1] > 33 || state[2] > 31) return false;
+    if (state[5] | state[6] | state[7]) return false;
+    const Group g(state[0]);
+    return masks_ok(g, state) && cells_ok(g, state) && leaders_ok(g, state) && journal_ok(state)
+        && zero(state + leaders_at + state[3], state + journal_at) && zero(state + journal_at + state[4], state + cells_at);
+}
+
+// Questions 1 and 3.
+u32 check_state(const u32* state, std::size_t words) {
+    if (words != YARDBOOK_STATE_WORDS) return 1;
+    return well_formed(state) ? 0 : 3;
+}
+
+// Questions 4 to 11.
+u32 check_record(const Group& g, const u32* record, std::size_t words) {
+    if (words != YARDBOOK_RECORD_WORDS) return 4;
+    const u32 round = record[0], source = record[1];
+    if (round < 1 || round > rounds) return 5;
+    if (source >= g.n) return 6;
+    return check_body(g, round, source, g.leader(round), round == 1 ? 0 : g.leader(round - 1), record + 2);
+}
+
+// The smallest id among the parents that are not held, 0 if all are.
+u32 missing_parent(const u32* state, const u32* record) {
+    const u32 round = record[0], *body = record + 2;
+    if (round == 1) return 0;
+    for (u32 i = 0; i < body[4]; ++i)
+        if (!has(mask(state, body[5 + i] / 16, held), body[5 + i] % 16)) return body[5 + i];
+    const u32 missing = body[0] & ~mask(state, round - 1, held);
+    return missing == 0 ? 0 : 16 * (round - 1) + static_cast<u32>(std::countr_zero(missing));
+}
+
+void raise_round(const Group& g, u32* state) {
+    for (u32 q = rounds; q >= state[1]; --q) {
+        const u32 vertices = mask(state, q, held);
+        if (count(vertices) < g.quorum) continue;
+        if (has(vertices, g.leader(q)) || count(mask(state, q, timeouts)) >= g.quorum) {
+            state[1] = q + 1;
+            return;
+        }
+    }
+}
+
+bool committable(const Group& g, const u32* state, u32 q) {
+    const u32 leader = g.leader(q);
+    if (!has(mask(state, q, held), leader)) return false;
+    if (count(mask(state, q + 1, votes)) >= g.quorum) return true;
+    u32 number = 0;
+    for (u32 p = 0; p < g.n; ++p) number += cell(state, q + 1, p)[0] >> leader & 1;
+    return number >= g.quorum;
+}
+
+// The history of the round's leader that is not yet ordered joins the journal.
+void order(const Group& g, u32* state, u32 round) {
+    u32 reached[rounds + 1] = {};
+    reached[round] = 1u << g.leader(round);
+    for (u32 r = round; r >= 2; --r) {
+        for (u32 left = reached[r]; left != 0; left &= left - 1) {
+            const u32* body = cell(state, r, static_cast<u32>(std::countr_zero(left)));
+            reached[r - 1] |= body[0];
+            for (u32 i = 0; i < body[4]; ++i) reached[body[5 + i] / 16] |= 1u << body[5 + i] % 16;
+        }
+    }
+    u32* end = state + journal_at + state[4];
+    for (u32 r = 1; r <= round; ++r) {
+        u32& done = mask(state, r, ordered);
+        for (u32 left = reached[r] & ~done; left != 0; left &= left - 1)
+            *end++ = 16 * r + static_cast<u32>(std::countr_zero(left));
+        done |= reached[r];
+    }
+    state[4] = static_cast<u32>(end - (state + journal_at));
+}
+
+void commit(const Group& g, u32* state, u32 q) {
+    u32 taken = 1u << q, reached = 1u << g.leader(q);
+    for (u32 t = q - 1; t > state[2]; --t) {
+        u32 below = 0;
+        for (u32 left = reached; left != 0; left &= left - 1)
+            below |= cell(state, t + 1, static_cast<u32>(std::countr_zero(left)))[0];
+        const u32 leader = g.leader(t);
+        reached = below;
+        if (has(below, leader)) {
+            taken |= 1u << t;
+            reached = 1u << leader;
+        }
+    }
+    state[2] = q;
+    for (u32 left = taken; left != 0; left &= left - 1) {
+        const u32 t = static_cast<u32>(std::countr_zero(left));
+        state[leaders_at + state[3]++] = 16 * t + g.leader(t);
+    }
+    for (u32 left = taken; left != 0; left &= left - 1) order(g, state, static_cast<u32>(std::countr_zero(left)));
+}
+
+yardbook_answer settle(const Group& g, u32* state) {
+    const u32 leaders = state[3], journal = state[4];
+    // A commit makes no lower round committable, so one pass by rising round commits them all.
+    for (u32 q = state[2] + 1; q < rounds; ++q)
+        if (committable(g, state, q)) commit(g, state, q);
+    return {0, 0, state[3] - leaders, state[4] - journal};
+}
+
+yardbook_answer refused(u32 number, u32 id = 0) { return {number, id, 0, 0}; }
+
+u32 check_note(const u32* state, std::size_t words, u32 round, u32 signer, Mask kind) {
+    if (const u32 number = check_state(state, words)) return number;
+    if (round < 1 || round > rounds) return 5;
+    if (signer >= state[0]) return 6;
+    return has(mask(state, round, kind), signer) ? 12 : 0;
+}
+
+u32 ask(const u32* state, std::size_t words, u32 k, std::size_t count_at) {
+    if (const u32 number = check_state(state, words)) return number;
+    return k > state[count_at] ? 15 : 0;
+}
+
+yardbook_part hand(const u32* state, std::size_t words, u32 k, std::size_t count_at, std::size_t at) {
+    if (const u32 number = ask(state, words, k, count_at)) return {number, 0, 0};
+    return {0, static_cast<u32>(at) + k, state[count_at] - k};
+}
+
+}  // namespace
+
+yardbook_answer plain_open(u32* state, std::size_t words, u32 n) {
+    if (words != YARDBOOK_STATE_WORDS) return refused(1);
+    if (!legal(n)) return refused(2);
+    std::memset(state, 0, YARDBOOK_STATE_WORDS * sizeof(u32));
+    state[0] = n;
+    state[1] = 1;
+    return refused(0);
+}
+
+yardbook_answer plain_take_vertex(u32* state, std::size_t words, const u32* record, std::size_t record_words) {
+    if (const u32 number = check_state(state, words)) return refused(number);
+    const Group g(state[0]);
+    if (const u32 number = check_record(g, record, record_words)) return refused(number);
+    const u32 round = record[0], source = record[1];
+    u32* body = state + (cell(state, round, source) - state);
+    if (has(mask(state, round, held), source))
+        return refused(std::memcmp(body, record + 2, body_words * sizeof(u32)) == 0 ? 12 : 13);
+    if (const u32 id = missing_parent(state, record)) return refused(14, id);
+    std::memcpy(body, record + 2, body_words * sizeof(u32));
+    mask(state, round, held) |= 1u << source;
+    raise_round(g, state);
+    return settle(g, state);
+}
+
+yardbook_answer plain_take_first_message(u32* state, std::size_t words, const u32* record, std::size_t record_words) {
+    if (const u32 number = check_state(state, words)) return refused(number);
+    const Group g(state[0]);
+    if (const u32 number = check_record(g, record, record_words)) return refused(number);
+    const u32 round = record[0], source = record[1];
+    if (has(mask(state, round, heard), source)) return refused(12);
+    mask(state, round, heard) |= 1u << source;
+    if (round > 1 && has(record[2], g.leader(round - 1))) mask(state, round, votes) |= 1u << source;
+    return settle(g, state);
+}
+
+yardbook_answer plain_take_timeout(u32* state, std::size_t words, u32 round, u32 signer) {
+    if (const u32 number = check_note(state, words, round, signer, timeouts)) return refused(number);
+    mask(state, round, timeouts) |= 1u << signer;
+    raise_round(Group(state[0]), state);
+    return refused(0);
+}
+
+yardbook_answer plain_take_no_vote(u32* state, std::size_t words, u32 round, u32 signer) {
+    if (const u32 number = check_note(state, words, round, signer, no_votes)) return refused(number);
+    mask(state, round, no_votes) |= 1u << signer;
+    return refused(0);
+}
+
+yardbook_state_status plain_status(const u32* state, std::size_t words) {
+    if (const u32 number = check_state(state, words)) return {number, 0, 0, 0, 0};
+    return {0, state[1], state[2], state[3], state[4]};
+}
+
+u32 plain_ask_leaders(const u32* state, std::size_t words, u32 k) { return ask(state, words, k, 3); }
+u32 plain_ask_journal(const u32* state, std::size_t words, u32 k) { return ask(state, words, k, 4); }
+yardbook_part plain_hand_leaders(const u32* state, std::size_t words, u32 k) { return hand(state, words, k, 3, leaders_at); }
+yardbook_part plain_hand_journal(const u32* state, std::size_t words, u32 k) { return hand(state, words, k, 4, journal_at); }

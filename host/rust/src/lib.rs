@@ -1,0 +1,187 @@
+//! Yardbook ordering engine: the C interface as safe functions over slices. Nothing is allocated and nothing panics.
+//! `host/yardbook.h` documents the calls and the numbers. What it asks of a C host (alignment, one user at a time, no overlap)
+//! holds of every `&mut [u32]` and `&[u32]`.
+
+#![no_std]
+
+/// Words of a replica state.
+pub const STATE_WORDS: usize = 5864;
+
+/// Words of a record.
+pub const RECORD_WORDS: usize = 12;
+
+/// What an answer's number says.
+pub mod number {
+    pub const OK: u32 = 0;
+    pub const STATE_SIZE: u32 = 1;
+    pub const MEMBER_COUNT: u32 = 2;
+    pub const MALFORMED: u32 = 3;
+    pub const RECORD_SIZE: u32 = 4;
+    pub const ROUND: u32 = 5;
+    pub const SOURCE: u32 = 6;
+    pub const MASK_BITS: u32 = 7;
+    pub const STRONG: u32 = 8;
+    pub const TIMEOUTS: u32 = 9;
+    pub const NO_VOTES: u32 = 10;
+    pub const WEAK: u32 = 11;
+    pub const DUPLICATE: u32 = 12;
+    pub const CONFLICT: u32 = 13;
+    pub const MISSING_PARENT: u32 = 14;
+    pub const PAST_END: u32 = 15;
+}
+
+/// The number, with `MISSING_PARENT` the smallest missing parent's id, and how many entries the call added to each list.
+#[repr(C)]
+#[derive(Clone, Copy, Debug, PartialEq, Eq)]
+pub struct Answer {
+    pub number: u32,
+    pub id: u32,
+    pub leaders: u32,
+    pub journal: u32,
+}
+
+#[repr(C)]
+#[derive(Clone, Copy, Debug, PartialEq, Eq)]
+pub struct Status {
+    pub number: u32,
+    pub current_round: u32,
+    pub committed_round: u32,
+    pub leader_count: u32,
+    pub journal_count: u32,
+}
+
+/// Ids, as a part of the state.
+#[derive(Clone, Copy, Debug, PartialEq, Eq)]
+pub struct List<'a> {
+    pub number: u32,
+    pub ids: &'a [u32],
+}
+
+mod c {
+    use super::{Answer, Status};
+
+    #[repr(C)]
+    pub struct Part {
+        pub number: u32,
+        pub start: u32,
+        pub length: u32,
+    }
+
+    extern "C" {
+        pub fn yardbook_open(state: *mut u32, words: usize, n: u32) -> Answer;
+        pub fn yardbook_take_vertex(
+            state: *mut u32,
+            words: usize,
+            record: *const u32,
+            record_words: usize,
+        ) -> Answer;
+        pub fn yardbook_take_first_message(
+            state: *mut u32,
+            words: usize,
+            record: *const u32,
+            record_words: usize,
+        ) -> Answer;
+        pub fn yardbook_take_timeout(
+            state: *mut u32,
+            words: usize,
+            round: u32,
+            signer: u32,
+        ) -> Answer;
+        pub fn yardbook_take_no_vote(
+            state: *mut u32,
+            words: usize,
+            round: u32,
+            signer: u32,
+        ) -> Answer;
+        pub fn yardbook_status(state: *const u32, words: usize) -> Status;
+        pub fn yardbook_ask_leaders(state: *const u32, words: usize, k: u32) -> u32;
+        pub fn yardbook_ask_journal(state: *const u32, words: usize, k: u32) -> u32;
+        pub fn yardbook_hand_leaders(state: *const u32, words: usize, k: u32) -> Part;
+        pub fn yardbook_hand_journal(state: *const u32, words: usize, k: u32) -> Part;
+    }
+}
+
+// SAFETY, of every call below: a slice gives an aligned pointer with that many words behind it, a `&mut` one is used by nothing
+// else, and the two slices of a call do not overlap. The calls are total and keep no pointer.
+
+/// Opens the state for a group of n members.
+#[must_use]
+pub fn open(state: &mut [u32], n: u32) -> Answer {
+    unsafe { c::yardbook_open(state.as_mut_ptr(), state.len(), n) }
+}
+
+/// Takes a vertex that reliable broadcast has delivered.
+#[must_use]
+pub fn take_vertex(state: &mut [u32], record: &[u32]) -> Answer {
+    unsafe {
+        c::yardbook_take_vertex(state.as_mut_ptr(), state.len(), record.as_ptr(), record.len())
+    }
+}
+
+/// Takes a sender's first broadcast message, seen before delivery.
+#[must_use]
+pub fn take_first_message(state: &mut [u32], record: &[u32]) -> Answer {
+    unsafe {
+        c::yardbook_take_first_message(
+            state.as_mut_ptr(),
+            state.len(),
+            record.as_ptr(),
+            record.len(),
+        )
+    }
+}
+
+/// Takes a signer's timeout for the round.
+#[must_use]
+pub fn take_timeout(state: &mut [u32], round: u32, signer: u32) -> Answer {
+    unsafe { c::yardbook_take_timeout(state.as_mut_ptr(), state.len(), round, signer) }
+}
+
+/// Takes a signer's no-vote for the round.
+#[must_use]
+pub fn take_no_vote(state: &mut [u32], round: u32, signer: u32) -> Answer {
+    unsafe { c::yardbook_take_no_vote(state.as_mut_ptr(), state.len(), round, signer) }
+}
+
+/// The rounds and the counts.
+#[must_use]
+pub fn status(state: &[u32]) -> Status {
+    unsafe { c::yardbook_status(state.as_ptr(), state.len()) }
+}
+
+/// The number of asking for the leader list from entry k on.
+#[must_use]
+pub fn ask_leaders(state: &[u32], k: u32) -> u32 {
+    unsafe { c::yardbook_ask_leaders(state.as_ptr(), state.len(), k) }
+}
+
+/// The number of asking for the journal from entry k on.
+#[must_use]
+pub fn ask_journal(state: &[u32], k: u32) -> u32 {
+    unsafe { c::yardbook_ask_journal(state.as_ptr(), state.len(), k) }
+}
+
+/// The leader list from entry k on.
+#[must_use]
+pub fn hand_leaders(state: &[u32], k: u32) -> List<'_> {
+    list(state, unsafe {
+        c::yardbook_hand_leaders(state.as_ptr(), state.len(), k)
+    })
+}
+
+/// The journal from entry k on.
+#[must_use]
+pub fn hand_journal(state: &[u32], k: u32) -> List<'_> {
+    list(state, unsafe {
+        c::yardbook_hand_journal(state.as_ptr(), state.len(), k)
+    })
+}
+
+// A part lies within the words, so the slice is never out of range.
+fn list(state: &[u32], part: c::Part) -> List<'_> {
+    let start = part.start as usize;
+    List {
+        number: part.number,
+        ids: &state[start..start + part.length as usize],
+    }
+}

@@ -1,0 +1,126 @@
+/*
+ * Yardbook ordering engine: the C interface of libcapi.a.
+ *
+ * The host lends a replica state of YARDBOOK_STATE_WORDS words and calls. The library keeps nothing between calls, has no
+ * globals, allocates nothing and calls nothing but memset. Each call is proved equal to its written definition for every
+ * input: no content of the lent words is undefined behaviour, and a damaged state is answered with YARDBOOK_REFUSED_MALFORMED.
+ *
+ * What the host owes for each pointer and its count of words:
+ *   - the pointer is aligned to 4 bytes and has that many words behind it; with count 0 it may be null;
+ *   - a state that a call may change is used by no other call or thread meanwhile. Different states are independent;
+ *     calls that take `const uint32_t *state` may run on one state at the same time;
+ *   - the words of a record do not overlap those of the state.
+ *
+ * Every call but yardbook_open asks first whether the state has the right size (1) and is well formed (3), which reads
+ * the whole state. Questions are asked by rising number, and the first "no" is the answer's number. A call that answers
+ * another number than 0 changes no word.
+ */
+#ifndef YARDBOOK_H
+#define YARDBOOK_H
+
+#include <stddef.h>
+#include <stdint.h>
+
+#ifdef __cplusplus
+extern "C" {
+#endif
+
+/* Words of a replica state, and of a record. */
+#define YARDBOOK_STATE_WORDS 5864
+#define YARDBOOK_RECORD_WORDS 12
+
+/* Rounds go from 1 to YARDBOOK_ROUNDS. A vertex id is 16 * round + member. */
+#define YARDBOOK_ROUNDS 32
+
+/* The words of a record. A mask has bit p set for member p. */
+enum {
+    YARDBOOK_RECORD_ROUND = 0,
+    YARDBOOK_RECORD_SOURCE = 1,
+    YARDBOOK_RECORD_STRONG = 2,     /* mask of the parents in the round before */
+    YARDBOOK_RECORD_TIMEOUTS = 3,   /* mask of the signers of a timeout certificate for the round before */
+    YARDBOOK_RECORD_NO_VOTES = 4,   /* mask of the signers of a no-vote certificate for the round before */
+    YARDBOOK_RECORD_TAG = 5,        /* any number: the host's block */
+    YARDBOOK_RECORD_WEAK_COUNT = 6,
+    YARDBOOK_RECORD_WEAK = 7        /* five ids, rising; those beyond the count are 0 */
+};
+
+/* What an answer's number says. */
+enum {
+    YARDBOOK_OK = 0,                      /* admitted */
+    YARDBOOK_REFUSED_STATE_SIZE = 1,      /* the state has not YARDBOOK_STATE_WORDS words */
+    YARDBOOK_REFUSED_MEMBER_COUNT = 2,    /* n is none of 4, 7, 10, 13, 16 */
+    YARDBOOK_REFUSED_MALFORMED = 3,       /* the state is not well formed */
+    YARDBOOK_REFUSED_RECORD_SIZE = 4,     /* the record has not YARDBOOK_RECORD_WORDS words */
+    YARDBOOK_REFUSED_ROUND = 5,           /* the round is not 1 to 32 */
+    YARDBOOK_REFUSED_SOURCE = 6,          /* the source or signer is n or above */
+    YARDBOOK_REFUSED_MASK_BITS = 7,       /* a mask of the record has a bit at n or above */
+    YARDBOOK_REFUSED_STRONG = 8,          /* the strong mask is not 0 in round 1, or no quorum later */
+    YARDBOOK_REFUSED_TIMEOUTS = 9,        /* the timeout mask is no quorum where it must be, or not 0 elsewhere */
+    YARDBOOK_REFUSED_NO_VOTES = 10,       /* the no-vote mask likewise */
+    YARDBOOK_REFUSED_WEAK = 11,           /* the weak ids do not rise, or one is out of range */
+    YARDBOOK_REFUSED_DUPLICATE = 12,      /* known already: this vertex, this source's first message, this signer's note */
+    YARDBOOK_REFUSED_CONFLICT = 13,       /* a different vertex of this round and source is held */
+    YARDBOOK_REFUSED_MISSING_PARENT = 14, /* a parent is not held; the answer's id is the smallest such */
+    YARDBOOK_REFUSED_PAST_END = 15        /* k is above the list's count */
+};
+
+typedef struct {
+    uint32_t number;
+    uint32_t id;      /* with YARDBOOK_REFUSED_MISSING_PARENT the smallest missing parent's id, else 0 */
+    uint32_t leaders; /* how many entries the call added to the leader list, and to the journal */
+    uint32_t journal;
+} yardbook_answer;
+
+typedef struct {
+    uint32_t number; /* with another number than 0, the others are 0 */
+    uint32_t current_round;
+    uint32_t committed_round;
+    uint32_t leader_count;
+    uint32_t journal_count;
+} yardbook_state_status;
+
+/* Words start, start + 1, .. of the lent state, `length` of them. Both are 0 where the number is not. */
+typedef struct {
+    uint32_t number;
+    uint32_t start;
+    uint32_t length;
+} yardbook_part;
+
+/* Opens the state for a group of n members, whatever its words were. Asks 1 and 2. Writes every word. */
+yardbook_answer yardbook_open(uint32_t *state, size_t state_words, uint32_t n);
+
+/*
+ * Takes a vertex that reliable broadcast has delivered. Asks 1 and 3 to 14.
+ * Writes the vertex to its cell, may raise the current round, and commits every round that has become committable: the
+ * leaders taken join the leader list, and their histories the journal.
+ */
+yardbook_answer yardbook_take_vertex(uint32_t *state, size_t state_words, const uint32_t *record, size_t record_words);
+
+/*
+ * Takes a sender's first broadcast message, seen before delivery. Asks 1 and 3 to 12.
+ * Marks the source heard, and in votes if the strong mask has the previous round's leader; then commits as above.
+ */
+yardbook_answer yardbook_take_first_message(uint32_t *state, size_t state_words, const uint32_t *record, size_t record_words);
+
+/* Takes a signer's timeout for the round. Asks 1, 3, 5, 6 and 12. Sets one bit, and may raise the current round. */
+yardbook_answer yardbook_take_timeout(uint32_t *state, size_t state_words, uint32_t round, uint32_t signer);
+
+/* Takes a signer's no-vote for the round. Asks 1, 3, 5, 6 and 12. Sets one bit. */
+yardbook_answer yardbook_take_no_vote(uint32_t *state, size_t state_words, uint32_t round, uint32_t signer);
+
+/* The rounds and the counts. Asks 1 and 3. Changes no word. */
+yardbook_state_status yardbook_status(const uint32_t *state, size_t state_words);
+
+/* Whether the leader list, or the journal, can be had from entry k on: the number. Asks 1, 3 and 15. Changes no word. */
+uint32_t yardbook_ask_leaders(const uint32_t *state, size_t state_words, uint32_t k);
+uint32_t yardbook_ask_journal(const uint32_t *state, size_t state_words, uint32_t k);
+
+/* Entries k up to the count, as ids, where they stand in the lent words; no entries where asking does not answer 0. */
+yardbook_part yardbook_hand_leaders(const uint32_t *state, size_t state_words, uint32_t k);
+yardbook_part yardbook_hand_journal(const uint32_t *state, size_t state_words, uint32_t k);
+
+#ifdef __cplusplus
+}
+#endif
+
+#endif

@@ -1,0 +1,120 @@
+// Yardbook ordering engine: the C interface as spans and structs. It allocates nothing and throws nothing. yardbook.h
+// documents the calls, the numbers, and what the host owes for the words that it lends.
+#ifndef YARDBOOK_HPP
+#define YARDBOOK_HPP
+
+#include <array>
+#include <cstdint>
+#include <span>
+
+#include "yardbook.h"
+
+namespace yardbook {
+
+inline constexpr std::size_t state_words = YARDBOOK_STATE_WORDS;
+inline constexpr std::size_t record_words = YARDBOOK_RECORD_WORDS;
+
+using State = std::array<std::uint32_t, state_words>;
+using Record = std::array<std::uint32_t, record_words>;
+
+enum class Number : std::uint32_t {
+    ok = YARDBOOK_OK,
+    state_size = YARDBOOK_REFUSED_STATE_SIZE,
+    member_count = YARDBOOK_REFUSED_MEMBER_COUNT,
+    malformed = YARDBOOK_REFUSED_MALFORMED,
+    record_size = YARDBOOK_REFUSED_RECORD_SIZE,
+    round = YARDBOOK_REFUSED_ROUND,
+    source = YARDBOOK_REFUSED_SOURCE,
+    mask_bits = YARDBOOK_REFUSED_MASK_BITS,
+    strong = YARDBOOK_REFUSED_STRONG,
+    timeouts = YARDBOOK_REFUSED_TIMEOUTS,
+    no_votes = YARDBOOK_REFUSED_NO_VOTES,
+    weak = YARDBOOK_REFUSED_WEAK,
+    duplicate = YARDBOOK_REFUSED_DUPLICATE,
+    conflict = YARDBOOK_REFUSED_CONFLICT,
+    missing_parent = YARDBOOK_REFUSED_MISSING_PARENT,
+    past_end = YARDBOOK_REFUSED_PAST_END,
+};
+
+struct Answer {
+    Number number;
+    std::uint32_t id;
+    std::uint32_t leaders;
+    std::uint32_t journal;
+
+    [[nodiscard]] constexpr bool ok() const noexcept { return number == Number::ok; }
+};
+
+struct Status {
+    Number number;
+    std::uint32_t current_round;
+    std::uint32_t committed_round;
+    std::uint32_t leader_count;
+    std::uint32_t journal_count;
+};
+
+// Ids, as a part of the state that was lent: valid until the next call that changes it.
+struct List {
+    Number number;
+    std::span<const std::uint32_t> ids;
+};
+
+namespace detail {
+
+[[nodiscard]] constexpr Answer answer(yardbook_answer a) noexcept {
+    return {static_cast<Number>(a.number), a.id, a.leaders, a.journal};
+}
+
+[[nodiscard]] constexpr List list(std::span<const std::uint32_t> state, yardbook_part part) noexcept {
+    return {static_cast<Number>(part.number), state.subspan(part.start, part.length)};
+}
+
+}  // namespace detail
+
+[[nodiscard]] inline Answer open(std::span<std::uint32_t> state, std::uint32_t n) noexcept {
+    return detail::answer(yardbook_open(state.data(), state.size(), n));
+}
+
+[[nodiscard]] inline Answer take_vertex(std::span<std::uint32_t> state, std::span<const std::uint32_t> record) noexcept {
+    return detail::answer(yardbook_take_vertex(state.data(), state.size(), record.data(), record.size()));
+}
+
+[[nodiscard]] inline Answer take_first_message(std::span<std::uint32_t> state,
+                                               std::span<const std::uint32_t> record) noexcept {
+    return detail::answer(yardbook_take_first_message(state.data(), state.size(), record.data(), record.size()));
+}
+
+[[nodiscard]] inline Answer take_timeout(std::span<std::uint32_t> state, std::uint32_t round,
+                                         std::uint32_t signer) noexcept {
+    return detail::answer(yardbook_take_timeout(state.data(), state.size(), round, signer));
+}
+
+[[nodiscard]] inline Answer take_no_vote(std::span<std::uint32_t> state, std::uint32_t round,
+                                         std::uint32_t signer) noexcept {
+    return detail::answer(yardbook_take_no_vote(state.data(), state.size(), round, signer));
+}
+
+[[nodiscard]] inline Status status(std::span<const std::uint32_t> state) noexcept {
+    const yardbook_state_status s = yardbook_status(state.data(), state.size());
+    return {static_cast<Number>(s.number), s.current_round, s.committed_round, s.leader_count, s.journal_count};
+}
+
+[[nodiscard]] inline Number ask_leaders(std::span<const std::uint32_t> state, std::uint32_t k) noexcept {
+    return static_cast<Number>(yardbook_ask_leaders(state.data(), state.size(), k));
+}
+
+[[nodiscard]] inline Number ask_journal(std::span<const std::uint32_t> state, std::uint32_t k) noexcept {
+    return static_cast<Number>(yardbook_ask_journal(state.data(), state.size(), k));
+}
+
+[[nodiscard]] inline List hand_leaders(std::span<const std::uint32_t> state, std::uint32_t k) noexcept {
+    return detail::list(state, yardbook_hand_leaders(state.data(), state.size(), k));
+}
+
+[[nodiscard]] inline List hand_journal(std::span<const std::uint32_t> state, std::uint32_t k) noexcept {
+    return detail::list(state, yardbook_hand_journal(state.data(), state.size(), k));
+}
+
+}  // namespace yardbook
+
+#endif

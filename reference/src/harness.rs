@@ -4,10 +4,13 @@
 //! and two arguments. A line has the operation, the numbers of the answer, and a checksum of all
 //! lent words.
 
+use crate::answer::Answer;
+use crate::call::Call;
 use crate::calls;
 
-/// The words that the program can lend.
+/// The words that the program can lend, and those of the longest record.
 pub const MOST_WORDS: u32 = 6_000;
+pub const MOST_RECORD_WORDS: u32 = 20;
 
 #[derive(Clone, Copy, Debug, PartialEq, Eq)]
 pub enum Command {
@@ -22,6 +25,16 @@ pub enum Command {
     AskJournal(u32),
     HandLeaders(u32),
     HandJournal(u32),
+    /// Takes a vertex, or a first message, with the record as it stands.
+    Vertex,
+    First,
+    /// Round and signer.
+    Timeout(u32, u32),
+    NoVote(u32, u32),
+    /// The record has so many words from now on, all zero.
+    Record(u32),
+    /// A word of the record gets a value; no effect beyond them.
+    SetRecord(u32, u32),
 }
 
 impl Command {
@@ -37,14 +50,40 @@ impl Command {
             Command::AskJournal(k) => [6, k, 0],
             Command::HandLeaders(k) => [7, k, 0],
             Command::HandJournal(k) => [8, k, 0],
+            Command::Vertex => [9, 0, 0],
+            Command::First => [10, 0, 0],
+            Command::Timeout(round, signer) => [11, round, signer],
+            Command::NoVote(round, signer) => [12, round, signer],
+            Command::Record(count) => [13, count, 0],
+            Command::SetRecord(at, word) => [14, at, word],
+        }
+    }
+
+    /// The commands that make a call: those for its record's words, and the call itself.
+    pub fn of_call(call: &Call) -> Vec<Command> {
+        match call {
+            Call::Open(n) => vec![Command::Open(*n)],
+            Call::Vertex(record) => with_record(record, Command::Vertex),
+            Call::First(record) => with_record(record, Command::First),
+            Call::Timeout(round, signer) => vec![Command::Timeout(*round, *signer)],
+            Call::NoVote(round, signer) => vec![Command::NoVote(*round, *signer)],
         }
     }
 }
 
-/// What the program keeps between commands: the lent words.
+fn with_record(record: &[u32], call: Command) -> Vec<Command> {
+    let mut commands = vec![Command::Record(record.len() as u32)];
+    let set = |(at, &word)| (word != 0).then_some(Command::SetRecord(at, word));
+    commands.extend((0..).zip(record).filter_map(set));
+    commands.push(call);
+    commands
+}
+
+/// What the program keeps between commands: the lent words and the record.
 #[derive(Clone, Debug, Default)]
 pub struct Harness {
     lent: Vec<u32>,
+    record: Vec<u32>,
 }
 
 impl Harness {
@@ -52,41 +91,21 @@ impl Harness {
     fn answer(&mut self, command: Command) -> Option<Vec<u32>> {
         let state = &mut self.lent;
         match command {
-            Command::End => return None,
-            Command::Lend(count) => {
-                *state = vec![0; count.min(MOST_WORDS) as usize];
-                return None;
-            }
-            Command::Set(at, word) => {
-                state
-                    .get_mut(at as usize)
-                    .into_iter()
-                    .for_each(|place| *place = word);
-                return None;
-            }
-            Command::Open(n) => {
-                let answer = calls::open(state, n);
-                Some(vec![
-                    answer.number,
-                    answer.id,
-                    answer.leaders,
-                    answer.journal,
-                ])
-            }
-            Command::Status => {
-                let status = calls::status(state);
-                Some(vec![
-                    status.number,
-                    status.current_round,
-                    status.committed_round,
-                    status.leader_count,
-                    status.journal_count,
-                ])
-            }
+            Command::End => None,
+            Command::Lend(count) => renew(state, count.min(MOST_WORDS)),
+            Command::Set(at, word) => set(state, at, word),
+            Command::Record(count) => renew(&mut self.record, count.min(MOST_RECORD_WORDS)),
+            Command::SetRecord(at, word) => set(&mut self.record, at, word),
+            Command::Open(n) => numbers(calls::open(state, n)),
+            Command::Vertex => numbers(calls::take_vertex(state, &self.record)),
+            Command::First => numbers(calls::take_first_message(state, &self.record)),
+            Command::Timeout(round, signer) => numbers(calls::take_timeout(state, round, signer)),
+            Command::NoVote(round, signer) => numbers(calls::take_no_vote(state, round, signer)),
+            Command::Status => status_numbers(state),
             Command::AskLeaders(k) => Some(vec![calls::ask_leaders(state, k)]),
             Command::AskJournal(k) => Some(vec![calls::ask_journal(state, k)]),
-            Command::HandLeaders(k) => Some(counted(calls::hand_leaders(state, k).1)),
-            Command::HandJournal(k) => Some(counted(calls::hand_journal(state, k).1)),
+            Command::HandLeaders(k) => counted(calls::hand_leaders(state, k).1),
+            Command::HandJournal(k) => counted(calls::hand_journal(state, k).1),
         }
     }
 
@@ -99,11 +118,45 @@ impl Harness {
     }
 }
 
+/// So many words, all zero; prints nothing.
+fn renew(words: &mut Vec<u32>, count: u32) -> Option<Vec<u32>> {
+    *words = vec![0; count as usize];
+    None
+}
+
+/// A word set if it is there; prints nothing.
+fn set(words: &mut [u32], at: u32, word: u32) -> Option<Vec<u32>> {
+    if let Some(place) = words.get_mut(at as usize) {
+        *place = word;
+    }
+    None
+}
+
+fn numbers(answer: Answer) -> Option<Vec<u32>> {
+    Some(vec![
+        answer.number,
+        answer.id,
+        answer.leaders,
+        answer.journal,
+    ])
+}
+
+fn status_numbers(state: &[u32]) -> Option<Vec<u32>> {
+    let status = calls::status(state);
+    Some(vec![
+        status.number,
+        status.current_round,
+        status.committed_round,
+        status.leader_count,
+        status.journal_count,
+    ])
+}
+
 /// A list with its length before it.
-fn counted(list: &[u32]) -> Vec<u32> {
+fn counted(list: &[u32]) -> Option<Vec<u32>> {
     let mut numbers = vec![list.len() as u32];
     numbers.extend(list);
-    numbers
+    Some(numbers)
 }
 
 /// One number that stands for every word in its place.

@@ -1,33 +1,50 @@
 //! The stored vectors of the program `harness` see every answer that each call can give.
 
-use std::collections::BTreeSet;
+use std::collections::{BTreeMap, BTreeSet};
 
 use reference::harness::{Command, Harness};
+use reference::simulate::{simulate, Options};
 use reference::vectors::commands;
+use reference::STATE_WORDS;
 
-/// The numbers of an operation's answers, in the second place of its lines.
-fn seen(operation: u32) -> BTreeSet<u32> {
+/// The numbers of each operation's answers, in the second place of its lines.
+fn seen() -> BTreeMap<u32, BTreeSet<u32>> {
     let mut harness = Harness::default();
-    commands()
+    let mut seen: BTreeMap<u32, BTreeSet<u32>> = BTreeMap::new();
+    for line in commands()
         .into_iter()
         .filter_map(|command| harness.perform(command))
-        .filter(|line| line[0] == operation)
-        .map(|line| line[1])
-        .collect()
+    {
+        seen.entry(line[0]).or_default().insert(line[1]);
+    }
+    seen
 }
 
 #[test]
 fn every_number_of_every_call_is_seen() {
-    assert_eq!(seen(3), BTreeSet::from([0, 1, 2]));
-    assert_eq!(seen(4), BTreeSet::from([0, 1, 3]));
-    assert_eq!(seen(5), BTreeSet::from([0, 1, 3, 15]));
-    assert_eq!(seen(6), BTreeSet::from([0, 1, 3, 15]));
+    let seen = seen();
+    let notes = [0, 1, 3, 5, 6, 12];
+    let lists = [0, 1, 3, 15];
+    for (operation, numbers) in [
+        (3, &[0, 1, 2][..]),
+        (4, &[0, 1, 3]),
+        (5, &lists),
+        (6, &lists),
+        (9, &[0, 1, 3, 4, 5, 6, 7, 8, 9, 10, 11, 12, 13, 14]),
+        (10, &[0, 1, 3, 4, 5, 6, 7, 8, 9, 10, 11, 12]),
+        (11, &notes),
+        (12, &notes),
+    ] {
+        let numbers = numbers.iter().copied().collect();
+        assert_eq!(seen[&operation], numbers, "operation {operation}");
+    }
 }
 
 #[test]
 fn handed_lists_are_empty_and_not() {
+    let seen = seen();
     for operation in [7, 8] {
-        let lengths = seen(operation);
+        let lengths = &seen[&operation];
         assert!(lengths.contains(&0));
         assert!(lengths.iter().any(|&length| length > 20));
     }
@@ -37,6 +54,23 @@ fn handed_lists_are_empty_and_not() {
 fn the_commands_are_the_same_every_time() {
     assert_eq!(commands(), commands());
     assert_eq!(commands().last(), Some(&Command::End));
+}
+
+#[test]
+fn a_call_s_commands_make_it() {
+    let calls = simulate(1, 4, &Options::rough()).replicas.remove(0);
+    let mut harness = Harness::default();
+    let mut state = vec![0; STATE_WORDS];
+    assert_eq!(harness.perform(Command::Lend(STATE_WORDS as u32)), None);
+    for call in calls {
+        let commands = Command::of_call(&call);
+        let lines: Vec<_> = commands
+            .into_iter()
+            .filter_map(|command| harness.perform(command))
+            .collect();
+        assert_eq!(lines.len(), 1);
+        assert_eq!(lines[0][1], call.apply(&mut state).number, "{call:?}");
+    }
 }
 
 #[test]

@@ -3,6 +3,10 @@ use super::output::checksum;
 use super::output::put;
 use super::output::put_last;
 use super::output::put_list;
+use ordering::calls::take_first_message;
+use ordering::calls::take_no_vote;
+use ordering::calls::take_timeout;
+use ordering::calls::take_vertex;
 use record::refusal::missing_id;
 use record::refusal::number;
 use replica::answer::Answer;
@@ -46,16 +50,20 @@ fn read(state: &[u32], op: u32, a: u32) {
 }
 
 // The calls that may change words, and the others.
-fn change(state: &mut [u32], op: u32, a: u32) {
+fn change(state: &mut [u32], rec: &[u32], op: u32, a: u32, b: u32) {
     match op {
         3 => put_answer(open(state, a)),
+        9 => put_answer(take_vertex(state, rec)),
+        10 => put_answer(take_first_message(state, rec)),
+        11 => put_answer(take_timeout(state, a, b)),
+        12 => put_answer(take_no_vote(state, a, b)),
         _ => read(state, op, a),
     }
 }
 
 // One line of output.
-pub fn call(state: &mut [u32], op: u32, a: u32) {
+pub fn call(state: &mut [u32], rec: &[u32], op: u32, a: u32, b: u32) {
     put(op);
-    change(state, op, a);
+    change(state, rec, op, a, b);
     put_last(checksum(state));
 }

@@ -11,6 +11,12 @@
 //   6 a    asks for the journal from a on
 //   7 a    hands over the leader list from a on
 //   8 a    hands over the journal from a on
+//   9      takes a vertex with the record
+//   10     takes a first message with the record
+//   11 a b takes a timeout of round a and signer b
+//   12 a b takes a no-vote of round a and signer b
+//   13 a   the record has a words from now on, all zero, at most 20
+//   14 a b word a of the record becomes b, if the record has it
 // A call prints a line: the operation, the numbers of the answer, and the checksum.
 mod calls;
 mod input;
@@ -43,33 +49,47 @@ fn set(lent: &mut [u32], at: usize, word: u32) {
     }
 }
 
-// Carries a command out, with the first so many words lent, and answers how many are lent after it.
-fn perform(words: &mut [u32], lent: usize, command: Command) -> usize {
-    let count = least(lent, words.len());
+// How many words are lent, and how many the record has.
+struct Sizes {
+    lent: usize,
+    length: usize,
+}
+
+// Carries a command out on so many words and so long a record, and answers how many there are after it.
+fn perform(words: &mut [u32], rec: &mut [u32], sizes: Sizes, command: Command) -> Sizes {
+    let lent = least(sizes.lent, words.len());
+    let length = least(sizes.length, rec.len());
     let op = command.op;
     let at = command.a as usize;
     match op {
         1 => {
             clear(words);
-            return least(at, words.len());
+            let lent = least(at, words.len());
+            return Sizes { lent, length };
         }
-        2 => set(&mut words[..count], at, command.b),
-        _ => call(&mut words[..count], op, command.a),
+        2 => set(&mut words[..lent], at, command.b),
+        13 => {
+            clear(rec);
+            let length = least(at, rec.len());
+            return Sizes { lent, length };
+        }
+        14 => set(&mut rec[..length], at, command.b),
+        _ => call(&mut words[..lent], &rec[..length], op, command.a, command.b),
     }
-    count
+    Sizes { lent, length }
 }
 
 // A proved loop has to end, and nothing says that the input does: the loop counts its turns down, from a number that no run uses up.
-fn run(words: &mut [u32], block: &mut [u8]) {
+fn run(words: &mut [u32], rec: &mut [u32], block: &mut [u8]) {
     let mut cursor = Cursor { at: 0, end: 0 };
-    let mut lent: usize = 0;
+    let mut sizes = Sizes { lent: 0, length: 0 };
     let mut turns = u64::MAX;
     while turns > 0 {
         let next = next_command(block, cursor);
         if next.op == 0 {
             return;
         }
-        lent = perform(words, lent, next);
+        sizes = perform(words, rec, sizes, next);
         let after = next.cursor;
         cursor = after;
         turns -= 1;
@@ -78,6 +98,7 @@ fn run(words: &mut [u32], block: &mut [u8]) {
 
 fn main() {
     let mut words = [0u32; 6000];
+    let mut rec = [0u32; 20];
     let mut block = io::large_buffer();
-    run(&mut words, &mut block);
+    run(&mut words, &mut rec, &mut block);
 }

@@ -55,7 +55,7 @@ fn write_lines(mut output: impl Write) -> io::Result<()> {
 fn write_table(mut output: impl Write) -> io::Result<()> {
     let mut seen: BTreeMap<(u32, u32), usize> = BTreeMap::new();
     for line in lines() {
-        let answer = if line[0] >= 7 {
+        let answer = if matches!(line[0], 7 | 8) {
             line[1].min(1)
         } else {
             line[1]

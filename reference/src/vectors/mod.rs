@@ -2,12 +2,16 @@
 //!
 //! States of every size and kind are lent, each with damaged words, and asked by every call.
 
-mod damage;
+pub mod damage;
 mod states;
+mod worked;
 
-use crate::harness::Command;
-use crate::layout::{JOURNAL_COUNT, LEADER_COUNT, LEGAL_SIZES, STATE_WORDS};
+use crate::call::Call;
+use crate::harness::{Command, MOST_RECORD_WORDS};
+use crate::layout::{JOURNAL_COUNT, LEADER_COUNT, LEGAL_SIZES, RECORD_WORDS, STATE_WORDS};
 use crate::rng::Rng;
+use crate::simulate::Options;
+use states::Reached;
 
 const SEED: u64 = 4;
 const WRONG_SIZES: [u32; 7] = [0, 1, 12, 5_863, 5_865, 6_000, 7_000];
@@ -18,23 +22,29 @@ pub fn commands() -> Vec<Command> {
     let mut list = Commands {
         rng: Rng::new(SEED),
         list: Vec::new(),
+        record: Vec::new(),
     };
     list.wrong_sizes();
     list.openings();
     list.random_states();
+    list.worked();
+    list.record_lengths();
+    list.notes();
     for n in LEGAL_SIZES {
-        for state in states::reached(n) {
-            list.reached_state(&state);
+        for reached in states::reached(n) {
+            list.reached_state(&reached);
         }
     }
+    list.simulated_runs();
     list.list.push(Command::End);
     list.list
 }
 
-/// The commands so far, and the generator for the next ones.
+/// The commands so far, the generator for the next ones, and the record as they leave it.
 struct Commands {
     rng: Rng,
     list: Vec<Command>,
+    record: Vec<u32>,
 }
 
 impl Commands {
@@ -85,14 +95,106 @@ impl Commands {
         }
     }
 
+    /// 01's worked list, and the lists of a state just opened.
+    fn worked(&mut self) {
+        for calls in worked::rows() {
+            self.fresh(4);
+            self.run(&calls);
+        }
+        for n in [4, 16, 5, 19] {
+            self.fresh(n);
+            self.run(&[]);
+            self.list.push(Command::AskJournal(1));
+        }
+    }
+
+    /// Records of every length on 01's state S, of zeros and with words of a vertex.
+    fn record_lengths(&mut self) {
+        self.fresh(4);
+        self.run(&worked::state_s());
+        let vertex: Vec<u32> = [1, 3].into_iter().chain([0; 18]).collect();
+        for length in 0..=MOST_RECORD_WORDS as usize {
+            for record in [&vertex[..length], &vec![0; length]] {
+                self.call(&Call::First(record.to_vec()));
+                self.call(&Call::Vertex(record.to_vec()));
+            }
+        }
+    }
+
+    /// Timeouts and no-votes with rounds and signers near their limits and beyond, each made twice.
+    fn notes(&mut self) {
+        for n in LEGAL_SIZES {
+            self.fresh(n);
+            for round in [0, 1, 32, 33, u32::MAX] {
+                for signer in [0, n - 1, n, 31, 32, u32::MAX] {
+                    let calls = [Call::Timeout(round, signer), Call::NoVote(round, signer)];
+                    self.run(&[&calls[..], &calls].concat());
+                }
+            }
+        }
+    }
+
+    /// Whole runs of simulated groups, call by call.
+    fn simulated_runs(&mut self) {
+        for (n, rounds, options) in [
+            (4, 32, Options::rough()),
+            (7, 32, Options::typical()),
+            (10, 16, Options::wild()),
+            (13, 12, Options::typical()),
+            (16, 32, Options::calm()),
+        ] {
+            self.list.push(Command::Lend(STATE_WORDS as u32));
+            self.run(&states::simulated(5, n, rounds, options));
+        }
+    }
+
+    /// A zero state, and its opening.
+    fn fresh(&mut self, n: u32) {
+        self.list
+            .extend([Command::Lend(STATE_WORDS as u32), Command::Open(n)]);
+    }
+
+    /// Calls, and what they leave.
+    fn run(&mut self, calls: &[Call]) {
+        calls.iter().for_each(|call| self.call(call));
+        self.list.extend([
+            Command::Status,
+            Command::HandLeaders(0),
+            Command::HandJournal(0),
+        ]);
+    }
+
+    /// A call, with only those words of the record set that differ.
+    fn call(&mut self, call: &Call) {
+        if let Call::Vertex(words) | Call::First(words) = call {
+            self.set_record(words);
+        }
+        self.list.extend(Command::of_call(call).last());
+    }
+
+    fn set_record(&mut self, words: &[u32]) {
+        let length = words.len().min(MOST_RECORD_WORDS as usize);
+        if self.record.len() != length {
+            self.record = vec![0; length];
+            self.list.push(Command::Record(length as u32));
+        }
+        for (at, (old, &new)) in (0..).zip(self.record.iter_mut().zip(words)) {
+            if *old != new {
+                *old = new;
+                self.list.push(Command::SetRecord(at, new));
+            }
+        }
+    }
+
     /// A state that calls have reached: every list call near the counts, damages, and openings.
-    fn reached_state(&mut self, state: &[u32]) {
+    fn reached_state(&mut self, reached: &Reached) {
+        let state = &reached.state;
         self.list.push(Command::Lend(STATE_WORDS as u32));
         self.set_all(state);
         self.list.push(Command::Status);
         self.lists(state);
         for damage in damage::all(&mut self.rng, state) {
-            self.damaged(state, &damage);
+            self.damaged(reached, &damage);
         }
         self.list.push(Command::Status);
         for n in [5, state[0], 4] {
@@ -100,17 +202,30 @@ impl Commands {
         }
     }
 
-    /// The status of a damaged state and one list call on it; the damage is undone.
-    fn damaged(&mut self, state: &[u32], damage: &[(usize, u32)]) {
-        let set = |(at, word): (usize, u32)| Command::Set(at as u32, word);
-        self.list.extend(damage.iter().copied().map(set));
+    /// The status of a damaged state, and some other calls on it; what they and the damage changed
+    /// is undone.
+    fn damaged(&mut self, reached: &Reached, damage: &[(usize, u32)]) {
+        let state = &reached.state;
+        let mut words = state.clone();
+        for &(at, word) in damage {
+            words[at] = word;
+            self.list.push(Command::Set(at as u32, word));
+        }
         self.list.push(Command::Status);
         if self.rng.percent(30) {
             let call = self.list_call(state);
             self.list.push(call);
         }
+        if self.rng.percent(30) {
+            let drawn = self.rng.pick(&reached.calls).cloned();
+            if let Some(call) = drawn.filter(|call| !matches!(call, Call::Open(_))) {
+                self.call(&call);
+                call.apply(&mut words);
+            }
+        }
+        let changed = (0..STATE_WORDS).filter(|&at| words[at] != state[at]);
         self.list
-            .extend(damage.iter().map(|&(at, _)| set((at, state[at]))));
+            .extend(changed.map(|at| Command::Set(at as u32, state[at])));
     }
 
     fn list_call(&mut self, state: &[u32]) -> Command {
@@ -137,6 +252,7 @@ impl Commands {
         }
     }
 
+    /// Every call, those that may change an opened state last.
     fn all_calls(&mut self) {
         self.list.extend([
             Command::Open(5),
@@ -150,6 +266,11 @@ impl Commands {
             Command::HandJournal(0),
             Command::HandJournal(1),
         ]);
+        let vertex: Vec<u32> = [1].into_iter().chain([0; RECORD_WORDS - 1]).collect();
+        self.call(&Call::Vertex(vertex.clone()));
+        self.call(&Call::First(vertex));
+        self.call(&Call::Timeout(1, 0));
+        self.call(&Call::NoVote(1, 0));
     }
 
     fn set_all(&mut self, state: &[u32]) {

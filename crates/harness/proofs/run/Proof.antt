@@ -6,10 +6,10 @@ use Rattle.harness.proofs.run.Statement.{statement}
 use Rattle.harness.proofs.run.Tie as tie
 
 abbrev Inv-loop : tie.InvT-loop
-Inv-loop words₀ block₀ cursor₀ lent₀ turns₀ words block cursor lent turns = (length words ≡ length words₀) × (length block ≡ length block₀)
+Inv-loop words₀ rec₀ block₀ cursor₀ sizes₀ turns₀ words rec block cursor sizes turns = (length words ≡ length words₀) × (length rec ≡ length rec₀) × (length block ≡ length block₀)
 
 abbrev μ-loop : tie.MeasureT-loop
-μ-loop words₀ block₀ cursor₀ lent₀ turns₀ words block cursor lent turns = turns
+μ-loop words₀ rec₀ block₀ cursor₀ sizes₀ turns₀ words rec block cursor sizes turns = turns
 
 loop-holds : tie.Need-loop-holds Inv-loop μ-loop
 loop-holds c = search needs
@@ -22,6 +22,9 @@ same-length c = search needs
 
 same-length-2 : tie.Need-same-length-2 Inv-loop μ-loop
 same-length-2 c = search needs
+
+same-length-3 : tie.Need-same-length-3 Inv-loop μ-loop
+same-length-3 c = search needs
 
 returns : tie.Need-returns Inv-loop μ-loop
 returns c = search needs
@@ -38,11 +41,14 @@ loop-less c = search needs
 loop-again : tie.Need-loop-again Inv-loop μ-loop
 loop-again c = search needs
 
-same-length-3 : tie.Need-same-length-3 Inv-loop μ-loop
-same-length-3 c = search needs
-
 same-length-4 : tie.Need-same-length-4 Inv-loop μ-loop
 same-length-4 c = search needs
+
+same-length-5 : tie.Need-same-length-5 Inv-loop μ-loop
+same-length-5 c = search needs
+
+same-length-6 : tie.Need-same-length-6 Inv-loop μ-loop
+same-length-6 c = search needs
 
 returns-2 : tie.Need-returns-2 Inv-loop μ-loop
 returns-2 c = search needs
@@ -57,11 +63,13 @@ run-spec =
     next-command-requires
     same-length
     same-length-2
+    same-length-3
     returns
     perform-requires
     sub-turns
     loop-less
     loop-again
-    same-length-3
     same-length-4
+    same-length-5
+    same-length-6
     returns-2)

@@ -1,0 +1,231 @@
+//! Calls and states drawn at random, beside those of the simulated groups.
+
+use crate::op::Op;
+use reference::layout::*;
+use reference::rng::Rng;
+use reference::vectors::damage;
+use reference::Call;
+
+/// Records have up to this many words.
+const MOST_RECORD_WORDS: u32 = 20;
+const MOST_STATE_WORDS: u32 = 6_000;
+const EDGES: [u32; 8] = [0, 1, 2, 15, 16, 0xFFFF, 1 << 31, u32::MAX];
+
+/// Where a list of so many entries is asked for: near its ends, and far beyond.
+fn start(rng: &mut Rng, count: u32) -> u32 {
+    match rng.below(8) {
+        0 => 0,
+        1 => 1,
+        2 => count.saturating_sub(1),
+        3 => count,
+        4 => count.saturating_add(1),
+        5 => count.saturating_add(rng.below(600)),
+        6 => u32::MAX - rng.below(800),
+        _ => rng.below(count.saturating_add(2)),
+    }
+}
+
+/// A list call, with the counts that stand in the words.
+pub fn list_op(rng: &mut Rng, words: &[u32]) -> Op {
+    let count = |at: usize| words.get(at).copied().unwrap_or(0);
+    let leaders = start(rng, count(LEADER_COUNT));
+    let journal = start(rng, count(JOURNAL_COUNT));
+    match rng.below(4) {
+        0 => Op::AskLeaders(leaders),
+        1 => Op::AskJournal(journal),
+        2 => Op::HandLeaders(leaders),
+        _ => Op::HandJournal(journal),
+    }
+}
+
+/// Any call, with arguments that suit the words and the calls of the group.
+pub fn any_op(rng: &mut Rng, words: &[u32], calls: &[Call]) -> Op {
+    match rng.below(12) {
+        0 => Op::Status,
+        1 | 2 => list_op(rng, words),
+        3 => Op::Change(Call::Open(any_size(rng))),
+        4 | 5 => Op::Change(note(rng)),
+        6 => Op::Change(other_length(rng, calls)),
+        7 => Op::Change(other_words(rng, calls)),
+        8 => Op::Change(random_record(rng)),
+        _ => Op::Change(picked(rng, calls)),
+    }
+}
+
+fn any_size(rng: &mut Rng) -> u32 {
+    match rng.below(4) {
+        0 => rng.below(21),
+        1 => rng.word(),
+        2 => LEGAL_SIZES[rng.below(5) as usize] ^ (1 << rng.below(u32::BITS)),
+        _ => LEGAL_SIZES[rng.below(5) as usize],
+    }
+}
+
+fn note(rng: &mut Rng) -> Call {
+    let round = match rng.below(6) {
+        0 => EDGES[rng.below(8) as usize],
+        1 => LAST_ROUND + rng.below(3),
+        _ => rng.below(LAST_ROUND + 2),
+    };
+    let signer = match rng.below(6) {
+        0 => EDGES[rng.below(8) as usize],
+        _ => rng.below(18),
+    };
+    if rng.percent(50) {
+        Call::Timeout(round, signer)
+    } else {
+        Call::NoVote(round, signer)
+    }
+}
+
+/// One of the calls.
+fn picked(rng: &mut Rng, calls: &[Call]) -> Call {
+    rng.pick(calls).cloned().unwrap_or(Call::Open(4))
+}
+
+/// The words of one of the records, and of zeros if there is none.
+fn record(rng: &mut Rng, calls: &[Call]) -> Vec<u32> {
+    match picked(rng, calls) {
+        Call::Vertex(words) | Call::First(words) => words,
+        _ => vec![0; RECORD_WORDS],
+    }
+}
+
+fn vertex_or_first(rng: &mut Rng, words: Vec<u32>) -> Call {
+    if rng.percent(50) {
+        Call::Vertex(words)
+    } else {
+        Call::First(words)
+    }
+}
+
+/// A record of any length.
+fn other_length(rng: &mut Rng, calls: &[Call]) -> Call {
+    let mut words = record(rng, calls);
+    words.resize(rng.below(MOST_RECORD_WORDS + 1) as usize, 0);
+    vertex_or_first(rng, words)
+}
+
+/// A record with a word or more changed.
+fn other_words(rng: &mut Rng, calls: &[Call]) -> Call {
+    let mut words = record(rng, calls);
+    for _ in 0..1 + rng.below(3) {
+        let at = rng.below(words.len() as u32) as usize;
+        if let Some(word) = words.get_mut(at) {
+            *word = other_word(rng, *word);
+        }
+    }
+    vertex_or_first(rng, words)
+}
+
+fn other_word(rng: &mut Rng, word: u32) -> u32 {
+    match rng.below(5) {
+        0 => word ^ (1 << rng.below(u32::BITS)),
+        1 => word ^ (1 << rng.below(16)),
+        2 => EDGES[rng.below(8) as usize],
+        3 => rng.below(600),
+        _ => rng.word(),
+    }
+}
+
+/// A record of small numbers drawn at random, most of them within their ranges.
+fn random_record(rng: &mut Rng) -> Call {
+    let mask = (1 << rng.below(17)) - 1;
+    let mut words = vec![rng.below(LAST_ROUND + 2), rng.below(17)];
+    words.extend((0..3).map(|_| {
+        if rng.percent(50) {
+            rng.word() & mask
+        } else {
+            0
+        }
+    }));
+    words.extend([rng.word(), rng.below(7)]);
+    let mut weak: Vec<u32> = (0..5).map(|_| rng.below(540)).collect();
+    weak.sort_unstable();
+    let used = words[6] as usize;
+    weak.iter_mut().skip(used).for_each(|id| *id = 0);
+    words.extend(weak);
+    vertex_or_first(rng, words)
+}
+
+/// Words of a well formed state changed: one of the drawn damages, any words, or only such as
+/// often leave the state well formed.
+pub fn damage(rng: &mut Rng, state: &[u32]) -> Vec<(usize, u32)> {
+    let count = 1 + rng.below(3);
+    match rng.below(3) {
+        0 => {
+            let drawn = damage::all(rng, state);
+            rng.pick(&drawn).cloned().unwrap_or_default()
+        }
+        1 => (0..count)
+            .map(|_| {
+                let at = place(rng);
+                (at, other_word(rng, state[at]))
+            })
+            .collect(),
+        _ => (0..count).flat_map(|_| unlikely(rng, state)).collect(),
+    }
+}
+
+/// Words as few calls would leave them: notes, first messages and votes, the current round, a tag.
+fn unlikely(rng: &mut Rng, state: &[u32]) -> Vec<(usize, u32)> {
+    let all = (1 << state[N]) - 1;
+    let round = 2 + rng.below(LAST_ROUND - 1);
+    let mask = rng.word() & all;
+    match rng.below(5) {
+        0 => vec![(mask_place(round, TIMEOUTS), mask)],
+        1 => vec![(mask_place(round, NO_VOTES), mask)],
+        2 => vec![
+            (mask_place(round, HEARD), all),
+            (mask_place(round, VOTES), mask),
+        ],
+        3 => vec![(CURRENT_ROUND, 1 + rng.below(LAST_ROUND + 1))],
+        _ => {
+            let held = state[mask_place(round, HELD)];
+            let member = rng.member(held);
+            let tag = member.map(|member| cell_place(round, member).start + 3);
+            tag.map(|at| (at, rng.word())).into_iter().collect()
+        }
+    }
+}
+
+/// A word of the state: of the head, the masks, the lists, or anywhere.
+fn place(rng: &mut Rng) -> usize {
+    let bound = match rng.below(5) {
+        0 => 8,
+        1 | 2 => 200,
+        3 => 744,
+        _ => STATE_WORDS as u32,
+    };
+    rng.below(bound) as usize
+}
+
+/// The state cut short or made longer.
+pub fn other_size(rng: &mut Rng, state: &[u32]) -> Vec<u32> {
+    let sizes = [
+        0,
+        1,
+        5,
+        12,
+        200,
+        744,
+        5_854,
+        5_863,
+        5_865,
+        5_874,
+        MOST_STATE_WORDS,
+    ];
+    let size = match rng.below(3) {
+        0 => rng.below(MOST_STATE_WORDS),
+        _ => sizes[rng.below(sizes.len() as u32) as usize],
+    };
+    let mut words = state.to_vec();
+    words.resize(size as usize, rng.below(2));
+    words
+}
+
+/// Words of any value below a bound, everywhere.
+pub fn random_words(rng: &mut Rng) -> Vec<u32> {
+    let bound = EDGES[1 + rng.below(7) as usize];
+    (0..STATE_WORDS).map(|_| rng.below(bound)).collect()
+}

@@ -1,0 +1,67 @@
+//! What went wrong, in a form that can be made smaller.
+
+use crate::op::Op;
+use reference::harness::Command;
+use reference::Call;
+
+/// One thing done to a state.
+#[derive(Clone, Debug, PartialEq, Eq)]
+pub enum Step {
+    Perform(Op),
+    /// A word gets a value.
+    Set(usize, u32),
+}
+
+impl Step {
+    pub fn of_call(call: &Call) -> Step {
+        Step::Perform(Op::Change(call.clone()))
+    }
+
+    /// The call, if it is one that a line of `sheetlog` can stand for.
+    pub fn as_line(&self) -> Option<&Call> {
+        match self {
+            Step::Perform(Op::Change(call)) => Call::parse(call.line().as_bytes()).map(|_| call),
+            _ => None,
+        }
+    }
+
+    /// The commands of the test program `harness` for it.
+    pub fn commands(&self) -> Vec<Command> {
+        match self {
+            Step::Perform(op) => op.commands(),
+            Step::Set(at, word) => vec![Command::Set(*at as u32, *word)],
+        }
+    }
+}
+
+#[derive(Clone, Debug)]
+pub enum Failure {
+    /// Of these steps on so many words, all 0 at first, one differs.
+    Steps { size: usize, steps: Vec<Step> },
+    /// `sheetlog` prints different lines for these calls.
+    Lines { calls: Vec<Call> },
+    /// The lists that these calls leave are not the model's.
+    Model { calls: Vec<Call> },
+    /// The lists that these calls leave are not prefixes of one another.
+    Prefix { calls: [Vec<Call>; 2] },
+}
+
+impl Failure {
+    /// How much there is to read.
+    pub fn length(&self) -> usize {
+        match self {
+            Failure::Steps { steps, .. } => steps.iter().map(|step| step.commands().len()).sum(),
+            Failure::Lines { calls } | Failure::Model { calls } => calls.len(),
+            Failure::Prefix { calls } => calls.iter().map(Vec::len).sum(),
+        }
+    }
+}
+
+/// A failure and the group that it occurred in.
+#[derive(Clone, Debug)]
+pub struct Found {
+    pub group: u64,
+    pub n: u32,
+    pub kind: &'static str,
+    pub failure: Failure,
+}

@@ -1,0 +1,98 @@
+//! The proved library, called through its C interface.
+
+use crate::engine::Engine;
+use crate::op::{Op, Reply};
+use reference::Call;
+
+#[repr(C)]
+struct Answer {
+    number: u32,
+    id: u32,
+    leaders: u32,
+    journal: u32,
+}
+
+#[repr(C)]
+struct Status {
+    number: u32,
+    current_round: u32,
+    committed_round: u32,
+    leader_count: u32,
+    journal_count: u32,
+}
+
+#[repr(C)]
+struct Part {
+    number: u32,
+    start: u32,
+    length: u32,
+}
+
+#[rustfmt::skip]
+#[link(name = "capi", kind = "static")]
+extern "C" {
+    fn yardbook_open(state: *mut u32, words: usize, n: u32) -> Answer;
+    fn yardbook_take_vertex(state: *mut u32, words: usize, record: *const u32, length: usize) -> Answer;
+    fn yardbook_take_first_message(state: *mut u32, words: usize, record: *const u32, length: usize) -> Answer;
+    fn yardbook_take_timeout(state: *mut u32, words: usize, round: u32, signer: u32) -> Answer;
+    fn yardbook_take_no_vote(state: *mut u32, words: usize, round: u32, signer: u32) -> Answer;
+    fn yardbook_status(state: *const u32, words: usize) -> Status;
+    fn yardbook_ask_leaders(state: *const u32, words: usize, k: u32) -> u32;
+    fn yardbook_ask_journal(state: *const u32, words: usize, k: u32) -> u32;
+    fn yardbook_hand_leaders(state: *const u32, words: usize, k: u32) -> Part;
+    fn yardbook_hand_journal(state: *const u32, words: usize, k: u32) -> Part;
+}
+
+/// The library `libcapi.a`.
+pub struct Proved;
+
+impl Engine for Proved {
+    fn perform(&self, state: &mut [u32], op: &Op) -> Reply {
+        let (words, size) = (state.as_mut_ptr(), state.len());
+        // SAFETY: `words` has `size` words that nobody else uses during the call.
+        unsafe {
+            match op {
+                Op::Change(call) => change(state, call),
+                Op::Status => status(yardbook_status(words, size)),
+                Op::AskLeaders(k) => [yardbook_ask_leaders(words, size, *k), 0, 0, 0, 0],
+                Op::AskJournal(k) => [yardbook_ask_journal(words, size, *k), 0, 0, 0, 0],
+                Op::HandLeaders(k) => part(yardbook_hand_leaders(words, size, *k)),
+                Op::HandJournal(k) => part(yardbook_hand_journal(words, size, *k)),
+            }
+        }
+    }
+}
+
+fn change(state: &mut [u32], call: &Call) -> Reply {
+    let (words, size) = (state.as_mut_ptr(), state.len());
+    // SAFETY: `words` has `size` words that nobody else uses during the call, and no record
+    // overlaps them.
+    let answer = unsafe {
+        match call {
+            Call::Open(n) => yardbook_open(words, size, *n),
+            Call::Vertex(record) => {
+                yardbook_take_vertex(words, size, record.as_ptr(), record.len())
+            }
+            Call::First(record) => {
+                yardbook_take_first_message(words, size, record.as_ptr(), record.len())
+            }
+            Call::Timeout(round, signer) => yardbook_take_timeout(words, size, *round, *signer),
+            Call::NoVote(round, signer) => yardbook_take_no_vote(words, size, *round, *signer),
+        }
+    };
+    [answer.number, answer.id, answer.leaders, answer.journal, 0]
+}
+
+fn status(status: Status) -> Reply {
+    [
+        status.number,
+        status.current_round,
+        status.committed_round,
+        status.leader_count,
+        status.journal_count,
+    ]
+}
+
+fn part(part: Part) -> Reply {
+    [part.number, part.start, part.length, 0, 0]
+}

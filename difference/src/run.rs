@@ -1,0 +1,307 @@
+//! Groups run one after another until enough calls are compared.
+
+use crate::agreement::{handed, prefixes};
+use crate::draw;
+use crate::engine::Engine;
+use crate::failure::{Failure, Found, Step};
+use crate::op::{Op, Reply};
+use crate::pair::Pair;
+use crate::tally::Tally;
+use reference::layout::{LAST_ROUND, LEGAL_SIZES};
+use reference::model::Lists;
+use reference::rng::Rng;
+use reference::simulate::{simulate, Options};
+use reference::{Call, Model, STATE_WORDS};
+
+/// A name, and what such groups are like.
+type Kind = (&'static str, fn() -> Options);
+
+const KINDS: [Kind; 4] = [
+    ("calm", Options::calm),
+    ("typical", Options::typical),
+    ("rough", Options::rough),
+    ("wild", Options::wild),
+];
+/// Every size with every kind.
+const TURN: u64 = (LEGAL_SIZES.len() * KINDS.len()) as u64;
+
+/// What is run: groups drawn from a seed, of so many rounds if that is fixed, until so many calls
+/// are compared.
+#[derive(Clone, Copy, Debug)]
+pub struct Plan {
+    pub seed: u64,
+    pub count: u64,
+    pub rounds: Option<u32>,
+}
+
+/// Runs groups until enough calls are compared or one fails.
+pub fn run(engine: &dyn Engine, plan: Plan) -> (Tally, Option<Found>) {
+    let mut tally = Tally::default();
+    for group in 0.. {
+        if tally.calls >= plan.count {
+            break;
+        }
+        let mut session = Session::new(engine, plan, group, &mut tally);
+        if let Err(failure) = session.run_group() {
+            let found = session.found(failure);
+            return (tally, Some(found));
+        }
+    }
+    (tally, None)
+}
+
+/// One group.
+struct Session<'a> {
+    engine: &'a dyn Engine,
+    rng: Rng,
+    plan: Plan,
+    group: u64,
+    tally: &'a mut Tally,
+}
+
+type Outcome<T> = Result<T, Failure>;
+
+impl<'a> Session<'a> {
+    fn new(engine: &'a dyn Engine, plan: Plan, group: u64, tally: &'a mut Tally) -> Self {
+        let first = Rng::new(plan.seed).long_word();
+        Session {
+            engine,
+            rng: Rng::new(first.wrapping_add(group)),
+            plan,
+            group,
+            tally,
+        }
+    }
+
+    fn n(&self) -> u32 {
+        LEGAL_SIZES[(self.group % LEGAL_SIZES.len() as u64) as usize]
+    }
+
+    fn kind(&self) -> Kind {
+        KINDS[(self.group % TURN) as usize / LEGAL_SIZES.len()]
+    }
+
+    fn found(&self, failure: Failure) -> Found {
+        let (kind, _) = self.kind();
+        Found {
+            group: self.group,
+            n: self.n(),
+            kind,
+            failure,
+        }
+    }
+
+    /// Every other turn of sizes and kinds runs all 32 rounds, if nothing else is asked for.
+    fn options(&mut self) -> Options {
+        let (_, options) = self.kind();
+        let drawn = 2 + self.rng.below(LAST_ROUND - 1);
+        let whole = (self.group / TURN).is_multiple_of(2);
+        let rounds = if whole { LAST_ROUND } else { drawn };
+        Options {
+            rounds: self.plan.rounds.unwrap_or(rounds),
+            ..options()
+        }
+    }
+
+    fn run_group(&mut self) -> Outcome<()> {
+        let options = self.options();
+        let run = simulate(self.rng.long_word(), self.n(), &options);
+        self.tally.groups += 1;
+        let mut ends = Vec::new();
+        for calls in &run.replicas {
+            let mut replica = Replica::new(calls, options.premises);
+            replica.follow(self)?;
+            self.tally.ended(replica.pair.words());
+            ends.push((replica.lists(self)?, replica.made));
+        }
+        match <[_; 2]>::try_from(ends) {
+            Ok([a, b]) if options.premises => self.compare(a, b),
+            _ => Ok(()),
+        }
+    }
+
+    /// The lists of two replicas: one must be a prefix of the other.
+    fn compare(&mut self, a: (Lists, Vec<Call>), b: (Lists, Vec<Call>)) -> Outcome<()> {
+        self.tally.pairs += 1;
+        if prefixes(&a.0, &b.0) {
+            return Ok(());
+        }
+        Err(Failure::Prefix { calls: [a.1, b.1] })
+    }
+
+    fn is_done(&self) -> bool {
+        self.tally.calls >= self.plan.count
+    }
+}
+
+/// A state beside a replica's own, and the steps that led to it.
+struct Aside {
+    pair: Pair,
+    steps: Vec<Step>,
+}
+
+impl Aside {
+    /// Words of any kind.
+    fn of_words(words: &[u32]) -> Aside {
+        let places = words.iter().copied().enumerate();
+        Aside {
+            pair: Pair::new(words),
+            steps: places
+                .filter(|(_, word)| *word != 0)
+                .map(|(at, word)| Step::Set(at, word))
+                .collect(),
+        }
+    }
+
+    fn set(&mut self, at: usize, word: u32) {
+        self.pair.set(at, word);
+        self.steps.push(Step::Set(at, word));
+    }
+
+    fn perform(&mut self, session: &mut Session, op: Op) -> Outcome<Reply> {
+        let reply = self.pair.perform(session.engine, &op);
+        self.steps.push(Step::Perform(op.clone()));
+        match reply {
+            Ok(reply) => {
+                session.tally.see(&op, &reply);
+                Ok(reply)
+            }
+            Err(_) => Err(Failure::Steps {
+                size: self.pair.words().len(),
+                steps: self.steps.clone(),
+            }),
+        }
+    }
+
+    /// So many calls of any kind.
+    fn any(&mut self, session: &mut Session, calls: &[Call], count: u32) -> Outcome<()> {
+        for _ in 0..count {
+            let op = draw::any_op(&mut session.rng, self.pair.words(), calls);
+            self.perform(session, op)?;
+        }
+        Ok(())
+    }
+}
+
+/// One replica and the calls that it gets.
+struct Replica<'a> {
+    calls: &'a [Call],
+    made: Vec<Call>,
+    pair: Pair,
+    model: Model,
+    premises: bool,
+}
+
+impl<'a> Replica<'a> {
+    fn new(calls: &'a [Call], premises: bool) -> Self {
+        Replica {
+            calls,
+            made: Vec::new(),
+            pair: Pair::new(&[0; STATE_WORDS]),
+            model: Model::default(),
+            premises,
+        }
+    }
+
+    /// Makes the calls, each followed by some beside it.
+    fn follow(&mut self, session: &mut Session) -> Outcome<()> {
+        for call in self.calls {
+            let reply = self.on_state(session, Op::Change(call.clone()))?;
+            self.model.feed(call, reply[0]);
+            self.made.push(call.clone());
+            if reply[0] == 0 {
+                session.tally.admitted(call, reply[2]);
+            }
+            if reply[2] > 0 {
+                self.lists(session)?;
+            }
+            self.beside(session)?;
+            if session.is_done() {
+                break;
+            }
+        }
+        Ok(())
+    }
+
+    /// The steps that led to the replica's state.
+    fn steps(&self) -> Vec<Step> {
+        self.made.iter().map(Step::of_call).collect()
+    }
+
+    /// A call on the replica's own state.
+    fn on_state(&mut self, session: &mut Session, op: Op) -> Outcome<Reply> {
+        let reply = self.pair.perform(session.engine, &op);
+        if let Ok(reply) = reply {
+            session.tally.see(&op, &reply);
+            return Ok(reply);
+        }
+        let mut steps = self.steps();
+        steps.push(Step::Perform(op));
+        Err(Failure::Steps {
+            size: STATE_WORDS,
+            steps,
+        })
+    }
+
+    /// The lists, which are the model's if the premises hold.
+    fn lists(&self, session: &mut Session) -> Outcome<Lists> {
+        let lists = handed(session.engine, self.pair.tested_words());
+        if self.premises {
+            session.tally.models += 1;
+        }
+        match lists {
+            Some(lists) if !self.premises || lists == self.model.lists() => Ok(lists),
+            _ => Err(Failure::Model {
+                calls: self.made.clone(),
+            }),
+        }
+    }
+
+    /// Calls beside the group's own: on the state if they change no word, else on copies.
+    fn beside(&mut self, session: &mut Session) -> Outcome<()> {
+        let words = self.pair.words();
+        match session.rng.below(20) {
+            0 => self.on_state(session, Op::Status).map(drop),
+            1..=4 => {
+                let op = draw::list_op(&mut session.rng, words);
+                self.on_state(session, op).map(drop)
+            }
+            5..=7 => self.damaged(session),
+            8 => {
+                let words = draw::other_size(&mut session.rng, words);
+                Aside::of_words(&words).any(session, self.calls, 2)
+            }
+            9 => self.copy().any(session, self.calls, 3),
+            10 if session.rng.percent(10) => {
+                let words = draw::random_words(&mut session.rng);
+                Aside::of_words(&words).any(session, self.calls, 3)
+            }
+            _ => Ok(()),
+        }
+    }
+
+    fn copy(&self) -> Aside {
+        Aside {
+            pair: Pair::new(self.pair.words()),
+            steps: self.steps(),
+        }
+    }
+
+    /// A copy of the state with words changed, and more calls where it is still well formed.
+    fn damaged(&self, session: &mut Session) -> Outcome<()> {
+        let mut aside = self.copy();
+        for (at, word) in draw::damage(&mut session.rng, self.pair.words()) {
+            aside.set(at, word);
+        }
+        session.tally.damaged += 1;
+        let status = aside.perform(session, Op::Status)?;
+        if status[0] == 0 {
+            session.tally.still_well_formed += 1;
+            let next = self.calls.iter().skip(self.made.len());
+            for call in next.take(1 + session.rng.below(8) as usize) {
+                aside.perform(session, Op::Change(call.clone()))?;
+            }
+        }
+        aside.any(session, self.calls, 2)
+    }
+}

@@ -1,0 +1,135 @@
+//! How often each number of each call was seen, and what the groups did.
+
+use std::fmt::{self, Display, Formatter};
+
+use crate::op::{Op, Reply, NAMES};
+use reference::Call;
+
+const NUMBERS: usize = 16;
+
+/// The numbers that each call can answer, in the order of `Op::row` (document 01, "The questions").
+const POSSIBLE: [&[u32]; 10] = [
+    &[0, 1, 2],
+    &[0, 1, 3, 4, 5, 6, 7, 8, 9, 10, 11, 12, 13, 14],
+    &[0, 1, 3, 4, 5, 6, 7, 8, 9, 10, 11, 12],
+    &[0, 1, 3, 5, 6, 12],
+    &[0, 1, 3, 5, 6, 12],
+    &[0, 1, 3],
+    &[0, 1, 3, 15],
+    &[0, 1, 3, 15],
+    &[0, 1, 3, 15],
+    &[0, 1, 3, 15],
+];
+
+#[derive(Clone, Debug, Default)]
+pub struct Tally {
+    /// Calls compared.
+    pub calls: u64,
+    seen: [[u64; NUMBERS]; NAMES.len()],
+    pub groups: u64,
+    pub replicas: u64,
+    /// Rounds committed by the groups' own calls, and the rounds among them without a leader.
+    pub committed: u64,
+    pub skipped: u64,
+    /// Calls that committed, and those of them that added several leaders.
+    pub commits: u64,
+    pub several_leaders: u64,
+    /// Admitted vertices with a no-vote certificate, and with weak ids.
+    pub no_vote_certificates: u64,
+    pub weak: u64,
+    /// Copies of a state with words changed, and those of them that were still well formed.
+    pub damaged: u64,
+    pub still_well_formed: u64,
+    /// Final states with every cell of the group held, and those of 16 members.
+    pub full: u64,
+    pub full_of_16: u64,
+    /// Lists compared with the model's, and pairs of replicas with one another.
+    pub models: u64,
+    pub pairs: u64,
+}
+
+impl Tally {
+    pub fn see(&mut self, op: &Op, reply: &Reply) {
+        self.calls += 1;
+        if let Some(count) = self.seen[op.row()].get_mut(reply[0] as usize) {
+            *count += 1;
+        }
+    }
+
+    /// Notes what an admitted call of a group's own brought.
+    pub fn admitted(&mut self, call: &Call, leaders: u32) {
+        self.commits += u64::from(leaders > 0);
+        self.several_leaders += u64::from(leaders > 1);
+        if let Call::Vertex(record) = call {
+            self.no_vote_certificates += u64::from(record[4] != 0);
+            self.weak += u64::from(record[6] != 0);
+        }
+    }
+
+    /// Notes a replica's last state: a well formed one.
+    pub fn ended(&mut self, state: &[u32]) {
+        let held: u32 = (0..32).map(|round| state[8 + 6 * round].count_ones()).sum();
+        let full = held == 32 * state[0];
+        self.replicas += 1;
+        self.full += u64::from(full);
+        self.full_of_16 += u64::from(full && state[0] == 16);
+        self.committed += u64::from(state[2]);
+        self.skipped += u64::from(state[2] - state[3]);
+    }
+
+    /// Calls with a number that they can answer and never did.
+    pub fn unseen(&self) -> Vec<(&'static str, u32)> {
+        let missing = |row: usize| {
+            let numbers = POSSIBLE[row].iter().copied();
+            numbers.filter(move |&number| self.seen[row][number as usize] == 0)
+        };
+        (0..NAMES.len())
+            .flat_map(|row| missing(row).map(move |number| (NAMES[row], number)))
+            .collect()
+    }
+
+    fn write_row(&self, out: &mut Formatter, row: usize) -> fmt::Result {
+        write!(out, "{:13}", NAMES[row])?;
+        for number in 0..NUMBERS {
+            let count = self.seen[row][number];
+            if POSSIBLE[row].contains(&(number as u32)) || count > 0 {
+                write!(out, " {count:7}")?;
+            } else {
+                write!(out, " {:>7}", "-")?;
+            }
+        }
+        writeln!(out)
+    }
+}
+
+impl Display for Tally {
+    fn fmt(&self, out: &mut Formatter) -> fmt::Result {
+        write!(out, "{:13}", "number")?;
+        (0..NUMBERS).try_for_each(|number| write!(out, " {number:7}"))?;
+        writeln!(out)?;
+        (0..NAMES.len()).try_for_each(|row| self.write_row(out, row))?;
+        let lines = [
+            ("calls compared", self.calls),
+            ("groups", self.groups),
+            ("replicas", self.replicas),
+            ("rounds committed", self.committed),
+            ("of these without a leader", self.skipped),
+            ("calls that committed", self.commits),
+            ("of these with several leaders", self.several_leaders),
+            (
+                "vertices with a no-vote certificate",
+                self.no_vote_certificates,
+            ),
+            ("vertices with weak ids", self.weak),
+            ("damaged states", self.damaged),
+            ("of these still well formed", self.still_well_formed),
+            ("full states", self.full),
+            ("of these with 16 members", self.full_of_16),
+            ("lists compared with the model's", self.models),
+            ("pairs of replicas compared", self.pairs),
+        ];
+        lines
+            .iter()
+            .try_for_each(|(name, count)| writeln!(out, "{name}: {count}"))
+    }
+}

@@ -1,0 +1,43 @@
+-- What a line does and prints: the call that its command stands for, and the answer's number with the four numbers of the status.
+use mathlib.Core.Bool.{Bool, true, false, cond}
+use mathlib.Core.List.{List, [], _∷_}
+use Prim.Native.Nat.{ℕ}
+use lib.ListN.{getD}
+use Rattle.record.specs.declared.refusal.Refusal.the-variants.{None}
+use Rattle.replica.specs.Outcome.{Outcome, refused}
+use Rattle.replica.specs.Lists.{Head, openState, statusOf}
+use Rattle.ordering.specs.Calls.{takeVertex, takeFirstMessage, takeTimeout, takeNoVote}
+use Rattle.transcript.specs.Text.{answerText, otherText}
+use Rattle.transcript.specs.declared.command.Kind.{Kind}
+use Rattle.transcript.specs.declared.command.Kind.the-variants.{Other, Open, Vertex, First, Timeout, NoVote}
+use Rattle.transcript.specs.declared.command.Command.{Command}
+
+-- a line of another form makes no call
+abbrev pub isOther : Kind → Bool
+isOther Other = true
+isOther Open = false
+isOther Vertex = false
+isOther First = false
+isOther Timeout = false
+isOther NoVote = false
+
+-- the call on a state, with the line's words; none leaves the state as it is
+abbrev pub callFor : Kind → List ℕ → List ℕ → Outcome
+callFor Other words state = refused None state
+callFor Open words state = openState state (getD words 0 0)
+callFor Vertex words state = takeVertex state words
+callFor First words state = takeFirstMessage state words
+callFor Timeout words state = takeTimeout state (getD words 0 0) (getD words 1 0)
+callFor NoVote words state = takeNoVote state (getD words 0 0) (getD words 1 0)
+
+abbrev pub outcomeOf : Command → List ℕ → Outcome
+outcomeOf command state = callFor (command .kind) (command .words) state
+
+-- the four numbers of the status
+abbrev pub statusWords : Head → List ℕ
+statusWords h = h .currentRound ∷ h .committedRound ∷ h .leaderCount ∷ h .journalCount ∷ []
+
+-- the line that is printed
+unfoldable pub replyText : Command → List ℕ → List ℕ
+replyText command state =
+    cond (isOther (command .kind)) otherText (answerText (outcomeOf command state .number) (statusWords (statusOf (outcomeOf command state .words))))

@@ -1,0 +1,5 @@
+pub mod Booleans
+pub mod Numerals
+pub mod Words
+pub mod Digits
+pub mod Claims

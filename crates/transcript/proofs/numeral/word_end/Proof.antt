@@ -1,0 +1,59 @@
+use native.Mathlib.Omega.{arith}
+use mathlib.Core.Path.{_≡_, refl}
+use Prim.Native.Nat.{_≤_, _-_, _+_}
+use lib.ListN.{length, drop}
+use Rattle.transcript.specs.Grammar.{upToSpace}
+use Rattle.transcript.proofs.Words.{word-stop, word-next, word-none}
+use borrow.Author.Needs.{needs}
+use Rattle.transcript.proofs.numeral.word_end.Statement.{statement}
+use Rattle.transcript.proofs.numeral.word_end.Tie as tie
+use Rattle.transcript.proofs.numeral.word_end.Reads as reads
+use Rattle.transcript.proofs.numeral.word_end.Lts as lts
+
+abbrev Inv-loop : tie.InvT-loop
+Inv-loop line from i₀ i = (i ≤ length line) × (i + length (upToSpace (drop i line)) ≡ from + length (upToSpace (drop from line)))
+
+abbrev μ-loop : tie.MeasureT-loop
+μ-loop line from i₀ i = length line - i
+
+-- src/numeral.rt:73:5
+loop-holds : tie.Need-loop-holds Inv-loop μ-loop
+loop-holds c = (omega arith, refl)
+
+-- src/numeral.rt:74:12
+shared-slice-read-if1 : tie.Need-shared-slice-read-if1 Inv-loop μ-loop
+shared-slice-read-if1 c = search needs
+
+-- src/numeral.rt:75:13
+returns : tie.Need-returns Inv-loop μ-loop
+returns c = omega (arith, word-stop (c .before .before .before .before .args .line .now) (c .before .before .before .loop .i) (c .before .before .loop-test .taken) (c .if1 .taken))
+
+-- src/numeral.rt:77:9
+add-i : tie.Need-add-i Inv-loop μ-loop
+add-i c = search needs
+
+-- src/numeral.rt:73:5
+loop-less : tie.Need-loop-less Inv-loop μ-loop
+loop-less c = search needs
+
+-- src/numeral.rt:73:5
+loop-again : tie.Need-loop-again Inv-loop μ-loop
+loop-again c = (omega arith, omega (arith, word-next (c .before .before .before .before .args .line .now) (c .before .before .before .loop .i) (c .before .before .loop-test .taken) (c .if1 .left)))
+
+-- src/numeral.rt:68:1
+returns-2 : tie.Need-returns-2 Inv-loop μ-loop
+returns-2 c = omega (arith, word-none (c .before .before .args .line .now) (c .before .loop .i) (omega arith))
+
+pub word-end-spec : {M : Type 1} → statement M
+word-end-spec =
+    tie.close
+    (tie.spec
+    Inv-loop
+    μ-loop
+    loop-holds
+    shared-slice-read-if1
+    returns
+    add-i
+    loop-less
+    loop-again
+    returns-2)

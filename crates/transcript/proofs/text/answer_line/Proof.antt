@@ -1,0 +1,57 @@
+use native.Mathlib.Omega.{arith}
+use mathlib.Core.Path.{refl}
+use mathlib.Core.List.{[], _∷_}
+use Rattle.transcript.proofs.Digits.{an-answer, items-few, decimal-few}
+use borrow.Author.Needs.{needs}
+use Rattle.transcript.proofs.text.answer_line.Statement.{statement}
+use Rattle.transcript.proofs.text.answer_line.Tie as tie
+use Rattle.transcript.proofs.text.answer_line.Reads as reads
+use Rattle.transcript.proofs.text.answer_line.Lts as lts
+use Rattle.transcript.proofs.text.put_byte.Reads as put-byte-reads
+use Rattle.transcript.proofs.text.put_items.Reads as put-items-reads
+use Rattle.transcript.proofs.text.put_number.Reads as put-number-reads
+
+-- src/text.rt:105:28
+slice-aggregate-put-number : tie.Need-slice-aggregate-put-number
+slice-aggregate-put-number c = search needs
+
+-- src/text.rt:105:9
+put-number-requires : tie.Need-put-number-requires
+put-number-requires c κs = search needs
+
+-- src/text.rt:106:26
+slice-aggregate-put-items : tie.Need-slice-aggregate-put-items
+slice-aggregate-put-items c = search needs
+
+-- src/text.rt:106:45
+slice-aggregate-put-items-2 : tie.Need-slice-aggregate-put-items-2
+slice-aggregate-put-items-2 c = search needs
+
+-- src/text.rt:106:9
+put-items-requires : tie.Need-put-items-requires
+put-items-requires c κs = omega (arith, decimal-few (c .before .before .before .before .before .args .number))
+
+-- src/text.rt:107:24
+slice-aggregate-put-byte : tie.Need-slice-aggregate-put-byte
+slice-aggregate-put-byte c = search needs
+
+-- src/text.rt:107:9
+put-byte-requires : tie.Need-put-byte-requires
+put-byte-requires c κs = omega (arith, decimal-few (c .before .before .before .before .before .before .before .before .args .number), items-few (c .before .before .before .before .before .before .before .before .args .current ∷ c .before .before .before .before .before .before .before .before .args .committed ∷ c .before .before .before .before .before .before .before .before .args .leaders ∷ c .before .before .before .before .before .before .before .before .args .journal ∷ []))
+
+-- src/text.rt:100:1
+returns : tie.Need-returns
+returns c = an-answer _ _ refl refl (c .before .before .before .before .before .before .before .before .put-number .ensures) (c .before .before .before .before .put-items .ensures) (c .before .put-byte .ensures)
+
+pub answer-line-spec : {M : Type 1} → statement M
+answer-line-spec =
+    tie.close
+    (tie.spec
+    slice-aggregate-put-number
+    put-number-requires
+    slice-aggregate-put-items
+    slice-aggregate-put-items-2
+    put-items-requires
+    slice-aggregate-put-byte
+    put-byte-requires
+    returns)

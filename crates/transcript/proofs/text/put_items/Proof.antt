@@ -1,0 +1,81 @@
+use Rattle.transcript.proofs.Digits.{items-all}
+use lib.ListN.{getD}
+use native.Mathlib.Omega.{arith}
+use Prim.Native.Nat.{_≤_, _-_, _+_, _*_}
+use lib.ListN.{length, take}
+use Rattle.transcript.specs.Text.{Appended, items}
+use Rattle.transcript.proofs.Digits.{appended-none, appended-item, items-none, decimal-few}
+use borrow.Author.Needs.{needs}
+use Rattle.transcript.proofs.text.put_items.Statement.{statement}
+use Rattle.transcript.proofs.text.put_items.Tie as tie
+use Rattle.transcript.proofs.text.put_items.Reads as reads
+use Rattle.transcript.proofs.text.put_items.Lts as lts
+use Rattle.transcript.proofs.text.put_byte.Reads as put-byte-reads
+use Rattle.transcript.proofs.text.put_number.Reads as put-number-reads
+
+abbrev Inv-loop : tie.InvT-loop
+Inv-loop out₀ at numbers end₀ i₀ out end i = (i ≤ length numbers) × (end ≤ at + 11 * i) × Appended out₀ at (items (take i numbers)) out end
+
+abbrev μ-loop : tie.MeasureT-loop
+μ-loop out₀ at numbers end₀ i₀ out end i = length numbers - i
+
+-- src/text.rt:91:5
+loop-holds : tie.Need-loop-holds Inv-loop μ-loop
+loop-holds c = (omega arith, omega arith, rw items-none (appended-none _ _))
+
+-- src/text.rt:92:13
+put-byte-requires : tie.Need-put-byte-requires Inv-loop μ-loop
+put-byte-requires c κs = omega arith
+
+-- src/text.rt:93:38
+mul-put-number : tie.Need-mul-put-number Inv-loop μ-loop
+mul-put-number c = search needs
+
+-- src/text.rt:93:38
+shared-slice-read-put-number : tie.Need-shared-slice-read-put-number Inv-loop μ-loop
+shared-slice-read-put-number c = search needs
+
+-- src/text.rt:93:9
+put-number-requires : tie.Need-put-number-requires Inv-loop μ-loop
+put-number-requires c κs = search needs
+
+-- src/text.rt:94:9
+add-i : tie.Need-add-i Inv-loop μ-loop
+add-i c = search needs
+
+-- src/text.rt:91:5
+loop-less : tie.Need-loop-less Inv-loop μ-loop
+loop-less c = search needs
+
+-- src/text.rt:91:5
+loop-again : tie.Need-loop-again Inv-loop μ-loop
+loop-again c = (
+  omega arith,
+  omega (arith, c .before .before .before .before .before .before .before .put-byte .ensures .last, c .before .before .put-number .ensures .last, decimal-few (getD (c .before .before .before .before .before .before .before .before .before .before .before .before .before .args .numbers .now) (c .before .before .before .before .before .before .before .before .before .before .loop .i) 0)),
+  appended-item _ _ _ _ _ _ (c .before .before .before .before .before .before .before .before .before .loop-test .taken) (c .before .before .before .before .before .before .before .before .before .before .loop .inv .2) (c .before .before .before .before .before .before .before .put-byte .ensures) (c .before .before .put-number .ensures),
+)
+
+-- src/text.rt:85:1
+same-length : tie.Need-same-length Inv-loop μ-loop
+same-length c = search needs
+
+-- src/text.rt:85:1
+returns : tie.Need-returns Inv-loop μ-loop
+returns c = items-all _ _ _ _ (c .loop-test .left) (c .before .loop .inv .2)
+
+pub put-items-spec : {M : Type 1} → statement M
+put-items-spec =
+    tie.close
+    (tie.spec
+    Inv-loop
+    μ-loop
+    loop-holds
+    put-byte-requires
+    mul-put-number
+    shared-slice-read-put-number
+    put-number-requires
+    add-i
+    loop-less
+    loop-again
+    same-length
+    returns)

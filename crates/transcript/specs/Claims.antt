@@ -1,0 +1,24 @@
+-- Claims about the grammar and the printed numbers. Each has a term in `proofs/Claims`.
+use mathlib.Core.Path.{_≡_}
+use mathlib.Core.List.{List}
+use Prim.Native.Nat.{ℕ, _≤_, _<_}
+use lib.ListN.{length, take}
+use Rattle.transcript.specs.Grammar.{largest, numeralValue}
+use Rattle.transcript.specs.Commands.{otherForm, commandOf}
+use Rattle.transcript.specs.Text.{decimal}
+
+-- the longest line of the form: a letter, and 12 words of a space and ten digits
+abbrev pub longestLine : ℕ
+longestLine = 133
+
+-- what is printed is a numeral, and is read back
+abbrev pub ReadBack : Type 0
+ReadBack = (n : ℕ) → n ≤ largest → numeralValue (decimal n) ≡ n
+
+-- a longer line is of another form
+abbrev pub LongLines : Type 0
+LongLines = (line : List ℕ) → longestLine < length line → commandOf line ≡ otherForm
+
+-- so whoever reads lines of any length need keep only one byte more
+abbrev pub KeptLines : Type 0
+KeptLines = (line : List ℕ) (kept : ℕ) → longestLine < kept → commandOf (take kept line) ≡ commandOf line

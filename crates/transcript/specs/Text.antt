@@ -1,0 +1,53 @@
+-- Lines of output, as lists of bytes.
+use mathlib.Core.Path.{_≡_}
+use mathlib.Core.Bool.{cond}
+use mathlib.Core.List.{List, [], _∷_, _++_}
+use Prim.Native.Nat.{ℕ, zero, suc, _+_, _/_, _%_, _≤_}
+use lib.Dec.{eqb, ltb}
+use lib.ListN.{length, take}
+use Rattle.transcript.specs.Grammar.{space, zeroDigit}
+
+abbrev pub lineFeed : ℕ
+lineFeed = 10
+
+-- the last k digits of n, without leading zeros
+unfoldable pub digitsFrom : ℕ → ℕ → List ℕ
+digitsFrom zero n = []
+digitsFrom (suc k) n = cond (eqb n 0) [] (digitsFrom k (n / 10) ++ (zeroDigit + n % 10) ∷ [])
+
+-- a 32-bit number in decimal: it has ten digits at most
+unfoldable pub decimal : ℕ → List ℕ
+decimal n = cond (eqb n 0) (zeroDigit ∷ []) (digitsFrom 10 n)
+
+-- numbers, each after a space
+unfoldable pub items : List ℕ → List ℕ
+items [] = []
+items (n ∷ s) = (space ∷ decimal n) ++ items s
+
+-- an answer's number and the four numbers of the status
+abbrev pub answerText : ℕ → List ℕ → List ℕ
+answerText number status = decimal number ++ items status ++ lineFeed ∷ []
+
+-- `?`, for a line of another form
+abbrev pub otherText : List ℕ
+otherText = 63 ∷ lineFeed ∷ []
+
+-- a list of ids after its letter
+abbrev pub listText : ℕ → List ℕ → List ℕ
+listText letter ids = (letter ∷ items ids) ++ lineFeed ∷ []
+
+-- the same where the buffer has room for 11 bytes an id and 11 more, and else nothing
+abbrev pub listWithin : ℕ → ℕ → List ℕ → List ℕ
+listWithin room letter ids = cond (ltb (length ids) (room / 11)) (listText letter ids) []
+
+-- `after` has `text` from index `at` up to `end`, and before it what `before` had there
+pub record Appended (before : List ℕ) (at : ℕ) (text : List ℕ) (after : List ℕ) (end : ℕ) : Type 0 where
+  pub size : length after ≡ length before
+  pub last : end ≡ at + length text
+  pub held : take end after ≡ take at before ++ text
+
+-- text stands at the start of a buffer, up to `end`
+pub record Starts (text buffer : List ℕ) (end : ℕ) : Type 0 where
+  pub fits : end ≤ length buffer
+  pub counted : end ≡ length (take end buffer)
+  pub held : take end buffer ≡ text

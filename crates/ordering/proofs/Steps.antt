@@ -12,7 +12,7 @@ use lib.ListN.{getD, set, take, drop, length, length-set, length-drop}
 use lib.Seq.{getD-set-same, getD-set-other}
 use borrow.Author.Tests.{lt-ltb, le-ltb, le-leb, lt-leb, eq-eqb}
 use Rattle.record.specs.Below.{any, count, select, least}
-use Rattle.record.specs.Members.{quorum, leader, has, add, meets, idRound, idMember}
+use Rattle.record.specs.Members.{quorum, leader, has, add, meets, idOf, idRound, idMember}
 use Rattle.record.specs.Layout.{strongOf}
 use Rattle.record.specs.Questions.{roundOk}
 use Rattle.record.proofs.Booleans.{which, never, and-both, and-left, and-right, and-fails-left, and-fails-right, or-left, or-right, or-cases, bool-ext, cond-true, cond-false}
@@ -20,11 +20,14 @@ use Rattle.record.proofs.Below.{count-cong, count-le, least-none, least-at, any
 use Rattle.record.proofs.Masks.{leader-lt, has-zero, has-one, has-bound, meets-count, has-add}
 use Rattle.protocol.specs.Dag.{Records, Dag, present, held, votes, enough, committed}
 use Rattle.protocol.specs.Chain.{leaderId}
+use Rattle.protocol.proofs.History.{id-round, id-member}
 use Rattle.replica.specs.Layout.{cellAt, orderedAt}
 use Rattle.replica.specs.State.{memberCount, committedRound, leaderCount, journalCount, heldMask, heardMask, votesMask, orderedMask, cell, vertices, firsts, dag, orderedId}
+use Rattle.replica.specs.WellFormed.{subset}
+use Rattle.replica.proofs.Laws.{subset-has}
 use Rattle.replica.proofs.Parents.{round-in}
 use Rattle.ordering.specs.Commit.{appendLeader, appendLeaders, enter, enterAll, committable, lowest}
-use Rattle.ordering.specs.Standing.{Standing, Room, orderId}
+use Rattle.ordering.specs.Standing.{Standing, Room, orderId, orderRound}
 use Rattle.ordering.proofs.Laws.{strong-word}
 
 -- a cell that lies within the state is a record's body
@@ -118,6 +121,28 @@ order-old l mask y e = sym (cond-false _ _ (and-fails-right (has mask (idMember 
 pub order-new : (l : List ℕ) (mask y : ℕ) → has mask (idMember y) ≡ true → orderedId l y ≡ false → enter l y ≡ orderId l mask y
 unfolding orderId
 order-new l mask y e d = sym (cond-true _ _ (and-both e (ap not d)))
+
+-- a round's ids, a member at a time
+pub round-none : (l : List ℕ) (mask r : ℕ) → l ≡ orderRound l mask r 0
+unfolding orderRound
+round-none l mask r = refl
+
+pub round-more : (l : List ℕ) (mask r p : ℕ) → orderId (orderRound l mask r p) mask (idOf r p) ≡ orderRound l mask r (p + 1)
+unfolding orderRound
+round-more l mask r p = rw (add-one p)
+
+-- a round with nothing new changes nothing
+pub round-old : (l : List ℕ) (mask r k : ℕ) → 1 ≤ r → r ≤ 32 → k ≤ 16 → subset mask (orderedMask l r) ≡ true → l ≡ orderRound l mask r k
+unfolding orderRound
+round-old l mask r zero low high few e = refl
+round-old l mask r (suc k) low high few e =
+    go (which (has mask k)) ∙ ap (λ (x : List ℕ). orderId x mask (idOf r k)) (round-old l mask r k low high (omega arith) e)
+  where
+    go : (has mask k ≡ true) ⊎ (has mask k ≡ false) → l ≡ orderId l mask (idOf r k)
+    go (inl h) =
+        let old = and-both (round-in r low high) (subset-has mask (orderedMask l r) k e h) in
+        order-old l mask (idOf r k) (rw (id-round r k (omega arith), id-member r k (omega arith)) old)
+    go (inr h) = order-out l mask (idOf r k) (rw (id-member r k (omega arith)) h)
 
 pub enter-none : (l : List ℕ) → l ≡ enterAll l []
 unfolding enterAll

@@ -2,7 +2,7 @@
 use mathlib.Core.Path.{_≡_}
 use mathlib.Core.Bool.{true, cond, not, _&&_}
 use mathlib.Core.List.{List}
-use Prim.Native.Nat.{ℕ, _+_, _-_, _^_, _≤_, _<_}
+use Prim.Native.Nat.{ℕ, zero, suc, _+_, _-_, _^_, _≤_, _<_}
 use lib.Dec.{eqb}
 use lib.ListN.{length, getD}
 use Rattle.record.specs.Below.{count}
@@ -33,6 +33,11 @@ Room l = journalCount l ≤ count idLimit (orderedId l)
 -- the vertex with the id y joins the journal if the mask has its member and it is not yet ordered
 unfoldable pub orderId : List ℕ → ℕ → ℕ → List ℕ
 orderId l mask y = cond (has mask (idMember y) && not (orderedId l y)) (enter l y) l
+
+-- so for the vertices of round r and the members below k, by rising member
+unfoldable pub orderRound : List ℕ → ℕ → ℕ → ℕ → List ℕ
+orderRound l mask r zero = l
+orderRound l mask r (suc k) = orderId (orderRound l mask r k) mask (idOf r k)
 
 -- the j-th parent of a body of round r: weak ids are group 0, strong bits group 1; 0 where the bit is not set
 unfoldable pub parentAt : ℕ → List ℕ → ℕ → ℕ → ℕ

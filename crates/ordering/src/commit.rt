@@ -9,7 +9,7 @@ ghost use Rattle.protocol.specs.Dag.{held, votes, committed};
 ghost use Rattle.replica.specs.Layout.{stateSize};
 ghost use Rattle.replica.specs.State.{memberCount, committedRound, leaderCount, journalCount, vertices, dag, orderedId};
 ghost use Rattle.ordering.specs.Commit.{appendLeader, appendLeaders, enter, orderLeader, orderLeaders, commit, committable, lowest, commitAll};
-ghost use Rattle.ordering.specs.Standing.{Standing, Room, orderId};
+ghost use Rattle.ordering.specs.Standing.{Standing, Room, orderId, orderRound};
 use super::history::history_of;
 use super::walk::taken_rounds;
 use record::members::Members;
@@ -22,10 +22,12 @@ use replica::layout::JOURNAL_COUNT;
 use replica::layout::LEADER_COUNT;
 use replica::layout::LEADERS;
 use replica::layout::ORDERED;
+use replica::layout::SLOTS;
 use replica::layout::cell_at;
 use replica::layout::held_mask;
 use replica::layout::is_ordered;
 use replica::layout::masks_at;
+use replica::layout::ordered_mask;
 use replica::layout::votes_mask;
 use replica::layout::wide;
 
@@ -138,17 +140,31 @@ fn order_id(state: &mut [u32], n: u32, mask: u32, id: u32)
     enter_id(state, id);
 }
 
-// The history of the round's leader that is not yet ordered joins the journal, by rising id.
+// The vertices of the round in the mask that are not yet ordered join the journal, by rising member.
+fn order_round(state: &mut [u32], n: u32, mask: u32, round: u32)
+    requires { ⌜ (length (now state) ≡ stateSize) × (1 ≤ round) × (round ≤ 32) × Room (now state) ⌝ }
+    ensures { λ _. ⌜ now (state .exit) ≡ orderRound (now (state .entry)) mask round 16 ⌝ }
+{
+    if mask & ordered_mask(state, round) == mask {
+        return;
+    }
+    let mut p: u32 = 0;
+    while p < SLOTS {
+        order_id(state, n, mask, 16 * round + p);
+        p += 1;
+    }
+}
+
+// The history of the round's leader that is not yet ordered joins the journal, by rising id. It has nothing above that round.
 fn order_leader(state: &mut [u32], n: u32, round: u32)
     requires { ⌜ Standing (now state) × Room (now state) × (n ≡ memberCount (now state)) × (1 ≤ round) × (round ≤ 31) × (held (vertices (now state)) round (leader n round) ≡ true) ⌝ }
     ensures { λ _. ⌜ now (state .exit) ≡ orderLeader (vertices (now (state .entry))) (now (state .entry)) round ⌝ }
 {
     let masks = history_of(state, n, round, leader_of(n, round));
-    let mut id: u32 = 16;
-    while id < 528 {
-        let mask = masks[wide(id / 16 - 1)];
-        order_id(state, n, mask, id);
-        id += 1;
+    let mut r: u32 = 0;
+    while r < round {
+        order_round(state, n, masks[wide(r)], r + 1);
+        r += 1;
     }
 }
 

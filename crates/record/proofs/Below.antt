@@ -3,12 +3,14 @@ use mathlib.Core.Path.{_≡_, refl, sym, ap, ap₂, _∙_}
 use mathlib.Core.Bool.{Bool, true, false, cond, not, _&&_, _||_, true≢false, false≢true}
 use mathlib.Core.Logic.{_⊎_, inl, inr, ⊎-elim}
 use mathlib.Core.List.{List, [], _∷_, _++_}
-use Prim.Native.Nat.{ℕ, zero, suc, _+_, _*_, _≤_, _<_}
+use Prim.Native.Nat.{ℕ, zero, suc, _+_, _-_, _*_, _≤_, _<_}
 use native.Mathlib.Nat.{eq-or-lt-of-le, le-of-suc-le-suc, not-suc-le-zero}
 use native.Mathlib.Numerals.{add-one}
 use native.Mathlib.Omega.{arith}
+use lib.Dec.{ltb}
+use borrow.Author.Tests.{ltb-true, ltb-false}
 use Rattle.record.specs.Below.{all, any, count, select, least}
-use Rattle.record.proofs.Booleans.{which, and-left, and-right, and-both, and-fails-left, and-fails-right, or-cases, or-left, or-right, cond-true, cond-false}
+use Rattle.record.proofs.Booleans.{which, and-left, and-right, and-both, and-fails-left, and-fails-right, or-cases, or-left, or-right, bool-ext, cond-true, cond-false}
 
 -- ---- all
 
@@ -42,6 +44,24 @@ pub all-cong : (k : ℕ) (s t : ℕ → Bool) → ((i : ℕ) → i < k → s i �
 unfolding all
 all-cong zero s t h = refl
 all-cong (suc k) s t h = ap₂ _&&_ (all-cong k s t (λ i l. h i (omega arith))) (h k (omega arith))
+
+-- two tests at once, and the numbers below a + b as those below a and b more
+pub all-and : (k : ℕ) (s t : ℕ → Bool) → all k (λ i. s i && t i) ≡ (all k s && all k t)
+all-and k s t = bool-ext
+    (λ e. and-both (all-intro k s (λ i l. and-left (s i) (t i) (all-elim k (λ i. s i && t i) e i l))) (all-intro k t (λ i l. and-right (s i) (t i) (all-elim k (λ i. s i && t i) e i l))))
+    (λ e. all-intro k (λ i. s i && t i) (λ i l. and-both (all-elim k s (and-left (all k s) (all k t) e) i l) (all-elim k t (and-right (all k s) (all k t) e) i l)))
+
+pub all-join : (a b : ℕ) (t : ℕ → Bool) → all (a + b) t ≡ (all a t && all b (λ i. t (a + i)))
+all-join a b t = bool-ext
+    (λ e. and-both (all-intro a t (λ i l. all-elim (a + b) t e i (omega arith))) (all-intro b (λ i. t (a + i)) (λ i l. all-elim (a + b) t e (a + i) (omega arith))))
+    (λ e. all-intro (a + b) t (λ i l. go e i l (which (ltb i a))))
+  where
+    go : (all a t && all b (λ i. t (a + i))) ≡ true → (i : ℕ) → i < a + b → (ltb i a ≡ true) ⊎ (ltb i a ≡ false) → t i ≡ true
+    go e i l (inl h) = all-elim a t (and-left (all a t) _ e) i (ltb-true i a h)
+    go e i l (inr h) =
+        let low : a ≤ i = ltb-false i a h in
+        let k : a + (i - a) ≡ i = omega arith in
+        ap t (sym k) ∙ all-elim b (λ i. t (a + i)) (and-right (all a t) _ e) (i - a) (omega arith)
 
 -- ---- any
 

@@ -180,6 +180,16 @@ pub lt-within : (n m : ℕ) → m < 2 ^ n → within n m ≡ true
 unfolding within
 lt-within n m l = lt-ltb m (2 ^ n) l
 
+-- two words joined are 0 exactly if both are
+pub or-zero : (a b : ℕ) → eqb (bitOr a b) 0 ≡ (eqb a 0 && eqb b 0)
+or-zero a b =
+    bool-ext
+    (λ e. let z : bitOr a b ≡ 0 = eqb-true (bitOr a b) 0 e in
+    and-both (eq-eqb a 0 (omega (arith, or-add-and a b, and-le-r a b))) (eq-eqb b 0 (omega (arith, or-add-and a b, and-le-l a b))))
+    (λ e. let p : a ≡ 0 = eqb-true a 0 (and-left _ _ e) in
+    let q : b ≡ 0 = eqb-true b 0 (and-right (eqb a 0) _ e) in
+    eq-eqb (bitOr a b) 0 (omega (arith, or-add-and a b)))
+
 -- joined masks are within n members exactly if each is
 pub within-or : (n a b : ℕ) → within n (bitOr a b) ≡ (within n a && within n b)
 within-or n a b =

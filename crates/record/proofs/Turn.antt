@@ -102,7 +102,7 @@ used n round body e i l h =
     let s : slotOk n round body i ≡ true = all-elim 5 (slotOk n round body) (and-right (leb (weakCountOf body) (faulty n)) _ e) i l in
     sym (cond-true (rises body i && weakIdOk n round (weakOf body i)) (eqb (weakOf body i) 0) (lt-ltb i (weakCountOf body) h)) ∙ s
 
-weak-id : (n round x : ℕ) → weakIdOk n round x ≡ true → (idMember x < n) × (1 ≤ idRound x) × (idRound x + 2 ≤ round)
+pub weak-id : (n round x : ℕ) → weakIdOk n round x ≡ true → (idMember x < n) × (1 ≤ idRound x) × (idRound x + 2 ≤ round)
 unfolding weakIdOk
 weak-id n round x e =
     let rest : (leb 1 (idRound x) && leb (idRound x + 2) round) ≡ true = and-right (ltb (idMember x) n) _ e in

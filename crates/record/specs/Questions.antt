@@ -40,6 +40,11 @@ timeoutsOk n round body = quorumIf n (lacksLeader n round (strongOf body)) (time
 unfoldable pub noVotesOk : ℕ → ℕ → ℕ → List ℕ → Bool
 noVotesOk n round source body = quorumIf n (lacksLeader n round (strongOf body) && eqb source (leader n round)) (noVotesOf body)
 
+-- 7 to 10 together: what is asked of the three masks
+unfoldable pub masksAdmitted : ℕ → ℕ → ℕ → List ℕ → Bool
+masksAdmitted n round source body =
+    masksOk n body && (strongOk n round (strongOf body) && (timeoutsOk n round body && noVotesOk n round source body))
+
 -- a weak id is of a member below n, and of a round from 1 to the record's round less 2
 unfoldable pub weakIdOk : ℕ → ℕ → ℕ → Bool
 weakIdOk n round x = ltb (idMember x) n && (leb 1 (idRound x) && leb (idRound x + 2) round)

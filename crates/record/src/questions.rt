@@ -4,8 +4,8 @@ ghost use mathlib.Core.Bool.{_&&_};
 ghost use Prim.Native.Nat.{_<_, _≤_};
 ghost use lib.Dec.{eqb};
 ghost use lib.ListN.{length};
-ghost use Rattle.record.specs.Members.{within};
-ghost use Rattle.record.specs.Questions.{roundOk, strongOk, lacksLeader, quorumIf, weakIdOk, rises, slotOk, weakOk, bodyRefusal, recordRefusal, termsOf};
+ghost use Rattle.record.specs.Members.{within, meets};
+ghost use Rattle.record.specs.Questions.{roundOk, strongOk, lacksLeader, quorumIf, masksAdmitted, weakIdOk, rises, slotOk, weakOk, bodyRefusal, recordRefusal, termsOf};
 use super::layout::BODY;
 use super::layout::BODY_SIZE;
 use super::layout::NO_VOTES;
@@ -175,8 +175,42 @@ fn weak_ok(n: u32, round: u32, body: &[u32]) -> bool
     true
 }
 
+// 7, 9 and 10, of masks that lack the previous leader.
+fn certificates_ok(terms: Terms, source: u32, strong: u32, timeouts: u32, no_votes: u32) -> bool
+    ensures { λ r. ⌜ r ≡ ((within (terms .n) strong && (within (terms .n) timeouts && within (terms .n) «no_votes»)) && (meets (terms .n) timeouts && quorumIf (terms .n) (eqb source (terms .leader)) «no_votes»)) ⌝ }
+{
+    if !masks_ok(terms.n, strong, timeouts, no_votes) {
+        return false;
+    }
+    if !quorum_if(terms.n, true, timeouts) {
+        return false;
+    }
+    no_votes_ok(terms, source, true, no_votes)
+}
+
+// Whether 7 to 10 are all answered yes, of a body of which 4 to 6 are known to be, with the round's terms. Most masks have the
+// previous leader: for them the other two masks are tested at once.
+pub fn masks_admitted(terms: Terms, round: u32, source: u32, body: &[u32]) -> bool
+    requires { ⌜ (terms ≡ termsOf (terms .n) round) × (1 ≤ round) × (round ≤ 32) × (length (now body) ≡ 10) ⌝ }
+    ensures { λ r. ⌜ r ≡ masksAdmitted (terms .n) round source (now (body .entry)) ⌝ }
+{
+    let strong = body[STRONG];
+    let timeouts = body[TIMEOUTS];
+    let no_votes = body[NO_VOTES];
+    if !strong_ok(terms.n, round, strong) {
+        return false;
+    }
+    if lacks_leader(terms, round, strong) {
+        return certificates_ok(terms, source, strong, timeouts, no_votes);
+    }
+    if timeouts | no_votes != 0 {
+        return false;
+    }
+    is_within(terms.n, strong)
+}
+
 // 7 to 11 in turn, of a body of which 4 to 6 are known to be answered yes, with the round's terms.
-pub fn check_known(terms: Terms, round: u32, source: u32, body: &[u32]) -> Refusal
+fn check_known(terms: Terms, round: u32, source: u32, body: &[u32]) -> Refusal
     requires { ⌜ (terms ≡ termsOf (terms .n) round) × (1 ≤ round) × (round ≤ 32) × (source < terms .n) × (length (now body) ≡ 10) ⌝ }
     ensures { λ r. ⌜ r ≡ bodyRefusal (terms .n) round source (now (body .entry)) ⌝ }
 {

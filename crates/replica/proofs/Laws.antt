@@ -5,7 +5,7 @@ use mathlib.Core.List.{List}
 use Prim.Native.Nat.{ℕ, _+_, _^_, _≤_, _<_}
 use native.Mathlib.Numerals.{add-one}
 use native.Mathlib.Omega.{arith}
-use lib.Bits.{bitOr, bitAnd, or-add-and, and-le-l, and-le-r}
+use lib.Bits.{bitOr, bitAnd, and-le-l}
 use lib.Dec.{eqb}
 use lib.ListN.{length, getD, take, drop, length-drop}
 use lib.Seq.{length-take-le, getD-take, getD-drop}
@@ -14,20 +14,10 @@ use Rattle.record.specs.Below.{all}
 use Rattle.record.specs.Members.{has, within}
 use Rattle.record.proofs.Booleans.{and-left, and-right, and-both, bool-ext}
 use Rattle.record.proofs.Below.{all-cong}
-use Rattle.record.proofs.Masks.{has-and, mask-ext, within-lt, within-or}
+use Rattle.record.proofs.Masks.{or-zero, has-and, mask-ext, within-lt, within-or}
 use Rattle.replica.specs.WellFormed.{subset}
 
 -- ---- words that are zero
-
--- two words joined are 0 exactly if both are
-pub or-zero : (a b : ℕ) → eqb (bitOr a b) 0 ≡ (eqb a 0 && eqb b 0)
-or-zero a b =
-    bool-ext
-    (λ e. let z : bitOr a b ≡ 0 = eqb-true (bitOr a b) 0 e in
-    and-both (eq-eqb a 0 (omega (arith, or-add-and a b, and-le-r a b))) (eq-eqb b 0 (omega (arith, or-add-and a b, and-le-l a b))))
-    (λ e. let p : a ≡ 0 = eqb-true a 0 (and-left _ _ e) in
-    let q : b ≡ 0 = eqb-true b 0 (and-right (eqb a 0) _ e) in
-    eq-eqb (bitOr a b) 0 (omega (arith, or-add-and a b)))
 
 pub all-suc : (i : ℕ) (t : ℕ → Bool) → all (i + 1) t ≡ (all i t && t i)
 unfolding all

@@ -4,6 +4,7 @@ pub mod Parents
 pub mod Cells
 pub mod Calls
 pub mod Words
+pub mod Weak
 pub mod Marks
 pub mod Sound
 pub mod Dags

@@ -20,7 +20,7 @@ use Rattle.record.proofs.Turn.{round-range}
 use Rattle.protocol.specs.Journal.{idLimit, among}
 use Rattle.replica.specs.State.{memberCount, journalCount, orderedMask, journalWord, journalList, orderedId}
 use Rattle.replica.specs.WellFormed.{eachRound, masksWithin, entryOk, journalOk}
-use Rattle.replica.proofs.Words.{id-same, ordered-id, masks-small, legal-pow, journal-length, journal-at, journal-whole, among-none, among-more, among-index}
+use Rattle.replica.proofs.Words.{id-same, ordered-id, masks-small, legal-pow, journal-length, journal-at, journal-whole, among-none, among-more, among-index, index-among}
 
 -- the marks after i entries: bit p of mask r is set if the id of round r + 1 and member p is among them
 pub record Marked (l : List ℕ) (i : ℕ) (marks : List ℕ) : Type 0 where
@@ -89,13 +89,25 @@ marked-more l i marks x at e f h ex m a b d = record {
 
 -- ---- one entry
 
-pub entry-ok : (l : List ℕ) (i : ℕ) → orderedId l (journalWord l i) ≡ true → among (take i (journalList l)) (journalWord l i) ≡ false → entryOk l i ≡ true
-unfolding entryOk
-entry-ok l i a b = and-both a (ap not b)
+-- it is an id, and no entry before it is the same
+pub newId : List ℕ → ℕ → Bool
+newId l i = roundOk (idRound (journalWord l i)) && not (among (take i (journalList l)) (journalWord l i))
 
-pub entry-strange : (l : List ℕ) (i : ℕ) → orderedId l (journalWord l i) ≡ false → entryOk l i ≡ false
+pub entry-new : (l : List ℕ) (i : ℕ) → roundOk (idRound (journalWord l i)) ≡ true → among (take i (journalList l)) (journalWord l i) ≡ false → newId l i ≡ true
+unfolding newId
+entry-new l i a b = and-both a (ap not b)
+
+-- a new id is as it should be if it is ordered
+pub new-ordered : (l : List ℕ) (i : ℕ) → newId l i ≡ true → (roundOk (idRound (journalWord l i)) ≡ true → has (orderedMask l (idRound (journalWord l i))) (idMember (journalWord l i)) ≡ true)
+    → entryOk l i ≡ true
+unfolding newId entryOk
+new-ordered l i e h =
+    let a = and-left (roundOk (idRound (journalWord l i))) _ e in
+    and-both (and-both a (h a)) (and-right (roundOk (idRound (journalWord l i))) _ e)
+
+pub entry-strange : (l : List ℕ) (i : ℕ) → roundOk (idRound (journalWord l i)) ≡ false → entryOk l i ≡ false
 unfolding entryOk
-entry-strange l i a = and-fails-left (not (among (take i (journalList l)) (journalWord l i))) a
+entry-strange l i a = and-fails-left (not (among (take i (journalList l)) (journalWord l i))) (and-fails-left _ a)
 
 pub entry-twice : (l : List ℕ) (i : ℕ) → among (take i (journalList l)) (journalWord l i) ≡ true → entryOk l i ≡ false
 unfolding entryOk
@@ -135,12 +147,12 @@ among-ordered l y e f h a =
     let z : journalWord l (w .0) ≡ y = sym (journal-at l (w .0) k) ∙ w .2 in
     rw z at (entry-ordered l (w .0) (all-elim (journalCount l) (entryOk l) h (w .0) k))
 
--- the marks of all entries decide
-pub journal-decides : (l marks : List ℕ) → length l ≡ 5864 → legal (memberCount l) ≡ true → eachRound (masksWithin l) ≡ true → journalCount l ≤ 512
+-- where all entries pass, their marks decide
+entries-decide : (l marks : List ℕ) → length l ≡ 5864 → legal (memberCount l) ≡ true → eachRound (masksWithin l) ≡ true → journalCount l ≤ 512
     → all (journalCount l) (entryOk l) ≡ true → Marked l (journalCount l) marks
     → all 32 (λ i. eqb (getD marks i 0) (orderedMask l (i + 1))) ≡ journalOk l
 unfolding journalOk
-journal-decides l marks e g w f h m =
+entries-decide l marks e g w f h m =
     bool-ext there back ∙ sym (both (leb (journalCount l) 512) (all (journalCount l) (entryOk l)) (all idLimit (named l)) (le-leb (journalCount l) 512 f) h)
   where
     both : (a b c : Bool) → a ≡ true → b ≡ true → (a && (b && c)) ≡ c
@@ -174,3 +186,28 @@ journal-decides l marks e g w f h m =
         (mask-ext 16 (getD marks r 0) (orderedMask l (r + 1)) (m .small r b)
         (legal-pow (memberCount l) (orderedMask l (r + 1)) g (masks-small l (r + 1) (all-elim 32 (λ k. masksWithin l (k + 1)) w r b) .ordered))
         (back-at t r b)))
+
+-- the marks of new ids decide
+pub journal-decides : (l marks : List ℕ) → length l ≡ 5864 → legal (memberCount l) ≡ true → eachRound (masksWithin l) ≡ true → journalCount l ≤ 512
+    → all (journalCount l) (newId l) ≡ true → Marked l (journalCount l) marks
+    → all 32 (λ i. eqb (getD marks i 0) (orderedMask l (i + 1))) ≡ journalOk l
+unfolding journalOk
+journal-decides l marks e g w f h m = bool-ext
+    (λ t. sym (entries-decide l marks e g w f (entries t) m) ∙ t)
+    (λ t. entries-decide l marks e g w f (and-left (all (journalCount l) (entryOk l)) _ (and-right (leb (journalCount l) 512) _ t)) m ∙ t)
+  where
+    at-mark : all 32 (λ i. eqb (getD marks i 0) (orderedMask l (i + 1))) ≡ true → (i : ℕ) → i < journalCount l → roundOk (idRound (journalWord l i)) ≡ true
+        → has (orderedMask l (idRound (journalWord l i))) (idMember (journalWord l i)) ≡ true
+    at-mark t i b o =
+        let x = journalWord l i in
+        let q = round-range (idRound x) o in
+        let k : (idRound x - 1) + 1 ≡ idRound x = omega arith in
+        let eq : getD marks (idRound x - 1) 0 ≡ orderedMask l (idRound x - 1 + 1) = eqb-true _ _ (all-elim 32 (λ i. eqb (getD marks i 0) (orderedMask l (i + 1))) t (idRound x - 1) (omega arith)) in
+        ap (λ (z : ℕ). has (orderedMask l z) (idMember x)) (sym k)
+        ∙ ap (λ (z : ℕ). has z (idMember x)) (sym eq)
+        ∙ mark-at l (journalCount l) marks x (idRound x - 1) m (q .0) (q .1) refl
+        ∙ ap (λ (z : List ℕ). among z x) (journal-whole l)
+        ∙ index-among (journalList l) i x (omega (arith, journal-length l e f)) (journal-at l i b)
+
+    entries : all 32 (λ i. eqb (getD marks i 0) (orderedMask l (i + 1))) ≡ true → all (journalCount l) (entryOk l) ≡ true
+    entries t = all-intro (journalCount l) (entryOk l) (λ i b. new-ordered l i (all-elim (journalCount l) (newId l) h i b) (at-mark t i b))

@@ -1,22 +1,26 @@
 -- Laws of the parents of an admitted record, and when all of them are held. Assumes nothing.
 use mathlib.Core.Path.{_≡_, refl, sym, ap, _∙_}
-use mathlib.Core.Bool.{Bool, true, false, not, _&&_, true≢false}
+use mathlib.Core.Bool.{Bool, true, false, not, _&&_, _||_, true≢false}
 use mathlib.Core.Logic.{_⊎_, inl, inr, ⊎-elim}
 use mathlib.Core.List.{List}
 use Prim.Native.Nat.{ℕ, _+_, _-_, _^_, _≤_, _<_}
 use native.Mathlib.Nat.{lt-of-lt-of-le}
 use native.Mathlib.Omega.{arith}
-use lib.Dec.{eqb}
+use lib.Dec.{eqb, leb, ltb}
+use lib.ListN.{length}
 use lib.Pow.{pow-mono}
-use borrow.Author.Tests.{eqb-true, eq-eqb, le-leb, not-true, not-false}
+use borrow.Author.Tests.{eqb-true, eq-eqb, le-leb, lt-leb, leb-true, lt-ltb, ltb-true, ltb-false, not-true, not-false}
 use Rattle.record.specs.Below.{all, any}
 use Rattle.record.specs.Members.{legal, has, idOf, idRound, idMember}
 use Rattle.record.specs.Layout.{strongOf, weakCountOf, weakOf}
-use Rattle.record.specs.Questions.{roundOk}
+use Rattle.record.specs.Refusals.{numberOf}
+use Rattle.record.specs.Questions.{roundOk, masksAdmitted, weakOk, bodyRefusal}
 use Rattle.record.specs.Admitted.{Admitted}
-use Rattle.record.proofs.Booleans.{never, and-left, and-right, and-both, or-left, or-right, or-cases, bool-ext}
+use Rattle.record.proofs.Booleans.{which, never, and-left, and-right, and-both, and-fails-left, or-left, or-right, or-cases, bool-ext}
 use Rattle.record.proofs.Below.{all-intro, all-elim, any-intro, any-elim, any-false, any-off}
 use Rattle.record.proofs.Masks.{has-zero, legal-range}
+use Rattle.record.proofs.Turn.{admitted}
+use Rattle.record.proofs.Parts.{admitted-parts}
 use Rattle.protocol.specs.Journal.{idLimit}
 use Rattle.replica.specs.State.{heldMask, heldId}
 use Rattle.replica.specs.WellFormed.{subset, isParent, missing, parentsHeld}
@@ -25,6 +29,17 @@ use Rattle.replica.proofs.Laws.{subset-has, has-subset}
 pub round-in : (r : ℕ) → 1 ≤ r → r ≤ 32 → roundOk r ≡ true
 unfolding roundOk
 round-in r l h = and-both (le-leb 1 r l) (le-leb r 32 h)
+
+-- the ids are the numbers from 16 to 527
+pub id-low : (x : ℕ) → x < 16 → roundOk (idRound x) ≡ false
+unfolding roundOk
+id-low x h = and-fails-left _ (lt-leb 1 (idRound x) (omega arith))
+
+pub id-test : (x : ℕ) → 16 ≤ x → ltb x 528 ≡ roundOk (idRound x)
+unfolding roundOk
+id-test x h = bool-ext
+    (λ e. and-both (le-leb 1 (idRound x) (omega arith)) (le-leb (idRound x) 32 (omega (arith, ltb-true x 528 e))))
+    (λ e. lt-ltb x 528 (omega (arith, leb-true (idRound x) 32 (and-right (leb 1 (idRound x)) _ e))))
 
 -- ---- who is a parent
 
@@ -107,3 +122,47 @@ module _ (n r p : ℕ) (l body : List ℕ) (group : legal n ≡ true) (a : Admit
       strong-in e y q h =
           let x : r - 1 ≡ idRound y = omega arith in
           and-both (round-in (idRound y) (omega arith) (omega (arith, a .round-high))) (rw x at (subset-has (strongOf body) (heldMask l (r - 1)) (idMember y) e h))
+
+-- ---- of a record of which questions 4 to 6 are answered yes
+
+module _ (n r p : ℕ) (l body : List ℕ) (group : legal n ≡ true) (low : 1 ≤ r) (high : r ≤ 32) (member : p < n) (size : length body ≡ 10) where
+  -- its masks are refused
+  pub masks-refused : masksAdmitted n r p body ≡ false → (eqb (numberOf (bodyRefusal n r p body)) 0 && parentsHeld l r body) ≡ false
+  masks-refused e = and-fails-left (parentsHeld l r body) (admitted-parts n r p body low high member size ∙ and-fails-left (weakOk n r body) e)
+
+  -- or they are admitted: the strong parents and the weak ids decide
+  pub masks-passed : masksAdmitted n r p body ≡ true
+      → ((ltb r 2 || subset (strongOf body) (heldMask l (r - 1))) && (weakOk n r body && all (weakCountOf body) (λ i. heldId l (weakOf body i))))
+      ≡ (eqb (numberOf (bodyRefusal n r p body)) 0 && parentsHeld l r body)
+  masks-passed e = bool-ext there back
+    where
+      strong : Bool
+      strong = ltb r 2 || subset (strongOf body) (heldMask l (r - 1))
+
+      weak : Bool
+      weak = all (weakCountOf body) (λ i. heldId l (weakOf body i))
+
+      passes : eqb (numberOf (bodyRefusal n r p body)) 0 ≡ weakOk n r body
+      passes = admitted-parts n r p body low high member size ∙ rw e
+
+      none : Admitted n r p body → r < 2 → weak ≡ true
+      none a f = all-intro (weakCountOf body) (λ i. heldId l (weakOf body i)) (λ i b.
+          absurd (omega (arith, weak-five n r p l body group a, a .weak-high i (omega (arith, weak-five n r p l body group a)) b)))
+
+      held-by : Admitted n r p body → (ltb r 2 ≡ true) ⊎ (ltb r 2 ≡ false) → parentsHeld l r body ≡ (strong && weak)
+      held-by a (inl f) = first-held n r p l body group a (ltb-true r 2 f) ∙ sym (and-both (or-left _ f) (none a (ltb-true r 2 f)))
+      held-by a (inr f) = later-held n r p l body group a (ltb-false r 2 f) ∙ ap (λ (b : Bool). (b || subset (strongOf body) (heldMask l (r - 1))) && weak) (sym f)
+
+      there : (strong && (weakOk n r body && weak)) ≡ true → (eqb (numberOf (bodyRefusal n r p body)) 0 && parentsHeld l r body) ≡ true
+      there d =
+          let w = and-right strong _ d in
+          let z = passes ∙ and-left (weakOk n r body) _ w in
+          let a = admitted n r p body (eqb-true _ 0 z) in
+          and-both z (held-by a (which (ltb r 2)) ∙ and-both (and-left strong _ d) (and-right (weakOk n r body) _ w))
+
+      back : (eqb (numberOf (bodyRefusal n r p body)) 0 && parentsHeld l r body) ≡ true → (strong && (weakOk n r body && weak)) ≡ true
+      back d =
+          let z = and-left (eqb (numberOf (bodyRefusal n r p body)) 0) _ d in
+          let a = admitted n r p body (eqb-true _ 0 z) in
+          let h = sym (held-by a (which (ltb r 2))) ∙ and-right (eqb (numberOf (bodyRefusal n r p body)) 0) _ d in
+          and-both (and-left strong _ h) (and-both (sym passes ∙ z) (and-right strong _ h))

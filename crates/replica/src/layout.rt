@@ -2,6 +2,8 @@
 ghost use mathlib.Core.Path.{_≡_};
 ghost use Prim.Native.Nat.{_<_, _≤_};
 ghost use lib.ListN.{length};
+ghost use Rattle.record.specs.Members.{idRound};
+ghost use Rattle.record.specs.Questions.{roundOk};
 ghost use Rattle.replica.specs.Layout.{stateSize, masksAt, cellAt};
 ghost use Rattle.replica.specs.State.{heldMask, heardMask, votesMask, timeoutsMask, orderedMask, heldId, orderedId};
 use record::members::Members;
@@ -11,6 +13,9 @@ pub const STATE_SIZE: usize = 5864;
 pub const ROUNDS: u32 = 32;
 
 pub const SLOTS: u32 = 16;
+
+// The words of a round's cells.
+pub const ROUND_SIZE: usize = 160;
 
 // Words 0 to 7.
 pub const MEMBER_COUNT: usize = 0;
@@ -107,6 +112,16 @@ pub fn ordered_mask(state: &[u32], round: u32) -> u32
 {
     let at = masks_at(round);
     state[at + ORDERED]
+}
+
+// The number is the id of a vertex of rounds 1 to 32.
+pub fn is_id(x: u32) -> bool
+    ensures { λ r. ⌜ r ≡ roundOk (idRound x) ⌝ }
+{
+    if x < 16 {
+        return false;
+    }
+    x < 528
 }
 
 // The vertex with the id x is held.

@@ -1,13 +1,14 @@
 // The test of question 3: a function for each clause of well-formedness.
 ghost use mathlib.Core.Path.{_≡_};
-ghost use mathlib.Core.Bool.{true};
-ghost use Prim.Native.Nat.{ℕ, _+_, _<_, _≤_};
-ghost use lib.Dec.{eqb};
+ghost use mathlib.Core.Bool.{true, _&&_, _||_};
+ghost use Prim.Native.Nat.{ℕ, _+_, _-_, _<_, _≤_};
+ghost use lib.Dec.{eqb, ltb};
 ghost use lib.ListN.{length, getD, take, drop};
 ghost use Rattle.record.specs.Below.{all};
-ghost use Rattle.record.specs.Members.{legal, within};
+ghost use Rattle.record.specs.Members.{legal};
 ghost use Rattle.record.specs.Refusals.{numberOf};
-ghost use Rattle.record.specs.Questions.{bodyRefusal, termsOf};
+ghost use Rattle.record.specs.Layout.{weakCountOf, weakOf};
+ghost use Rattle.record.specs.Questions.{weakIdOk, rises, weakOk, bodyRefusal, termsOf};
 ghost use Rattle.replica.specs.Layout.{stateSize};
 ghost use Rattle.replica.specs.State.{memberCount, committedRound, leaderCount, heldMask, heardMask, votesMask, orderedMask, heldId};
 ghost use Rattle.replica.specs.WellFormed.{eachRound, subset, masksWithin, parentsHeld, cellOk, leaderOk, lastLeaderRound, leadersOk, journalOk, restZero, every, clauses, wellFormed};
@@ -25,8 +26,8 @@ use super::layout::LEADERS_SIZE;
 use super::layout::MEMBER_COUNT;
 use super::layout::NO_VOTES;
 use super::layout::ORDERED;
+use super::layout::ROUND_SIZE;
 use super::layout::ROUNDS;
-use super::layout::SLOTS;
 use super::layout::TIMEOUTS;
 use super::layout::VOTES;
 use super::layout::ZEROS;
@@ -34,7 +35,7 @@ use super::layout::cell_at;
 use super::layout::heard_mask;
 use super::layout::held_mask;
 use super::layout::is_held;
-use super::layout::is_ordered;
+use super::layout::is_id;
 use super::layout::masks_at;
 use super::layout::ordered_mask;
 use super::layout::votes_mask;
@@ -43,15 +44,16 @@ use record::layout::BODY_SIZE;
 use record::layout::STRONG;
 use record::layout::WEAK;
 use record::layout::WEAK_COUNT;
+use record::layout::WEAK_SLOTS;
 use record::members::Members;
+use record::members::faulty_of;
 use record::members::is_legal;
 use record::members::is_within;
 use record::members::leader_of;
 use record::members::power;
 use record::questions::Terms;
-use record::questions::check_known;
+use record::questions::masks_admitted;
 use record::questions::terms_of;
-use record::refusal::number;
 
 // Every word of the part is 0. The words are joined before they are tested, so that no word costs a branch.
 fn is_zero(part: &[u32]) -> bool
@@ -145,15 +147,61 @@ fn ordered_held(state: &[u32]) -> bool
     true
 }
 
-// Every weak parent of an admitted body is held.
-fn weak_held(state: &[u32], n: u32, body: &[u32]) -> bool
-    requires { ⌜ (length (now state) ≡ stateSize) × (length (now body) ≡ 10) × (getD (now body) 4 0 ≤ 5) ⌝ }
-    ensures { λ r. ⌜ r ≡ all (getD (now (body .entry)) 4 0) (λ i. heldId (now (state .entry)) (getD (now (body .entry)) (5 + i) 0)) ⌝ }
+// Question 14, of the strong parents.
+fn strong_held(state: &[u32], round: u32, strong: u32) -> bool
+    requires { ⌜ (length (now state) ≡ stateSize) × (1 ≤ round) × (round ≤ 32) ⌝ }
+    ensures { λ r. ⌜ r ≡ (ltb round 2 || subset strong (heldMask (now (state .entry)) (round - 1))) ⌝ }
 {
-    let count = wide(body[WEAK_COUNT]);
+    if round < 2 {
+        return true;
+    }
+    strong & held_mask(state, round - 1) == strong
+}
+
+// Questions 11 and 14, of the weak id x: it is above the last one, of a round from 1 to the record's round less 2, and held.
+fn weak_id_ok(state: &[u32], n: u32, round: u32, last: u32, x: u32) -> bool
+    requires { ⌜ (length (now state) ≡ stateSize) × (n ≡ memberCount (now state)) × (eachRound (masksWithin (now state)) ≡ true) × (1 ≤ round) × (round ≤ 32) × (15 ≤ last) ⌝ }
+    ensures { λ r. ⌜ r ≡ (ltb last x && (weakIdOk n round x && heldId (now (state .entry)) x)) ⌝ }
+{
+    if x <= last {
+        return false;
+    }
+    if 16 * (round - 1) <= x {
+        return false;
+    }
+    let held = Members {
+        bits: held_mask(state, x / 16),
+        n,
+    };
+    held.has(x % 16)
+}
+
+// So for so many weak ids. The one before the first is 15, below every id.
+fn weak_ids_ok(state: &[u32], n: u32, round: u32, body: &[u32], count: usize) -> bool
+    requires { ⌜ (length (now state) ≡ stateSize) × (n ≡ memberCount (now state)) × (eachRound (masksWithin (now state)) ≡ true) × (1 ≤ round) × (round ≤ 32) × (length (now body) ≡ 10) × (count ≤ 5) ⌝ }
+    ensures { λ r. ⌜ r ≡ all count (λ i. (rises (now (body .entry)) i && weakIdOk n round (weakOf (now (body .entry)) i)) && heldId (now (state .entry)) (weakOf (now (body .entry)) i)) ⌝ }
+{
+    let mut last: u32 = 15;
     let mut i: usize = 0;
     while i < count {
-        if !is_held(state, n, body[WEAK + i]) {
+        let x = body[WEAK + i];
+        if !weak_id_ok(state, n, round, last, x) {
+            return false;
+        }
+        last = x;
+        i += 1;
+    }
+    true
+}
+
+// The slots of weak ids from so many on are 0.
+fn unused_zero(body: &[u32], count: usize) -> bool
+    requires { ⌜ (length (now body) ≡ 10) × (count ≤ 5) ⌝ }
+    ensures { λ r. ⌜ r ≡ all 5 (λ i. ltb i count || eqb (weakOf (now (body .entry)) i) 0) ⌝ }
+{
+    let mut i: usize = count;
+    while i < WEAK_SLOTS {
+        if body[WEAK + i] != 0 {
             return false;
         }
         i += 1;
@@ -161,55 +209,84 @@ fn weak_held(state: &[u32], n: u32, body: &[u32]) -> bool
     true
 }
 
-// Question 14, of an admitted body.
-pub fn parents_held(state: &[u32], n: u32, round: u32, source: u32, body: &[u32]) -> bool
-    requires { ⌜ (length (now state) ≡ stateSize) × (legal n ≡ true) × (numberOf (bodyRefusal n round source (now body)) ≡ 0) ⌝ }
-    ensures { λ r. ⌜ r ≡ parentsHeld (now (state .entry)) round (now (body .entry)) ⌝ }
+// Questions 11 and 14, of the weak ids: at most f are used and pass, and the words beyond them are 0.
+fn weak_ok(state: &[u32], n: u32, round: u32, body: &[u32]) -> bool
+    requires { ⌜ (length (now state) ≡ stateSize) × (n ≡ memberCount (now state)) × (legal n ≡ true) × (eachRound (masksWithin (now state)) ≡ true) × (1 ≤ round) × (round ≤ 32) × (length (now body) ≡ 10) ⌝ }
+    ensures { λ r. ⌜ r ≡ (weakOk n round (now (body .entry)) && all (weakCountOf (now (body .entry))) (λ i. heldId (now (state .entry)) (weakOf (now (body .entry)) i))) ⌝ }
 {
-    if round < 2 {
-        return true;
-    }
-    let strong = body[STRONG];
-    if strong & held_mask(state, round - 1) != strong {
+    if faulty_of(n) < body[WEAK_COUNT] {
         return false;
     }
-    weak_held(state, n, body)
+    let count = wide(body[WEAK_COUNT]);
+    if !weak_ids_ok(state, n, round, body, count) {
+        return false;
+    }
+    unused_zero(body, count)
+}
+
+// The record passes questions 7 to 11 and 14.
+fn record_ok(state: &[u32], terms: Terms, round: u32, source: u32, body: &[u32]) -> bool
+    requires { ⌜ (length (now state) ≡ stateSize) × (terms ≡ termsOf (memberCount (now state)) round) × (legal (memberCount (now state)) ≡ true) × (eachRound (masksWithin (now state)) ≡ true) × (1 ≤ round) × (round ≤ 32) × (source < memberCount (now state)) × (length (now body) ≡ 10) ⌝ }
+    ensures { λ r. ⌜ r ≡ (eqb (numberOf (bodyRefusal (memberCount (now (state .entry))) round source (now (body .entry)))) 0 && parentsHeld (now (state .entry)) round (now (body .entry))) ⌝ }
+{
+    if !masks_admitted(terms, round, source, body) {
+        return false;
+    }
+    if !strong_held(state, round, body[STRONG]) {
+        return false;
+    }
+    weak_ok(state, terms.n, round, body)
 }
 
 // A held record passes questions 5 to 11 and 14, and a cell not held is zero.
 fn cell_ok(state: &[u32], terms: Terms, round: u32, member: u32) -> bool
-    requires { ⌜ (length (now state) ≡ stateSize) × (terms ≡ termsOf (memberCount (now state)) round) × (legal (memberCount (now state)) ≡ true) × (1 ≤ round) × (round ≤ 32) × (member < 16) × (within (memberCount (now state)) (heldMask (now state) round) ≡ true) ⌝ }
+    requires { ⌜ (length (now state) ≡ stateSize) × (terms ≡ termsOf (memberCount (now state)) round) × (legal (memberCount (now state)) ≡ true) × (eachRound (masksWithin (now state)) ≡ true) × (1 ≤ round) × (round ≤ 32) × (member < 16) ⌝ }
     ensures { λ r. ⌜ r ≡ cellOk (now (state .entry)) round member ⌝ }
 {
-    let n = terms.n;
     let at = cell_at(round, member);
     let end = at + BODY_SIZE;
     let held = Members {
         bits: held_mask(state, round),
-        n,
+        n: terms.n,
     };
     if !held.has(member) {
         return is_zero(&state[at..end]);
     }
-    if number(check_known(terms, round, member, &state[at..end])) != 0 {
-        return false;
-    }
-    parents_held(state, n, round, member, &state[at..end])
+    record_ok(state, terms, round, member, &state[at..end])
 }
 
-fn round_cells_ok(state: &[u32], round: u32) -> bool
-    requires { ⌜ (length (now state) ≡ stateSize) × (legal (memberCount (now state)) ≡ true) × (1 ≤ round) × (round ≤ 32) × (within (memberCount (now state)) (heldMask (now state) round) ≡ true) ⌝ }
-    ensures { λ r. ⌜ r ≡ all 16 (cellOk (now (state .entry)) round) ⌝ }
+// The cells of the members pass.
+fn members_ok(state: &[u32], n: u32, round: u32) -> bool
+    requires { ⌜ (length (now state) ≡ stateSize) × (n ≡ memberCount (now state)) × (legal n ≡ true) × (eachRound (masksWithin (now state)) ≡ true) × (1 ≤ round) × (round ≤ 32) ⌝ }
+    ensures { λ r. ⌜ r ≡ all n (cellOk (now (state .entry)) round) ⌝ }
 {
-    let terms = terms_of(state[MEMBER_COUNT], round);
+    let terms = terms_of(n, round);
     let mut p: u32 = 0;
-    while p < SLOTS {
+    while p < n {
         if !cell_ok(state, terms, round, p) {
             return false;
         }
         p += 1;
     }
     true
+}
+
+// Cells that nobody holds are tested together: all of a round that holds none, and those from n on.
+fn round_cells_ok(state: &[u32], round: u32) -> bool
+    requires { ⌜ (length (now state) ≡ stateSize) × (legal (memberCount (now state)) ≡ true) × (eachRound (masksWithin (now state)) ≡ true) × (1 ≤ round) × (round ≤ 32) ⌝ }
+    ensures { λ r. ⌜ r ≡ all 16 (cellOk (now (state .entry)) round) ⌝ }
+{
+    let n = state[MEMBER_COUNT];
+    let start = cell_at(round, 0);
+    let end = start + ROUND_SIZE;
+    if held_mask(state, round) == 0 {
+        return is_zero(&state[start..end]);
+    }
+    if !members_ok(state, n, round) {
+        return false;
+    }
+    let rest = start + BODY_SIZE * wide(n);
+    is_zero(&state[rest..end])
 }
 
 fn cells_ok(state: &[u32]) -> bool
@@ -289,7 +366,7 @@ fn all_marked(state: &[u32], marks: [u32; 32]) -> bool
     true
 }
 
-// Each entry is ordered and, in the marks of its round, new; it is marked there.
+// Each entry is an id and, in the marks of its round, new; it is marked there. In the end the marks are the ordered masks.
 fn journal_ok(state: &[u32]) -> bool
     requires { ⌜ (length (now state) ≡ stateSize) × (legal (memberCount (now state)) ≡ true) × (eachRound (masksWithin (now state)) ≡ true) ⌝ }
     ensures { λ r. ⌜ r ≡ journalOk (now (state .entry)) ⌝ }
@@ -303,7 +380,7 @@ fn journal_ok(state: &[u32]) -> bool
     let mut i: usize = 0;
     while i < count {
         let x = state[JOURNAL + i];
-        if !is_ordered(state, n, x) {
+        if !is_id(x) {
             return false;
         }
         let at = wide(x / 16 - 1);

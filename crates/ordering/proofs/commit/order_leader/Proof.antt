@@ -1,12 +1,8 @@
-use Rattle.ordering.specs.Standing.{orderId}
-use Rattle.ordering.proofs.Entering.{soFarIn, start, step, finish, so-far-alike, so-far-room, mask-of}
-use Rattle.protocol.specs.Masks.{historyMasks}
-use Rattle.replica.specs.State.{vertices, memberCount}
-use Rattle.record.specs.Members.{leader, has}
-use Rattle.record.proofs.Masks.{leader-small, leader-lt}
-use mathlib.Core.Path.{_≡_, refl, sym, ap, ap₂, _∙_}
+use Rattle.ordering.proofs.Entering.{soFarIn, start, round-step, last-round, so-far-alike, so-far-room}
+use Rattle.record.proofs.Masks.{leader-lt}
+use mathlib.Core.Path.{_≡_, ap, ap₂, _∙_}
 use mathlib.Core.List.{List}
-use Prim.Native.Nat.{ℕ, _+_, _≤_, _-_, _/_, _%_}
+use Prim.Native.Nat.{ℕ, _+_, _*_, _-_, _≤_}
 use native.Mathlib.Omega.{arith}
 use lib.ListN.{length, getD}
 use borrow.Author.Needs.{needs}
@@ -14,81 +10,88 @@ use Rattle.ordering.proofs.commit.order_leader.Statement.{statement}
 use Rattle.ordering.proofs.commit.order_leader.Tie as tie
 use Rattle.ordering.proofs.commit.order_leader.Reads as reads
 use Rattle.ordering.proofs.commit.order_leader.Lts as lts
-use Rattle.ordering.proofs.commit.order_id.Reads as order-id-reads
+use Rattle.ordering.proofs.commit.order_round.Reads as order-round-reads
 use Rattle.ordering.proofs.history.history_of.Reads as history-of-reads
 use Rattle.record.proofs.members.leader_of.Reads as leader-of-reads
 use Rattle.replica.proofs.layout.wide.Reads as wide-reads
 
 abbrev Inv-loop : tie.InvT-loop
-Inv-loop state₀ n round masks id₀ state id = (16 ≤ id) × (id ≤ 528) × (state ≡ soFarIn n state₀ round id)
+Inv-loop state₀ n round masks r₀ state r = (r ≤ round) × (state ≡ soFarIn n state₀ round (16 * (r + 1)))
 
 abbrev μ-loop : tie.MeasureT-loop
-μ-loop state₀ n round masks id₀ state id = 528 - id
+μ-loop state₀ n round masks r₀ state r = round - r
 
--- src/commit.rt:146:45
+-- src/commit.rt:163:45
 leader-of-requires : tie.Need-leader-of-requires Inv-loop μ-loop
 leader-of-requires c κs = (omega (arith, c .before .before .pre .0 .low), c .before .before .pre .3)
 
--- src/commit.rt:146:17
+-- src/commit.rt:163:17
 history-of-requires : tie.Need-history-of-requires Inv-loop μ-loop
-history-of-requires c κs = (c .before .before .before .pre .0, c .before .before .before .pre .2, c .before .before .before .pre .3, omega arith, omega (arith, c .leader-of .ensures, leader-lt (c .before .before .before .args .n) (c .before .before .before .args .round) (omega (arith, c .before .before .before .pre .0 .low)), c .before .before .before .pre .0 .high))
+history-of-requires c κs = let s = c .before .before .before in (
+  s .pre .0,
+  s .pre .2,
+  s .pre .3,
+  omega arith,
+  omega (arith, c .leader-of .ensures, leader-lt (s .args .n) (s .args .round) (omega (arith, s .pre .0 .low)), s .pre .0 .high),
+)
 
--- src/commit.rt:148:5
+-- src/commit.rt:165:5
 loop-holds : tie.Need-loop-holds Inv-loop μ-loop
-loop-holds c = (omega arith, omega arith, start (c .before .before .before .before .args .n) (c .before .before .before .before .args .state .now) (c .before .before .before .before .pre .0) (c .before .before .before .before .pre .1) (c .before .before .before .before .pre .2) (c .before .before .before .before .args .round) (c .before .before .before .before .pre .5))
+loop-holds c = let s = c .before .before .before .before in (omega arith, start (s .args .n) (s .args .state .now) (s .pre .0) (s .pre .1) (s .pre .2) (s .args .round) (s .pre .5))
 
--- src/commit.rt:149:31
-sub-wide : tie.Need-sub-wide Inv-loop μ-loop
-sub-wide c = search needs
-
--- src/commit.rt:149:26
+-- src/commit.rt:166:37
 wide-requires : tie.Need-wide-requires Inv-loop μ-loop
 wide-requires c κs = search needs
 
--- src/commit.rt:149:20
-mul-mask : tie.Need-mul-mask Inv-loop μ-loop
-mul-mask c = search needs
+-- src/commit.rt:166:31
+mul-order-round : tie.Need-mul-order-round Inv-loop μ-loop
+mul-order-round c = search needs
 
--- src/commit.rt:149:20
-array-read-mask : tie.Need-array-read-mask Inv-loop μ-loop
-array-read-mask c = search needs
+-- src/commit.rt:166:31
+array-read-order-round : tie.Need-array-read-order-round Inv-loop μ-loop
+array-read-order-round c = search needs
 
--- src/commit.rt:150:9
-order-id-requires : tie.Need-order-id-requires Inv-loop μ-loop
-order-id-requires c κs = let A = so-far-alike (c .before .before .before .before .before .before .before .before .args .n) (c .before .before .before .before .before .before .before .before .args .state .now) (c .before .before .before .before .before .before .before .before .pre .0) (c .before .before .before .before .before .before .before .before .pre .1) (c .before .before .before .before .before .before .before .before .pre .2) (c .before .before .before .before .before .before .before .before .args .round) (c .before .before .before .before .before .before .before .before .pre .5) (c .before .before .before .loop .id) in (
-  ap length (c .before .before .before .loop .inv .2) ∙ A .size ∙ c .before .before .before .before .before .before .before .before .pre .0 .size,
-  c .before .before .before .loop .inv .0,
-  c .before .before .loop-test .taken,
-  rw (c .before .before .before .loop .inv .2) (so-far-room (c .before .before .before .before .before .before .before .before .args .n) (c .before .before .before .before .before .before .before .before .args .state .now) (c .before .before .before .before .before .before .before .before .pre .0) (c .before .before .before .before .before .before .before .before .pre .1) (c .before .before .before .before .before .before .before .before .pre .2) (c .before .before .before .before .before .before .before .before .args .round) (c .before .before .before .before .before .before .before .before .pre .5) (c .before .before .before .loop .id)),
-)
+-- src/commit.rt:166:47
+add-order-round : tie.Need-add-order-round Inv-loop μ-loop
+add-order-round c = search needs
 
--- src/commit.rt:151:9
-add-id : tie.Need-add-id Inv-loop μ-loop
-add-id c = search needs
+-- src/commit.rt:166:9
+order-round-requires : tie.Need-order-round-requires Inv-loop μ-loop
+order-round-requires c κs = let s = c .before .before .before .before .before .before .before .before in
+    let y = 16 * (c .before .before .before .loop .r + 1) in (
+      ap length (c .before .before .before .loop .inv .1) ∙ so-far-alike (s .args .n) (s .args .state .now) (s .pre .0) (s .pre .1) (s .pre .2) (s .args .round) (s .pre .5) y .size ∙ s .pre .0 .size,
+      omega arith,
+      omega arith,
+      rw (c .before .before .before .loop .inv .1) (so-far-room (s .args .n) (s .args .state .now) (s .pre .0) (s .pre .1) (s .pre .2) (s .args .round) (s .pre .5) y),
+    )
 
--- src/commit.rt:148:5
+-- src/commit.rt:167:9
+add-r : tie.Need-add-r Inv-loop μ-loop
+add-r c = search needs
+
+-- src/commit.rt:165:5
 loop-less : tie.Need-loop-less Inv-loop μ-loop
 loop-less c = search needs
 
--- src/commit.rt:148:5
+-- src/commit.rt:165:5
 loop-again : tie.Need-loop-again Inv-loop μ-loop
-loop-again c = let masks = c .before .before .before .before .before .before .before .history-of .ensures ∙ ap (historyMasks (c .before .before .before .before .before .before .before .before .before .before .before .args .n) (vertices (c .before .before .before .before .before .before .before .before .before .before .before .args .state .now)) (c .before .before .before .before .before .before .before .before .before .before .before .args .round)) (c .before .before .before .before .before .before .before .before .leader-of .ensures) in
-    let h = ap₂ (λ (x : List ℕ) (k : ℕ). has (getD x k 0) (c .before .before .before .before .before .before .loop .id % 16)) masks (c .before .before .before .before .wide .ensures)
-    ∙ mask-of (c .before .before .before .before .before .before .before .before .before .before .before .args .n) (c .before .before .before .before .before .before .before .before .before .before .before .args .state .now) (c .before .before .before .before .before .before .before .before .before .before .before .pre .0) (c .before .before .before .before .before .before .before .before .before .before .before .pre .1) (c .before .before .before .before .before .before .before .before .before .before .before .pre .2) (c .before .before .before .before .before .before .before .before .before .before .before .args .round) (c .before .before .before .before .before .before .before .before .before .before .before .pre .5) (c .before .before .before .before .before .before .loop .id) (c .before .before .before .before .before .before .loop .inv .0) (c .before .before .before .before .before .loop-test .taken) in (
+loop-again c = let s = c .before .before .before .before .before .before .before .before .before .before .before in
+    let masks = rw (c .before .before .before .before .before .before .before .before .leader-of .ensures) at (c .before .before .before .before .before .before .before .history-of .ensures) in
+    let mask = ap₂ (λ (x : List ℕ) (k : ℕ). getD x k 0) masks (c .before .before .before .wide .ensures) in (
       omega arith,
-      omega arith,
-      c .before .before .order-id .ensures ∙ ap (λ (x : List ℕ). orderId x (getD (c .before .before .before .before .before .before .before .history-of .result) (c .before .before .before .before .wide .result) 0) (c .before .before .before .before .before .before .loop .id)) (c .before .before .before .before .before .before .loop .inv .2)
-          ∙ step (c .before .before .before .before .before .before .before .before .before .before .before .args .n) (c .before .before .before .before .before .before .before .before .before .before .before .args .state .now) (c .before .before .before .before .before .before .before .before .before .before .before .pre .0) (c .before .before .before .before .before .before .before .before .before .before .before .pre .1) (c .before .before .before .before .before .before .before .before .before .before .before .pre .2) (c .before .before .before .before .before .before .before .before .before .before .before .args .round) (c .before .before .before .before .before .before .before .before .before .before .before .pre .5) (c .before .before .before .before .before .before .loop .id) _ h,
+      c .before .before .order-round .ensures
+          ∙ round-step (s .args .n) (s .args .state .now) (s .pre .0) (s .pre .1) (s .pre .2) (s .args .round) (s .pre .5) (c .before .before .before .before .before .before .loop .r) _ _ (omega arith) (c .before .before .before .before .before .before .loop .inv .1) mask,
     )
 
--- src/commit.rt:142:1
+-- src/commit.rt:159:1
 same-length : tie.Need-same-length Inv-loop μ-loop
-same-length c = ap length (c .before .loop .inv .2) ∙ so-far-alike (c .before .before .before .before .before .before .args .n) (c .before .before .before .before .before .before .args .state .now) (c .before .before .before .before .before .before .pre .0) (c .before .before .before .before .before .before .pre .1) (c .before .before .before .before .before .before .pre .2) (c .before .before .before .before .before .before .args .round) (c .before .before .before .before .before .before .pre .5) (c .before .loop .id) .size
+same-length c = let s = c .before .before .before .before .before .before in ap length (c .before .loop .inv .1) ∙ so-far-alike (s .args .n) (s .args .state .now) (s .pre .0) (s .pre .1) (s .pre .2) (s .args .round) (s .pre .5) (16 * (c .before .loop .r + 1)) .size
 
--- src/commit.rt:142:1
+-- src/commit.rt:159:1
 returns : tie.Need-returns Inv-loop μ-loop
-returns c = let e : c .before .loop .id ≡ 528 = omega arith in
-    c .before .loop .inv .2 ∙ ap (soFarIn (c .before .before .before .before .before .before .args .n) (c .before .before .before .before .before .before .args .state .now) (c .before .before .before .before .before .before .args .round)) e ∙ finish (c .before .before .before .before .before .before .args .n) (c .before .before .before .before .before .before .args .state .now) (c .before .before .before .before .before .before .pre .0) (c .before .before .before .before .before .before .pre .1) (c .before .before .before .before .before .before .pre .2) (c .before .before .before .before .before .before .args .round) (c .before .before .before .before .before .before .pre .5)
+returns c = let s = c .before .before .before .before .before .before in
+    let e : c .before .loop .r ≡ s .args .round = omega arith in
+    c .before .loop .inv .1 ∙ ap (λ (x : ℕ). soFarIn (s .args .n) (s .args .state .now) (s .args .round) (16 * (x + 1))) e ∙ last-round (s .args .n) (s .args .state .now) (s .pre .0) (s .pre .1) (s .pre .2) (s .args .round) (s .pre .5) (omega arith)
 
 pub order-leader-spec : {M : Type 1} → statement M
 order-leader-spec =
@@ -99,12 +102,12 @@ order-leader-spec =
     leader-of-requires
     history-of-requires
     loop-holds
-    sub-wide
     wide-requires
-    mul-mask
-    array-read-mask
-    order-id-requires
-    add-id
+    mul-order-round
+    array-read-order-round
+    add-order-round
+    order-round-requires
+    add-r
     loop-less
     loop-again
     same-length

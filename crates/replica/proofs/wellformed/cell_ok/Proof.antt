@@ -1,97 +1,96 @@
--- `cell-zero`, `cell-refused` and `cell-held` of `Cells`: the lent part is the cell.
-use mathlib.Core.Path.{_≡_, _∙_, sym, ap}
-use Prim.Native.Nat.{ℕ}
+use mathlib.Core.Path.{_≡_, sym, ap, _∙_}
 use native.Mathlib.Omega.{arith}
 use lib.Seq.{length-take-le}
-use lib.ListN.{length-drop, drop, length}
-use borrow.Author.Needs.{needs}
+use lib.ListN.{length, drop, length-drop}
 use Rattle.record.proofs.Booleans.{passed, failed}
-use Rattle.record.proofs.Masks.{has-bound, within-lt}
-use Rattle.record.specs.Questions.{termsOf}
-use Rattle.record.specs.declared.questions.Terms.{Terms}
-use Rattle.replica.specs.State.{memberCount}
+use Rattle.record.proofs.Masks.{has-bound}
 use Rattle.replica.specs.Layout.{cellAt}
-use Rattle.replica.proofs.Cells.{cell-part, cell-zero, cell-refused, cell-held}
+use Rattle.replica.specs.WellFormed.{masksWithin}
+use Rattle.replica.proofs.Cells.{cell-part, cell-zero, cell-held}
+use Rattle.replica.proofs.Words.{masks-small, round-elim}
+use borrow.Author.Needs.{needs}
 use Rattle.replica.proofs.wellformed.cell_ok.Statement.{statement}
 use Rattle.replica.proofs.wellformed.cell_ok.Tie as tie
+use Rattle.replica.proofs.wellformed.cell_ok.Reads as reads
+use Rattle.replica.proofs.wellformed.cell_ok.Lts as lts
+use Rattle.record.proofs.members.Members.has.Reads as has-reads
+use Rattle.replica.proofs.layout.cell_at.Reads as cell-at-reads
+use Rattle.replica.proofs.layout.held_mask.Reads as held-mask-reads
+use Rattle.replica.proofs.wellformed.is_zero.Reads as is-zero-reads
+use Rattle.replica.proofs.wellformed.record_ok.Reads as record-ok-reads
 
+-- src/wellformed.rt:246:9
 cell-at-requires : tie.Need-cell-at-requires
 cell-at-requires c κs = search needs
 
+-- src/wellformed.rt:247:15
 add-end : tie.Need-add-end
 add-end c = search needs
 
+-- src/wellformed.rt:249:15
 held-mask-requires : tie.Need-held-mask-requires
 held-mask-requires c κs = search needs
 
+-- src/wellformed.rt:252:9
 has-requires : tie.Need-has-requires
 has-requires c κs = search needs
 
+-- src/wellformed.rt:253:24
 mul-is-zero : tie.Need-mul-is-zero
 mul-is-zero c = search needs
 
+-- src/wellformed.rt:253:24
 sub-is-zero : tie.Need-sub-is-zero
 sub-is-zero c = search needs
 
+-- src/wellformed.rt:253:24
 part-is-zero-start : tie.Need-part-is-zero-start
 part-is-zero-start c = search needs
 
+-- src/wellformed.rt:253:24
 part-is-zero-end : tie.Need-part-is-zero-end
 part-is-zero-end c = search needs
 
+-- src/wellformed.rt:253:9
 is-zero-requires : tie.Need-is-zero-requires
 is-zero-requires c κs = search needs
 
+-- src/wellformed.rt:253:9
 returns : tie.Need-returns
 returns c = c .is-zero .ensures ∙ cell-zero (c .before .before .before .before .before .before .before .args .state .now) (c .before .before .before .before .before .before .before .args .round) (c .before .before .before .before .before .before .before .args .member) _ (c .before .before .before .before .before .cell-at .ensures) (omega arith) (failed (rw (c .before .before .before .before .held-mask .ensures) at (c .before .before .before .has .ensures)) (c .before .before .if1 .taken))
 
-mul-check-known : tie.Need-mul-check-known
-mul-check-known c = search needs
+-- src/wellformed.rt:255:44
+mul-record-ok : tie.Need-mul-record-ok
+mul-record-ok c = search needs
 
-sub-check-known : tie.Need-sub-check-known
-sub-check-known c = search needs
+-- src/wellformed.rt:255:44
+sub-record-ok : tie.Need-sub-record-ok
+sub-record-ok c = search needs
 
-part-check-known-start : tie.Need-part-check-known-start
-part-check-known-start c = search needs
+-- src/wellformed.rt:255:44
+part-record-ok-start : tie.Need-part-record-ok-start
+part-record-ok-start c = search needs
 
-part-check-known-end : tie.Need-part-check-known-end
-part-check-known-end c = search needs
+-- src/wellformed.rt:255:44
+part-record-ok-end : tie.Need-part-record-ok-end
+part-record-ok-end c = search needs
 
-check-known-requires : tie.Need-check-known-requires
-check-known-requires c κs = let e : c .before .before .before .before .before .before .args .terms .n ≡ memberCount (c .before .before .before .before .before .before .args .state .now) = ap (λ (t : Terms). t .n) (c .before .before .before .before .before .before .pre .1) in (
-  c .before .before .before .before .before .before .pre .1 ∙ ap (λ (m : ℕ). termsOf m (c .before .before .before .before .before .before .args .round)) (sym e),
+-- src/wellformed.rt:255:5
+record-ok-requires : tie.Need-record-ok-requires
+record-ok-requires c κs = (
+  c .before .before .before .before .before .before .pre .0,
+  c .before .before .before .before .before .before .pre .1,
+  c .before .before .before .before .before .before .pre .2,
   c .before .before .before .before .before .before .pre .3,
   c .before .before .before .before .before .before .pre .4,
-  rw (← e) at (has-bound _ _ _ (within-lt _ _ (c .before .before .before .before .before .before .pre .6)) (passed (rw (c .before .before .before .held-mask .ensures) at (c .before .before .has .ensures)) (c .before .if1 .left))),
+  c .before .before .before .before .before .before .pre .5,
+  has-bound _ _ _ (masks-small (c .before .before .before .before .before .before .args .state .now) (c .before .before .before .before .before .before .args .round) (round-elim (masksWithin (c .before .before .before .before .before .before .args .state .now)) (c .before .before .before .before .before .before .pre .3) (c .before .before .before .before .before .before .args .round) (c .before .before .before .before .before .before .pre .4) (c .before .before .before .before .before .before .pre .5)) .held) (passed (rw (c .before .before .before .held-mask .ensures) at (c .before .before .has .ensures)) (c .before .if1 .left)),
   ap length (cell-part (c .before .before .before .before .before .before .args .state .now) _ (cellAt (c .before .before .before .before .before .before .args .round) (c .before .before .before .before .before .before .args .member)) (c .before .before .before .before .cell-at .ensures)) ∙ length-take-le 10 (drop (cellAt (c .before .before .before .before .before .before .args .round) (c .before .before .before .before .before .before .args .member)) (c .before .before .before .before .before .before .args .state .now)) (omega (arith, length-drop (cellAt (c .before .before .before .before .before .before .args .round) (c .before .before .before .before .before .before .args .member)) (c .before .before .before .before .before .before .args .state .now))),
 )
 
-number-requires : tie.Need-number-requires
-number-requires c κs = search needs
-
+-- src/wellformed.rt:242:1
 returns-2 : tie.Need-returns-2
-returns-2 c = let e : c .before .before .before .before .before .before .before .before .before .args .terms .n ≡ memberCount (c .before .before .before .before .before .before .before .before .before .args .state .now) = ap (λ (t : Terms). t .n) (c .before .before .before .before .before .before .before .before .before .pre .1) in
-    sym (cell-refused (c .before .before .before .before .before .before .before .before .before .args .state .now) (c .before .before .before .before .before .before .before .before .before .args .round) (c .before .before .before .before .before .before .before .before .before .args .member) _ _ (passed (rw (c .before .before .before .before .before .before .held-mask .ensures) at (c .before .before .before .before .before .has .ensures)) (c .before .before .before .before .if1 .left)) e (cell-part (c .before .before .before .before .before .before .before .before .before .args .state .now) _ _ (c .before .before .before .before .before .before .before .cell-at .ensures)) (rw (c .before .number .ensures, c .before .before .check-known .ensures) at (c .if2 .taken)))
-
-mul-parents-held : tie.Need-mul-parents-held
-mul-parents-held c = search needs
-
-sub-parents-held : tie.Need-sub-parents-held
-sub-parents-held c = search needs
-
-part-parents-held-start : tie.Need-part-parents-held-start
-part-parents-held-start c = search needs
-
-part-parents-held-end : tie.Need-part-parents-held-end
-part-parents-held-end c = search needs
-
-parents-held-requires : tie.Need-parents-held-requires
-parents-held-requires c κs = let e : c .before .before .before .before .before .before .before .before .before .before .args .terms .n ≡ memberCount (c .before .before .before .before .before .before .before .before .before .before .args .state .now) = ap (λ (t : Terms). t .n) (c .before .before .before .before .before .before .before .before .before .before .pre .1) in
-    (c .before .before .before .before .before .before .before .before .before .before .pre .0, rw e (c .before .before .before .before .before .before .before .before .before .before .pre .2), rw (c .before .before .number .ensures, c .before .before .before .check-known .ensures) at (c .before .if2 .left))
-
-returns-3 : tie.Need-returns-3
-returns-3 c = let e : c .before .before .before .before .before .before .before .before .before .before .before .args .terms .n ≡ memberCount (c .before .before .before .before .before .before .before .before .before .before .before .args .state .now) = ap (λ (t : Terms). t .n) (c .before .before .before .before .before .before .before .before .before .before .before .pre .1) in
-    c .parents-held .ensures ∙ cell-held (c .before .before .before .before .before .before .before .before .before .before .before .args .state .now) (c .before .before .before .before .before .before .before .before .before .before .before .args .round) (c .before .before .before .before .before .before .before .before .before .before .before .args .member) _ _ (passed (rw (c .before .before .before .before .before .before .before .before .held-mask .ensures) at (c .before .before .before .before .before .before .before .has .ensures)) (c .before .before .before .before .before .before .if1 .left)) e (cell-part (c .before .before .before .before .before .before .before .before .before .before .before .args .state .now) _ _ (c .before .before .before .before .before .before .before .before .before .cell-at .ensures)) (rw (c .before .before .before .number .ensures, c .before .before .before .before .check-known .ensures) at (c .before .before .if2 .left))
+returns-2 c = c .record-ok .ensures ∙ cell-held (c .before .before .before .before .before .before .before .args .state .now) (c .before .before .before .before .before .before .before .args .round) (c .before .before .before .before .before .before .before .args .member) _ (passed (rw (c .before .before .before .before .held-mask .ensures) at (c .before .before .before .has .ensures)) (c .before .before .if1 .left)) (cell-part (c .before .before .before .before .before .before .before .args .state .now) _ _ (c .before .before .before .before .before .cell-at .ensures))
 
 pub cell-ok-spec : {M : Type 1} → statement M
 cell-ok-spec =
@@ -107,16 +106,9 @@ cell-ok-spec =
     part-is-zero-end
     is-zero-requires
     returns
-    mul-check-known
-    sub-check-known
-    part-check-known-start
-    part-check-known-end
-    check-known-requires
-    number-requires
-    returns-2
-    mul-parents-held
-    sub-parents-held
-    part-parents-held-start
-    part-parents-held-end
-    parents-held-requires
-    returns-3)
+    mul-record-ok
+    sub-record-ok
+    part-record-ok-start
+    part-record-ok-end
+    record-ok-requires
+    returns-2)

@@ -1,4 +1,4 @@
--- Invariant: the first i rounds pass; `held-within` of `Cells` is what each round requires.
+-- Invariant: the first i rounds pass.
 use mathlib.Core.Path.{_≡_, sym}
 use mathlib.Core.Bool.{true}
 use Prim.Native.Nat.{_≤_, _-_, _+_}
@@ -8,7 +8,6 @@ use Rattle.record.specs.Below.{all}
 use Rattle.record.proofs.Booleans.{passed, failed}
 use Rattle.record.proofs.Below.{all-none, all-more, all-stop}
 use Rattle.replica.specs.WellFormed.{cellOk}
-use Rattle.replica.proofs.Cells.{held-within}
 use Rattle.replica.proofs.wellformed.cells_ok.Statement.{statement}
 use Rattle.replica.proofs.wellformed.cells_ok.Tie as tie
 
@@ -25,7 +24,7 @@ add-round-cells-ok : tie.Need-add-round-cells-ok Inv-loop μ-loop
 add-round-cells-ok c = search needs
 
 round-cells-ok-requires : tie.Need-round-cells-ok-requires Inv-loop μ-loop
-round-cells-ok-requires c κs = (c .before .before .before .pre .0, c .before .before .before .pre .1, omega arith, omega arith, held-within _ (c .before .before .before .pre .2) _ (omega arith))
+round-cells-ok-requires c κs = (c .before .before .before .pre .0, c .before .before .before .pre .1, c .before .before .before .pre .2, omega arith, omega arith)
 
 returns : tie.Need-returns Inv-loop μ-loop
 returns c = sym (all-stop 32 (λ k. all 16 (cellOk (c .before .before .before .before .before .args .state .now) (k + 1))) (c .before .before .before .loop .i) (omega arith) (failed (c .before .round-cells-ok .ensures) (c .if1 .taken)))

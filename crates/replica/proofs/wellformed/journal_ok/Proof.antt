@@ -1,21 +1,20 @@
--- Invariant: the first i entries pass, and the marks are theirs (`Marked` of `Marks`); `journal-decides` at the end.
+-- Invariant: the first i entries are new ids, and the marks are theirs (`Marked` of `Marks`); `journal-decides` at the end.
 use mathlib.Core.Path.{_≡_, refl, sym, _∙_}
 use mathlib.Core.Bool.{true}
 use Prim.Native.Nat.{_≤_, _-_}
 use native.Mathlib.Omega.{arith}
 use borrow.Author.Needs.{needs}
 use Rattle.record.specs.Below.{all}
-use Rattle.record.proofs.Booleans.{passed, failed, and-left}
+use Rattle.record.proofs.Booleans.{passed, failed}
 use Rattle.record.proofs.Below.{all-none, all-more}
 use Rattle.record.proofs.Turn.{round-range}
 use Rattle.replica.specs.State.{journalCount}
-use Rattle.replica.specs.WellFormed.{entryOk}
-use Rattle.replica.proofs.Marks.{Marked, marked-none, marked-more, mark-at, entry-ok, entry-strange, entry-twice, journal-long, journal-stop, journal-decides}
+use Rattle.replica.proofs.Marks.{Marked, marked-none, marked-more, mark-at, newId, entry-new, entry-strange, entry-twice, journal-long, journal-stop, journal-decides}
 use Rattle.replica.proofs.wellformed.journal_ok.Statement.{statement}
 use Rattle.replica.proofs.wellformed.journal_ok.Tie as tie
 
 abbrev Inv-loop : tie.InvT-loop
-Inv-loop state n count marks₀ i₀ marks i = (i ≤ count) × (count ≡ journalCount state) × (count ≤ 512) × (all i (entryOk state) ≡ true) × Marked state i marks
+Inv-loop state n count marks₀ i₀ marks i = (i ≤ count) × (count ≡ journalCount state) × (count ≤ 512) × (all i (newId state) ≡ true) × Marked state i marks
 
 abbrev μ-loop : tie.MeasureT-loop
 μ-loop state n count marks₀ i₀ marks i = count - i
@@ -44,46 +43,46 @@ mul-x c = search needs
 shared-slice-read-x : tie.Need-shared-slice-read-x Inv-loop μ-loop
 shared-slice-read-x c = search needs
 
-is-ordered-requires : tie.Need-is-ordered-requires Inv-loop μ-loop
-is-ordered-requires c κs = search needs
+is-id-requires : tie.Need-is-id-requires Inv-loop μ-loop
+is-id-requires c κs = search needs
 
 returns-2 : tie.Need-returns-2 Inv-loop μ-loop
-returns-2 c = sym (journal-stop (c .before .before .before .before .before .before .before .before .before .before .args .state .now) (c .before .before .before .before .loop .i) (rw (c .before .before .before .before .loop .inv .1) at (c .before .before .before .loop-test .taken)) (entry-strange (c .before .before .before .before .before .before .before .before .before .before .args .state .now) (c .before .before .before .before .loop .i) (failed (c .before .is-ordered .ensures) (c .if2 .taken))))
+returns-2 c = sym (journal-stop (c .before .before .before .before .before .before .before .before .before .before .args .state .now) (c .before .before .before .before .loop .i) (rw (c .before .before .before .before .loop .inv .1) at (c .before .before .before .loop-test .taken)) (entry-strange (c .before .before .before .before .before .before .before .before .before .before .args .state .now) (c .before .before .before .before .loop .i) (failed (c .before .is-id .ensures) (c .if2 .taken))))
 
 sub-wide : tie.Need-sub-wide Inv-loop μ-loop
-sub-wide c = let q = round-range _ (and-left _ _ (passed (c .before .is-ordered .ensures) (c .if2 .left))) in omega (arith, q .0)
+sub-wide c = let q = round-range _ ((passed (c .before .is-id .ensures) (c .if2 .left))) in omega (arith, q .0)
 
 wide-requires-2 : tie.Need-wide-requires-2 Inv-loop μ-loop
 wide-requires-2 c κs = search needs
 
 mul-marks : tie.Need-mul-marks Inv-loop μ-loop
-mul-marks c = let q = round-range _ (and-left _ _ (passed (c .before .before .is-ordered .ensures) (c .before .if2 .left))) in omega (arith, q .1, c .wide2 .ensures)
+mul-marks c = let q = round-range _ ((passed (c .before .before .is-id .ensures) (c .before .if2 .left))) in omega (arith, q .1, c .wide2 .ensures)
 
 array-read-marks : tie.Need-array-read-marks Inv-loop μ-loop
-array-read-marks c = let q = round-range _ (and-left _ _ (passed (c .before .before .is-ordered .ensures) (c .before .if2 .left))) in omega (arith, q .0, q .1, c .wide2 .ensures)
+array-read-marks c = let q = round-range _ ((passed (c .before .before .is-id .ensures) (c .before .if2 .left))) in omega (arith, q .0, q .1, c .wide2 .ensures)
 
 has-requires : tie.Need-has-requires Inv-loop μ-loop
 has-requires c κs = search needs
 
 returns-3 : tie.Need-returns-3 Inv-loop μ-loop
-returns-3 c = let q = round-range _ (and-left _ _ (passed (c .before .before .before .before .is-ordered .ensures) (c .before .before .before .if2 .left))) in
+returns-3 c = let q = round-range _ ((passed (c .before .before .before .before .is-id .ensures) (c .before .before .before .if2 .left))) in
     sym (journal-stop (c .before .before .before .before .before .before .before .before .before .before .before .before .before .args .state .now) (c .before .before .before .before .before .before .before .loop .i) (rw (c .before .before .before .before .before .before .before .loop .inv .1) at (c .before .before .before .before .before .before .loop-test .taken)) (entry-twice (c .before .before .before .before .before .before .before .before .before .before .before .before .before .args .state .now) (c .before .before .before .before .before .before .before .loop .i)
     (sym (mark-at _ _ _ _ _ (c .before .before .before .before .before .before .before .loop .inv .4) (q .0) (q .1) (c .before .before .wide2 .ensures)) ∙ sym (c .before .has .ensures) ∙ c .if3 .taken)))
 
 mul-marks-2 : tie.Need-mul-marks-2 Inv-loop μ-loop
-mul-marks-2 c = let q = round-range _ (and-left _ _ (passed (c .before .before .before .before .is-ordered .ensures) (c .before .before .before .if2 .left))) in omega (arith, q .1, c .before .before .wide2 .ensures)
+mul-marks-2 c = let q = round-range _ ((passed (c .before .before .before .before .is-id .ensures) (c .before .before .before .if2 .left))) in omega (arith, q .1, c .before .before .wide2 .ensures)
 
 array-read-marks-2 : tie.Need-array-read-marks-2 Inv-loop μ-loop
-array-read-marks-2 c = let q = round-range _ (and-left _ _ (passed (c .before .before .before .before .is-ordered .ensures) (c .before .before .before .if2 .left))) in omega (arith, q .0, q .1, c .before .before .wide2 .ensures)
+array-read-marks-2 c = let q = round-range _ ((passed (c .before .before .before .before .is-id .ensures) (c .before .before .before .if2 .left))) in omega (arith, q .0, q .1, c .before .before .wide2 .ensures)
 
 power-requires : tie.Need-power-requires Inv-loop μ-loop
 power-requires c κs = search needs
 
 mul-marks-3 : tie.Need-mul-marks-3 Inv-loop μ-loop
-mul-marks-3 c = let q = round-range _ (and-left _ _ (passed (c .before .before .before .before .before .is-ordered .ensures) (c .before .before .before .before .if2 .left))) in omega (arith, q .1, c .before .before .before .wide2 .ensures)
+mul-marks-3 c = let q = round-range _ ((passed (c .before .before .before .before .before .is-id .ensures) (c .before .before .before .before .if2 .left))) in omega (arith, q .1, c .before .before .before .wide2 .ensures)
 
 array-write-marks : tie.Need-array-write-marks Inv-loop μ-loop
-array-write-marks c = let q = round-range _ (and-left _ _ (passed (c .before .before .before .before .before .is-ordered .ensures) (c .before .before .before .before .if2 .left))) in omega (arith, q .0, q .1, c .before .before .before .wide2 .ensures)
+array-write-marks c = let q = round-range _ ((passed (c .before .before .before .before .before .is-id .ensures) (c .before .before .before .before .if2 .left))) in omega (arith, q .0, q .1, c .before .before .before .wide2 .ensures)
 
 add-i : tie.Need-add-i Inv-loop μ-loop
 add-i c = search needs
@@ -92,11 +91,11 @@ loop-less : tie.Need-loop-less Inv-loop μ-loop
 loop-less c = search needs
 
 loop-again : tie.Need-loop-again Inv-loop μ-loop
-loop-again c = let o = passed (c .before .before .before .before .before .is-ordered .ensures) (c .before .before .before .before .if2 .left) in let q = round-range _ (and-left _ _ o) in (
+loop-again c = let o = passed (c .before .before .before .before .before .is-id .ensures) (c .before .before .before .before .if2 .left) in let q = round-range _ o in (
   omega arith,
   c .before .before .before .before .before .before .before .before .loop .inv .1,
   c .before .before .before .before .before .before .before .before .loop .inv .2,
-  all-more _ _ (c .before .before .before .before .before .before .before .before .loop .inv .3) (entry-ok (c .before .before .before .before .before .before .before .before .before .before .before .before .before .before .args .state .now) (c .before .before .before .before .before .before .before .before .loop .i) o (sym (mark-at _ _ _ _ _ (c .before .before .before .before .before .before .before .before .loop .inv .4) (q .0) (q .1) (c .before .before .before .wide2 .ensures)) ∙ sym (c .before .before .has .ensures) ∙ c .before .if3 .left)),
+  all-more _ _ (c .before .before .before .before .before .before .before .before .loop .inv .3) (entry-new (c .before .before .before .before .before .before .before .before .before .before .before .before .before .before .args .state .now) (c .before .before .before .before .before .before .before .before .loop .i) o (sym (mark-at _ _ _ _ _ (c .before .before .before .before .before .before .before .before .loop .inv .4) (q .0) (q .1) (c .before .before .before .wide2 .ensures)) ∙ sym (c .before .before .has .ensures) ∙ c .before .if3 .left)),
   rw (c .power .ensures) (marked-more (c .before .before .before .before .before .before .before .before .before .before .before .before .before .before .args .state .now) (c .before .before .before .before .before .before .before .before .loop .i) (c .before .before .before .before .before .before .before .before .loop .marks) _ _ (c .before .before .before .before .before .before .before .before .before .before .before .before .before .before .pre .0) (rw (c .before .before .before .before .before .before .before .before .loop .inv .1) at (c .before .before .before .before .before .before .before .before .loop .inv .2)) (rw (c .before .before .before .before .before .before .before .before .loop .inv .1) at (c .before .before .before .before .before .before .before .loop-test .taken)) refl (c .before .before .before .before .before .before .before .before .loop .inv .4) (q .0) (q .1) (c .before .before .before .wide2 .ensures)),
 )
 
@@ -121,7 +120,7 @@ journal-ok-spec =
     add-x
     mul-x
     shared-slice-read-x
-    is-ordered-requires
+    is-id-requires
     returns-2
     sub-wide
     wide-requires-2

@@ -1,64 +1,133 @@
--- Invariant: the first p cells pass, and the terms are those of the round.
-use mathlib.Core.Path.{_≡_, sym}
-use mathlib.Core.Bool.{true}
-use Prim.Native.Nat.{_≤_, _-_}
+use mathlib.Core.Path.{_≡_, sym, ap, _∙_}
+use Prim.Native.Nat.{_+_, _*_, _-_}
 use native.Mathlib.Omega.{arith}
-use borrow.Author.Needs.{needs}
-use Rattle.record.specs.Below.{all}
-use Rattle.record.specs.Questions.{termsOf}
-use Rattle.record.proofs.Booleans.{passed, failed}
-use Rattle.record.proofs.Below.{all-none, all-more, all-stop}
+use Rattle.record.proofs.Booleans.{passed, failed, and-fails-left}
 use Rattle.record.proofs.Masks.{legal-range}
+use Rattle.replica.specs.Layout.{cellAt}
 use Rattle.replica.specs.State.{memberCount}
-use Rattle.replica.specs.WellFormed.{cellOk}
+use Rattle.replica.specs.WellFormed.{masksWithin}
+use Rattle.replica.proofs.Cells.{round-empty, round-rest, words-part}
+use Rattle.replica.proofs.Words.{masks-small, round-elim}
+use borrow.Author.Needs.{needs}
 use Rattle.replica.proofs.wellformed.round_cells_ok.Statement.{statement}
 use Rattle.replica.proofs.wellformed.round_cells_ok.Tie as tie
+use Rattle.replica.proofs.wellformed.round_cells_ok.Reads as reads
+use Rattle.replica.proofs.wellformed.round_cells_ok.Lts as lts
+use Rattle.replica.proofs.layout.cell_at.Reads as cell-at-reads
+use Rattle.replica.proofs.layout.held_mask.Reads as held-mask-reads
+use Rattle.replica.proofs.layout.wide.Reads as wide-reads
+use Rattle.replica.proofs.wellformed.is_zero.Reads as is-zero-reads
+use Rattle.replica.proofs.wellformed.members_ok.Reads as members-ok-reads
 
-abbrev Inv-loop : tie.InvT-loop
-Inv-loop state round terms p₀ p = (p ≤ 16) × (terms ≡ termsOf (memberCount state) round) × (all p (cellOk state round) ≡ true)
+-- src/wellformed.rt:279:13
+shared-slice-read-n : tie.Need-shared-slice-read-n
+shared-slice-read-n c = search needs
 
-abbrev μ-loop : tie.MeasureT-loop
-μ-loop state round terms p₀ p = 16 - p
+-- src/wellformed.rt:280:9
+cell-at-requires : tie.Need-cell-at-requires
+cell-at-requires c κs = search needs
 
-shared-slice-read-terms-of : tie.Need-shared-slice-read-terms-of Inv-loop μ-loop
-shared-slice-read-terms-of c = search needs
+-- src/wellformed.rt:281:15
+add-end : tie.Need-add-end
+add-end c = search needs
 
-terms-of-requires : tie.Need-terms-of-requires Inv-loop μ-loop
-terms-of-requires c κs = let g = legal-range _ (c .before .before .pre .1) in (omega arith, c .before .before .pre .2)
+-- src/wellformed.rt:282:8
+held-mask-requires : tie.Need-held-mask-requires
+held-mask-requires c κs = search needs
 
-loop-holds : tie.Need-loop-holds Inv-loop μ-loop
-loop-holds c = (omega arith, c .terms-of .ensures, all-none _)
+-- src/wellformed.rt:283:24
+mul-is-zero : tie.Need-mul-is-zero
+mul-is-zero c = search needs
 
-cell-ok-requires : tie.Need-cell-ok-requires Inv-loop μ-loop
-cell-ok-requires c κs = (c .before .before .before .before .before .pre .0, c .before .loop .inv .1, c .before .before .before .before .before .pre .1, c .before .before .before .before .before .pre .2, c .before .before .before .before .before .pre .3, omega arith, c .before .before .before .before .before .pre .4)
+-- src/wellformed.rt:283:24
+sub-is-zero : tie.Need-sub-is-zero
+sub-is-zero c = search needs
 
-returns : tie.Need-returns Inv-loop μ-loop
-returns c = sym (all-stop 16 (cellOk (c .before .before .before .before .before .before .before .args .state .now) (c .before .before .before .before .before .before .before .args .round)) (c .before .before .before .loop .p) (omega arith) (failed (c .before .cell-ok .ensures) (c .if1 .taken)))
+-- src/wellformed.rt:283:24
+part-is-zero-start : tie.Need-part-is-zero-start
+part-is-zero-start c = search needs
 
-add-p : tie.Need-add-p Inv-loop μ-loop
-add-p c = search needs
+-- src/wellformed.rt:283:24
+part-is-zero-end : tie.Need-part-is-zero-end
+part-is-zero-end c = search needs
 
-loop-less : tie.Need-loop-less Inv-loop μ-loop
-loop-less c = search needs
+-- src/wellformed.rt:283:9
+is-zero-requires : tie.Need-is-zero-requires
+is-zero-requires c κs = search needs
 
-loop-again : tie.Need-loop-again Inv-loop μ-loop
-loop-again c = (omega arith, c .before .before .before .loop .inv .1, all-more _ _ (c .before .before .before .loop .inv .2) (passed (c .before .cell-ok .ensures) (c .if1 .left)))
+-- src/wellformed.rt:283:9
+returns : tie.Need-returns
+returns c = c .is-zero .ensures ∙ words-part (c .before .before .before .before .before .before .before .args .state .now) _ _ (cellAt (c .before .before .before .before .before .before .before .args .round) 0) 160 (c .before .before .before .before .cell-at .ensures) (omega (arith, c .before .before .before .before .cell-at .ensures)) (omega arith) ∙ round-empty (c .before .before .before .before .before .before .before .args .state .now) (c .before .before .before .before .before .before .before .args .round) (sym (c .before .before .before .held-mask .ensures) ∙ c .before .before .if1 .taken)
 
-returns-2 : tie.Need-returns-2 Inv-loop μ-loop
-returns-2 c = let e : c .before .loop .p ≡ 16 = omega arith in sym (rw e at (c .before .loop .inv .2))
+-- src/wellformed.rt:285:9
+members-ok-requires : tie.Need-members-ok-requires
+members-ok-requires c κs = search needs
+
+-- src/wellformed.rt:286:9
+returns-2 : tie.Need-returns-2
+returns-2 c = let g = legal-range _ (c .before .before .before .before .before .before .before .pre .1) in
+    sym (sym (round-rest (c .before .before .before .before .before .before .before .args .state .now) (c .before .before .before .before .before .before .before .args .round) (memberCount (c .before .before .before .before .before .before .before .args .state .now)) (g .high) (masks-small (c .before .before .before .before .before .before .before .args .state .now) (c .before .before .before .before .before .before .before .args .round) (round-elim (masksWithin (c .before .before .before .before .before .before .before .args .state .now)) (c .before .before .before .before .before .before .before .pre .2) (c .before .before .before .before .before .before .before .args .round) (c .before .before .before .before .before .before .before .pre .3) (c .before .before .before .before .before .before .before .pre .4)) .held)) ∙ and-fails-left _ (failed (c .before .members-ok .ensures) (c .if2 .taken)))
+
+-- src/wellformed.rt:288:36
+wide-requires : tie.Need-wide-requires
+wide-requires c κs = search needs
+
+-- src/wellformed.rt:288:24
+mul-rest : tie.Need-mul-rest
+mul-rest c = let g = legal-range _ (c .before .before .before .before .before .before .before .before .pre .1) in omega (arith, g .high, c .wide .ensures)
+
+-- src/wellformed.rt:288:16
+add-rest : tie.Need-add-rest
+add-rest c = let g = legal-range _ (c .before .before .before .before .before .before .before .before .pre .1) in omega (arith, g .high, c .wide .ensures, c .before .before .before .before .before .cell-at .ensures)
+
+-- src/wellformed.rt:289:13
+mul-is-zero-2 : tie.Need-mul-is-zero-2
+mul-is-zero-2 c = let g = legal-range _ (c .before .before .before .before .before .before .before .before .pre .1) in omega (arith, g .high, c .wide .ensures, c .before .before .before .before .before .cell-at .ensures)
+
+-- src/wellformed.rt:289:13
+sub-is-zero-2 : tie.Need-sub-is-zero-2
+sub-is-zero-2 c = let g = legal-range _ (c .before .before .before .before .before .before .before .before .pre .1) in omega (arith, g .high, c .wide .ensures, c .before .before .before .before .before .cell-at .ensures)
+
+-- src/wellformed.rt:289:13
+part-is-zero-start-2 : tie.Need-part-is-zero-start-2
+part-is-zero-start-2 c = let g = legal-range _ (c .before .before .before .before .before .before .before .before .pre .1) in omega (arith, g .high, c .wide .ensures, c .before .before .before .before .before .cell-at .ensures)
+
+-- src/wellformed.rt:289:13
+part-is-zero-end-2 : tie.Need-part-is-zero-end-2
+part-is-zero-end-2 c = search needs
+
+-- src/wellformed.rt:289:5
+is-zero-requires-2 : tie.Need-is-zero-requires-2
+is-zero-requires-2 c κs = search needs
+
+-- src/wellformed.rt:275:1
+returns-3 : tie.Need-returns-3
+returns-3 c = let g = legal-range _ (c .before .before .before .before .before .before .before .before .before .before .pre .1) in
+    c .is-zero2 .ensures ∙ words-part (c .before .before .before .before .before .before .before .before .before .before .args .state .now) (c .before .before .before .before .before .before .before .cell-at .result + 10 * c .before .before .wide .result) (c .before .before .before .before .before .before .before .cell-at .result + 160) (cellAt (c .before .before .before .before .before .before .before .before .before .before .args .round) (memberCount (c .before .before .before .before .before .before .before .before .before .before .args .state .now))) (10 * (16 - memberCount (c .before .before .before .before .before .before .before .before .before .before .args .state .now))) (omega (arith, c .before .before .before .before .before .before .before .cell-at .ensures, c .before .before .wide .ensures)) (omega (arith, g .high, c .before .before .before .before .before .before .before .cell-at .ensures)) (omega (arith, g .high))
+    ∙ rw (passed (c .before .before .before .before .members-ok .ensures) (c .before .before .before .if2 .left)) at (round-rest (c .before .before .before .before .before .before .before .before .before .before .args .state .now) (c .before .before .before .before .before .before .before .before .before .before .args .round) (memberCount (c .before .before .before .before .before .before .before .before .before .before .args .state .now)) (g .high) (masks-small (c .before .before .before .before .before .before .before .before .before .before .args .state .now) (c .before .before .before .before .before .before .before .before .before .before .args .round) (round-elim (masksWithin (c .before .before .before .before .before .before .before .before .before .before .args .state .now)) (c .before .before .before .before .before .before .before .before .before .before .pre .2) (c .before .before .before .before .before .before .before .before .before .before .args .round) (c .before .before .before .before .before .before .before .before .before .before .pre .3) (c .before .before .before .before .before .before .before .before .before .before .pre .4)) .held))
 
 pub round-cells-ok-spec : {M : Type 1} → statement M
 round-cells-ok-spec =
     tie.close
     (tie.spec
-    Inv-loop
-    μ-loop
-    shared-slice-read-terms-of
-    terms-of-requires
-    loop-holds
-    cell-ok-requires
+    shared-slice-read-n
+    cell-at-requires
+    add-end
+    held-mask-requires
+    mul-is-zero
+    sub-is-zero
+    part-is-zero-start
+    part-is-zero-end
+    is-zero-requires
     returns
-    add-p
-    loop-less
-    loop-again
-    returns-2)
+    members-ok-requires
+    returns-2
+    wide-requires
+    mul-rest
+    add-rest
+    mul-is-zero-2
+    sub-is-zero-2
+    part-is-zero-start-2
+    part-is-zero-end-2
+    is-zero-requires-2
+    returns-3)

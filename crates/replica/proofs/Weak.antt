@@ -1,0 +1,66 @@
+-- Laws of the weak ids of a record, asked and looked up one after the other. Assumes nothing.
+use mathlib.Core.Path.{_≡_, refl, sym, ap, _∙_}
+use mathlib.Core.Bool.{Bool, true, false, _&&_, _||_}
+use mathlib.Core.List.{List}
+use Prim.Native.Nat.{ℕ, zero, suc, _-_, _*_, _≤_, _<_}
+use native.Mathlib.Omega.{arith}
+use lib.Dec.{eqb, ltb}
+use borrow.Author.Tests.{le-leb, lt-ltb, ltb-true}
+use Rattle.record.specs.Members.{faulty, has, idRound, idMember}
+use Rattle.record.specs.Layout.{weakCountOf, weakOf}
+use Rattle.record.specs.Questions.{roundOk, weakIdOk, rises, weakOk}
+use Rattle.record.proofs.Booleans.{and-left, and-right, and-both, and-fails-left, and-fails-right, bool-ext}
+use Rattle.record.specs.Below.{all}
+use Rattle.record.proofs.Below.{all-and}
+use Rattle.record.proofs.Masks.{has-bound}
+use Rattle.record.proofs.Turn.{weak-id}
+use Rattle.record.proofs.Parts.{weak-parts, weak-id-in, weak-id-high, rises-first, rises-later}
+use Rattle.replica.specs.State.{memberCount, heldMask, heldId}
+use Rattle.replica.specs.WellFormed.{eachRound, masksWithin}
+use Rattle.replica.proofs.Words.{masks-small, round-elim}
+use Rattle.replica.proofs.Parents.{round-in}
+
+-- x, the weak id in slot i, is above the last one, passes question 11 and is held; the last one is 15 for the first slot
+pub weak-slot : (l : List ℕ) (n r : ℕ) (body : List ℕ) (i last x : ℕ) → x ≡ weakOf body i → (i ≡ 0 → last ≡ 15) → (1 ≤ i → last ≡ weakOf body (i - 1))
+    → (ltb last x && (weakIdOk n r x && heldId l x)) ≡ ((rises body i && weakIdOk n r (weakOf body i)) && heldId l (weakOf body i))
+weak-slot l n r body zero last x e f g = rw (e, f refl, rises-first body) (bool-ext
+    (λ d. and-right (ltb 15 (weakOf body 0)) _ d)
+    (λ d. let w = weak-id n r (weakOf body 0) (and-left (weakIdOk n r (weakOf body 0)) _ d) in and-both (lt-ltb 15 (weakOf body 0) (omega (arith, w .1))) d))
+weak-slot l n r body (suc i) last x e f g =
+    rw (e, g (omega arith), rises-later body (suc i) (omega arith)) (regroup (ltb (weakOf body (suc i - 1)) (weakOf body (suc i))) _ _)
+  where
+    regroup : (a b c : Bool) → (a && (b && c)) ≡ ((a && b) && c)
+    regroup true b c = refl
+    regroup false b c = refl
+
+-- the last tests of a weak id: it is below the ids of the round before the record's, and its bit in the held mask decides
+pub weak-beyond : (l : List ℕ) (n r last x : ℕ) → 1 ≤ r → 16 * (r - 1) ≤ x → (ltb last x && (weakIdOk n r x && heldId l x)) ≡ false
+weak-beyond l n r last x low h = and-fails-right (ltb last x) (and-fails-left (heldId l x) (weak-id-high n r x (omega arith)))
+
+pub weak-held : (l : List ℕ) (n r last x : ℕ) → n ≡ memberCount l → eachRound (masksWithin l) ≡ true → r ≤ 32 → 15 ≤ last → last < x → x < 16 * (r - 1)
+    → has (heldMask l (idRound x)) (idMember x) ≡ (ltb last x && (weakIdOk n r x && heldId l x))
+weak-held l n r last x e w high f g h = bool-ext
+    (λ d. let b : idMember x < n = rw (sym e) at (has-bound (memberCount l) (heldMask l (idRound x)) (idMember x) (masks-small l (idRound x) (round-elim (masksWithin l) w (idRound x) (omega arith) (omega arith)) .held) d) in
+    and-both (lt-ltb last x g) (and-both (weak-id-in n r x b (omega arith) (omega arith)) (and-both (round-in (idRound x) (omega arith) (omega arith)) d)))
+    (λ d. and-right (roundOk (idRound x)) _ (and-right (weakIdOk n r x) _ (and-right (ltb last x) _ d)))
+
+pub weak-above : (l : List ℕ) (n r last x : ℕ) → (ltb last x && (weakIdOk n r x && heldId l x)) ≡ true → last < x
+weak-above l n r last x e = ltb-true last x (and-left (ltb last x) _ e)
+
+-- ---- all of them
+
+-- questions 11 and 14: not too many, those in use pass and are held, and the other slots are 0
+pub weak-all : (l : List ℕ) (n r : ℕ) (body : List ℕ) → weakCountOf body ≤ 5 → weakCountOf body ≤ faulty n
+    → (all (weakCountOf body) (λ i. (rises body i && weakIdOk n r (weakOf body i)) && heldId l (weakOf body i)) && all 5 (λ i. ltb i (weakCountOf body) || eqb (weakOf body i) 0))
+    ≡ (weakOk n r body && all (weakCountOf body) (λ i. heldId l (weakOf body i)))
+weak-all l n r body few h =
+    ap (λ (b : Bool). b && all 5 (λ i. ltb i (weakCountOf body) || eqb (weakOf body i) 0)) (all-and (weakCountOf body) (λ i. rises body i && weakIdOk n r (weakOf body i)) (λ i. heldId l (weakOf body i)))
+    ∙ swap (all (weakCountOf body) (λ i. rises body i && weakIdOk n r (weakOf body i))) (all (weakCountOf body) (λ i. heldId l (weakOf body i))) _
+    ∙ ap (λ (b : Bool). b && all (weakCountOf body) (λ i. heldId l (weakOf body i))) (sym (rw (le-leb (weakCountOf body) (faulty n) h) at (weak-parts n r body few)))
+  where
+    swap : (a b c : Bool) → ((a && b) && c) ≡ ((a && c) && b)
+    swap true true true = refl
+    swap true true false = refl
+    swap true false true = refl
+    swap true false false = refl
+    swap false b c = refl

@@ -8,6 +8,7 @@
 #include <cmath>
 #include <cstdio>
 #include <cstdlib>
+#include <optional>
 #include <string>
 #include <string_view>
 #include <vector>
@@ -158,6 +159,65 @@ void print_short_table(const std::vector<Timed>& all) {
         }
 }
 
+// What a full round adds to a call, from the emptiest state that the call is timed on to the fullest.
+struct Growth {
+    double our = 0, plain = 0;  // ns a round
+};
+
+std::optional<Growth> growth(const std::vector<Timed>& all, std::string_view name, u32 n) {
+    const Timed *from = nullptr, *to = nullptr;
+    for (const u32 rounds : fullness)
+        if (const Timed* t = find(all, name, n, rounds)) (from == nullptr ? from : to) = t;
+    if (to == nullptr) return {};
+    const double added = to->c.rounds - from->c.rounds;
+    return Growth{(to->ns[ours] - from->ns[ours]) / added, (to->ns[plain_engine] - from->ns[plain_engine]) / added};
+}
+
+// Opening writes every word of any state: what it adds is less than the timer can tell.
+constexpr double least_growth = 5;
+
+void print_growth(const std::vector<Timed>& all) {
+    std::puts("\nWhat a full round adds to a call, library / plain C++ in ns, and the ratio:\n");
+    std::printf("| call |");
+    for (const u32 n : member_counts) std::printf(" n = %u |", n);
+    std::printf("\n|:--|");
+    for (std::size_t i = 0; i < member_counts.size(); ++i) std::printf(":--|");
+    std::vector<std::string> names;
+    for (const Timed& t : all)
+        if (std::find(names.begin(), names.end(), t.c.name) == names.end()) names.push_back(t.c.name);
+    for (const std::string& name : names) {
+        std::printf("\n| %s |", name.c_str());
+        for (const u32 n : member_counts) {
+            const std::optional<Growth> g = growth(all, name, n);
+            if (!g || g->plain < least_growth) std::printf(" - |");
+            else std::printf(" %.0f / %.0f, %.2f |", g->our, g->plain, g->our / g->plain);
+        }
+    }
+    std::puts("");
+}
+
+// How many rows are above the limit, and the largest ratios.
+void print_summary(const std::vector<Timed>& all) {
+    static constexpr double limit = 1.05;
+    int rows = 0, above = 0, steeper = 0;
+    double largest = 0, steepest = 0;
+    for (const Timed& t : all) {
+        if (t.ns[ours] < least_ns || t.ns[plain_engine] < least_ns) continue;
+        const double r = t.ns[ours] / t.ns[plain_engine];
+        ++rows;
+        above += r > limit;
+        largest = std::max(largest, r);
+        if (t.c.rounds != fullness.back()) continue;
+        const std::optional<Growth> g = growth(all, t.c.name, t.c.n);
+        if (!g || g->plain < least_growth) continue;
+        steeper += g->our > limit * g->plain;
+        steepest = std::max(steepest, g->our / g->plain);
+    }
+    std::printf("\nRows: %d. Slower than the plain engine by a ratio above %.2f: %d; largest ratio %.2f. "
+                "Growth steeper by a ratio above %.2f: %d; largest ratio %.2f.\n",
+                rows, limit, above, largest, limit, steeper, steepest);
+}
+
 std::vector<Panel> panels(const std::vector<Timed>& all) {
     struct Shown {
         const char *name, *text;
@@ -228,6 +288,8 @@ int main(int argc, char** argv) {
 
     if (brief) print_short_table(all);
     else print_table(all);
+    print_growth(all);
+    print_summary(all);
     std::printf("\nMedians of %d calls of the library and of the plain engine, and %d of the second implementation, interleaved. "
                 "The words are warm: each timed call follows the same call by the same engine on the same words. "
                 "The cost of an empty call, %.0f ns with the timer, is taken off each. "

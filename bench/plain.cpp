@@ -85,21 +85,32 @@ bool masks_ok(const Group& g, const u32* state) {
     return bad == 0;
 }
 
+bool zero(const u32* from, const u32* to) {
+    u32 joined = 0;
+    for (; from != to; ++from) joined |= *from;
+    return joined == 0;
+}
+
 bool cells_ok(const Group& g, const u32* state) {
     u32 leader = 0, previous = 0;
     for (u32 r = 1; r <= rounds; ++r) {
         const u32 here = mask(state, r, held);
-        u32 stray = 0;
-        for (u32 p = 0; p < slots; ++p) {
-            const u32* body = cell(state, r, p);
-            if (has(here, p)) {
-                if (check_body(g, r, p, leader, previous, body) != 0) return false;
-                if (!parents_held(state, r, body)) return false;
-            } else {
-                for (std::size_t i = 0; i < body_words; ++i) stray |= body[i];
+        const u32* end = cell(state, r, slots);
+        if (here == 0) {
+            if (!zero(cell(state, r, 0), end)) return false;
+        } else {
+            u32 stray = 0;
+            for (u32 p = 0; p < g.n; ++p) {
+                const u32* body = cell(state, r, p);
+                if (has(here, p)) {
+                    if (check_body(g, r, p, leader, previous, body) != 0) return false;
+                    if (!parents_held(state, r, body)) return false;
+                } else {
+                    for (std::size_t i = 0; i < body_words; ++i) stray |= body[i];
+                }
             }
+            if (stray != 0 || !zero(cell(state, r, g.n), end)) return false;
         }
-        if (stray != 0) return false;
         previous = leader;
         leader = leader + 1 == g.n ? 0 : leader + 1;
     }
@@ -131,12 +142,6 @@ bool journal_ok(const u32* state) {
     u32 rest = 0;
     for (u32 r = 1; r <= rounds; ++r) rest |= left[r];
     return rest == 0;
-}
-
-bool zero(const u32* from, const u32* to) {
-    u32 joined = 0;
-    for (; from != to; ++from) joined |= *from;
-    return joined == 0;
 }
 
 bool well_formed(const u32* state) {

@@ -22,9 +22,9 @@ use Rattle.replica.proofs.Sound.{well-formed}
 use Rattle.protocol.specs.Chain.{leaders}
 use Rattle.protocol.specs.Journal.{journal}
 use Rattle.replica.proofs.Opened.{opened-members, opened-word, opened-leaders, opened-journal, opened-vertices, opened-firsts, opened-sound}
-use Rattle.ordering.specs.Commit.{raiseRound, commitAll}
+use Rattle.commits.specs.Commit.{raiseRound, commitAll}
 use Rattle.ordering.specs.Calls.{addMember, putVertex, hear, vertexQuestions, firstQuestions, noteQuestions, takeBody, takeFirstBody, takeTimeout, takeNoVote}
-use Rattle.ordering.proofs.Steps.{not-led}
+use Rattle.commits.proofs.Steps.{not-led}
 use Rattle.ordering.proofs.Marks.{sound-raise, sound-timeout, sound-no-vote}
 use Rattle.agreement.specs.Call.{Call, opening, vertex, firstMessage, timeout, noVote, status, askLeaderList, askJournalList, handLeaderList, handJournalList, outcomeOf, run, allowed, allAllowed}
 use Rattle.agreement.specs.Model.{Model, empty, admit, follow, modelOf, dagOf}

@@ -26,12 +26,12 @@ use Rattle.replica.specs.State.{memberCount, committedRound, heldMask, heardMas
 use Rattle.replica.proofs.Words.{legal-pow}
 use Rattle.replica.proofs.Sound.{Sound}
 use Rattle.replica.proofs.Dags.{held-vertex, dag-well-formed}
-use Rattle.ordering.specs.Commit.{commit, committable, lowest, commitUpTo, raiseRound}
+use Rattle.commits.specs.Commit.{commit, committable, lowest, commitUpTo, raiseRound}
 use Rattle.ordering.specs.Calls.{putVertex, hear, vertexQuestions, firstQuestions}
-use Rattle.ordering.proofs.Steps.{committable-at}
-use Rattle.ordering.proofs.Frame.{Alike, vertices-same, firsts-same}
-use Rattle.ordering.proofs.Frames.{lists-members}
-use Rattle.ordering.proofs.Growing.{grown, commit-vertices, commit-firsts, commit-round, commit-leaders, commit-journal}
+use Rattle.commits.proofs.Steps.{committable-at}
+use Rattle.commits.proofs.Frame.{Alike, vertices-same, firsts-same}
+use Rattle.commits.proofs.Frames.{lists-members}
+use Rattle.commits.proofs.Growing.{grown, commit-vertices, commit-firsts, commit-round, commit-leaders, commit-journal}
 use Rattle.ordering.proofs.Marks.{sound-raise, sound-put, sound-hear}
 use Rattle.ordering.proofs.Kept.{sound-commit, committable-round}
 use Rattle.agreement.specs.Model.{Model, dagOf}

@@ -29,7 +29,7 @@ use Rattle.replica.specs.Outcome.{Outcome, outcome}
 use Rattle.replica.specs.Lists.{opened, openState, stateQuestions, askLeaders, askJournal, handLeaders, handJournal}
 use Rattle.replica.proofs.Sound.{Sound, sound, well-formed}
 use Rattle.replica.proofs.Opened.{opened-sound}
-use Rattle.ordering.specs.Commit.{passable, highestPassable, raiseRound, appendLeader, appendLeaders, enter, enterAll, orderLeader, orderLeaders, commit, committable, lowest, commitUpTo}
+use Rattle.commits.specs.Commit.{passable, highestPassable, raiseRound, appendLeader, appendLeaders, enter, enterAll, orderLeader, orderLeaders, commit, committable, lowest, commitUpTo}
 use Rattle.ordering.specs.Calls.{addMember, sameBody, placeQuestions, putVertex, takeBody, hear, takeFirstBody, takeTimeout, takeNoVote}
 use Rattle.ordering.proofs.Kept.{keeps}
 use Rattle.agreement.specs.Call.{Call, opening, vertex, firstMessage, timeout, noVote, status, askLeaderList, askJournalList, handLeaderList, handJournalList, reading, outcomeOf, run}

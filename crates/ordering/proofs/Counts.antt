@@ -14,8 +14,8 @@ use Rattle.protocol.proofs.Journal.{extend-prefix}
 use Rattle.replica.specs.State.{memberCount, leaderCount, journalCount, journalList, vertices}
 use Rattle.replica.specs.Outcome.{admitted}
 use Rattle.replica.proofs.Sound.{Sound, journal-length}
-use Rattle.ordering.specs.Commit.{taken, commit, committable, lowest, commitUpTo}
-use Rattle.ordering.proofs.Growing.{commit-leader-count, commit-journal-length}
+use Rattle.commits.specs.Commit.{taken, commit, committable, lowest, commitUpTo}
+use Rattle.commits.proofs.Growing.{commit-leader-count, commit-journal-length}
 use Rattle.ordering.proofs.Kept.{sound-commit, committable-round}
 
 -- over one commit

@@ -31,13 +31,13 @@ use Rattle.replica.specs.Outcome.{outcome}
 use Rattle.replica.proofs.Sound.{Sound, Leaders, Journal, Led, led-append, led-more, sound, well-formed}
 use Rattle.replica.proofs.Dags.{round-ok, held-id, in-mask}
 use Rattle.replica.proofs.Keeping.{Keeps, front-kept, masks-kept, cells-kept, held-kept, held-id-kept}
-use Rattle.ordering.specs.Commit.{taken, commit, committable, lowest, commitUpTo, commitAll, raiseRound}
+use Rattle.commits.specs.Commit.{taken, commit, committable, lowest, commitUpTo, commitAll, raiseRound}
 use Rattle.ordering.specs.Calls.{putVertex, hear, takeBody, takeFirstBody, takeTimeout, takeNoVote, placeQuestions, vertexQuestions, firstQuestions}
 use Rattle.ordering.specs.Kept.{LeavesWellFormed, KeepsWellFormed}
-use Rattle.ordering.specs.Standing.{Standing, Room}
-use Rattle.ordering.proofs.Ground.{standing, room-limit}
-use Rattle.ordering.proofs.Frames.{OffLists, off-front, off-zeros, off-mask, off-cells}
-use Rattle.ordering.proofs.Growing.{Committed, grown, leaders-fit}
+use Rattle.commits.specs.Standing.{Standing, Room}
+use Rattle.commits.proofs.Ground.{standing, room-limit}
+use Rattle.commits.proofs.Frames.{OffLists, off-front, off-zeros, off-mask, off-cells}
+use Rattle.commits.proofs.Growing.{Committed, grown, leaders-fit}
 use Rattle.ordering.proofs.Turns.{record-passed, parents-passed, note-passed}
 use Rattle.ordering.proofs.Marks.{sound-raise, sound-put, sound-hear, sound-timeout, sound-no-vote}
 

@@ -1,17 +1,7 @@
-pub mod Laws
-pub mod Walking
-pub mod Steps
-pub mod Frame
-pub mod Entering
-pub mod Committing
-pub mod Repeating
 pub mod Copying
 pub mod Search
 pub mod Turns
 pub mod Writing
-pub mod Ground
-pub mod Frames
-pub mod Growing
 pub mod Marks
 pub mod Kept
 pub mod Counts

@@ -22,7 +22,7 @@ use Rattle.replica.specs.State.{memberCount, currentRound, heldMask, heardMask,
 use Rattle.replica.specs.WellFormed.{parentsHeld}
 use Rattle.replica.proofs.Sound.{Masks, Cells, Sound}
 use Rattle.replica.proofs.Keeping.{Keeps, keeps-set, keeps-part, parents-more, front-kept, masks-kept, cells-kept, held-kept, held-id-kept, leaders-kept, journal-kept}
-use Rattle.ordering.specs.Commit.{passable, highestPassable, raiseRound}
+use Rattle.commits.specs.Commit.{passable, highestPassable, raiseRound}
 use Rattle.ordering.specs.Calls.{addMember, putVertex, hear}
 use Rattle.ordering.proofs.Copying.{paste-before, paste-after, paste-part}
 

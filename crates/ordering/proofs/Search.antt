@@ -20,7 +20,7 @@ use Rattle.protocol.specs.Journal.{idLimit}
 use Rattle.replica.specs.State.{heldId}
 use Rattle.replica.specs.WellFormed.{isParent, missing, parentsHeld}
 use Rattle.replica.proofs.Parents.{strong-parent, weak-parent, parent-cases, weak-five}
-use Rattle.ordering.specs.Standing.{parentAt, groupSize}
+use Rattle.ordering.specs.Search.{parentAt, groupSize}
 
 -- the groups below g have been looked at, and all their parents are held
 pub record Passed (n r : ℕ) (l body : List ℕ) (g : ℕ) : Type 0 where

@@ -16,7 +16,7 @@ use Rattle.replica.specs.WellFormed.{wellFormed, parentsHeld}
 use Rattle.replica.specs.Outcome.{Outcome, told, refusedBy, admitted}
 use Rattle.replica.specs.declared.answer.Answer.{Answer}
 use Rattle.replica.proofs.Sound.{Sound, well-formed}
-use Rattle.ordering.specs.Commit.{raiseRound, commitAll}
+use Rattle.commits.specs.Commit.{raiseRound, commitAll}
 use Rattle.ordering.specs.Calls.{addMember, placeQuestions, vertexQuestions, putVertex, takeBody, takeVertex, firstQuestions, hear, takeFirstBody, takeFirstMessage, noteQuestions, takeTimeout, takeNoVote}
 use Rattle.ordering.proofs.Turns.{outcome-refused, outcome-admitted, record-passed, parents-passed, note-passed}
 use Rattle.ordering.proofs.Counts.{same-growth, no-growth}

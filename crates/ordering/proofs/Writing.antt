@@ -20,10 +20,10 @@ use Rattle.replica.specs.Layout.{masksAt, heldAt, heardAt, votesAt, cellAt}
 use Rattle.replica.specs.State.{memberCount, currentRound, committedRound, leaderCount, journalCount, heldMask, heardMask, votesMask, leaderList, journalList, cell, vertices, firsts}
 use Rattle.replica.proofs.Parents.{round-in}
 use Rattle.replica.proofs.Keeping.{Keeps, keeps-part, vertices-kept}
-use Rattle.ordering.specs.Commit.{highestPassable, raiseRound}
+use Rattle.commits.specs.Commit.{highestPassable, raiseRound}
 use Rattle.ordering.specs.Calls.{addMember, putVertex, hear}
 use Rattle.ordering.proofs.Copying.{paste-before, paste-after, paste-part}
-use Rattle.ordering.proofs.Frame.{Alike, alike-self, alike-set, loose-head}
+use Rattle.commits.proofs.Frame.{Alike, alike-self, alike-set, loose-head}
 
 -- ---- the lists stay
 

@@ -18,7 +18,7 @@ use Rattle.replica.specs.State.{memberCount, heldMask, heardMask, timeoutsMask,
 use Rattle.replica.specs.WellFormed.{missing, parentsHeld}
 use Rattle.replica.specs.Outcome.{Outcome, outcome}
 use Rattle.replica.specs.Lists.{stateQuestions}
-use Rattle.ordering.specs.Commit.{raiseRound, commitAll}
+use Rattle.commits.specs.Commit.{raiseRound, commitAll}
 
 -- member p is added to the mask in the word at
 unfoldable pub addMember : List ℕ → ℕ → ℕ → List ℕ

@@ -1,4 +1,3 @@
-pub mod Commit
 pub mod Calls
 pub mod Kept
-pub mod Standing
+pub mod Search

@@ -1,6 +1,2 @@
-// The calls that admit something, the round rule, and the commits.
+// The calls that admit something.
 pub mod calls;
-pub mod commit;
-pub mod history;
-pub mod rounds;
-pub mod walk;

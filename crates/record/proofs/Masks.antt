@@ -1,19 +1,19 @@
 -- Laws of masks of members, with `|`, `&`, `1 << p` and `count_ones`. Assumes nothing.
 use mathlib.Core.Path.{_≡_, refl, sym, ap, ap₂, _∙_}
-use mathlib.Core.Bool.{Bool, true, false, cond, not, _&&_, _||_, true≢false}
-use mathlib.Core.Logic.{_⊎_, inl, inr, ⊎-elim}
+use mathlib.Core.Bool.{Bool, true, false, cond, _&&_, _||_, true≢false}
+use mathlib.Core.Logic.{⊎-elim}
 use Prim.Native.Nat.{ℕ, zero, suc, _+_, _-_, _*_, _/_, _%_, _^_, _≤_, _<_}
 use native.Mathlib.Nat.{pow-suc, mul-comm, one-mul, lt-of-lt-of-le, mod-lt, mod-le, zero-mod, zero-div, div-eq-of-lt, div-div-eq-div-mul}
 use native.Mathlib.Omega.{arith}
 use lib.Arith.{lt-one}
 use lib.Bits.{bitOr, bitAnd, or-shr, or-mod, or-lt, or-add-and, and-le-l, and-le-r, and-shr, and-mod}
 use lib.Count.{ones, ones-step}
-use lib.Dec.{eqb, leb, ltb, eqb·zero-suc, eqb·suc-zero, eqb·suc-suc, lit<}
+use lib.Dec.{eqb, leb, eqb·zero-suc, eqb·suc-zero, eqb·suc-suc, lit<}
 use lib.Pow.{pow-mono, pow-lt, pow-pos, shl-exact, split}
 use borrow.Author.Tests.{leb-true, leb-false, lt-ltb, ltb-true, eqb-true, eq-eqb, ne-eqb}
 use Rattle.record.specs.Below.{count}
 use Rattle.record.specs.Members.{legal, faulty, quorum, leader, has, add, within, meets}
-use Rattle.record.proofs.Booleans.{which, and-left, and-right, and-both, or-left, or-right, bool-ext}
+use Rattle.record.proofs.Booleans.{which, and-left, and-right, and-both, or-right, bool-ext}
 use Rattle.record.proofs.Below.{count-cong, count-low}
 
 -- ---- the group

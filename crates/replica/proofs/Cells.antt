@@ -8,15 +8,15 @@ use native.Mathlib.Omega.{arith}
 use lib.Dec.{eqb}
 use lib.ListN.{length, getD, take, drop}
 use Rattle.record.specs.Below.{all}
-use Rattle.record.specs.Members.{has, within}
+use Rattle.record.specs.Members.{has}
 use Rattle.record.specs.Refusals.{numberOf}
 use Rattle.record.specs.Questions.{bodyRefusal}
-use Rattle.record.proofs.Booleans.{which, and-left, cond-true, cond-false}
-use Rattle.record.proofs.Below.{all-elim, all-cong, all-join}
+use Rattle.record.proofs.Booleans.{which, cond-true, cond-false}
+use Rattle.record.proofs.Below.{all-cong, all-join}
 use Rattle.record.proofs.Masks.{has-zero, has-bound}
 use Rattle.replica.specs.Layout.{cellAt}
 use Rattle.replica.specs.State.{memberCount, heldMask, cell}
-use Rattle.replica.specs.WellFormed.{eachRound, masksWithin, parentsHeld, cellOk}
+use Rattle.replica.specs.WellFormed.{parentsHeld, cellOk}
 use Rattle.replica.proofs.Laws.{part-zero}
 
 -- the lent part is the cell

@@ -14,7 +14,7 @@ use Rattle.record.specs.Below.{all}
 use Rattle.record.specs.Members.{has, within}
 use Rattle.record.proofs.Booleans.{and-left, and-right, and-both, bool-ext}
 use Rattle.record.proofs.Below.{all-cong}
-use Rattle.record.proofs.Masks.{or-zero, has-and, mask-ext, within-lt, within-or}
+use Rattle.record.proofs.Masks.{or-zero, has-and, mask-ext, within-or}
 use Rattle.replica.specs.WellFormed.{subset}
 
 -- ---- words that are zero

@@ -8,15 +8,12 @@ use Rattle.capi.proofs.answer.plain_answer.Lts as lts
 use Rattle.record.proofs.refusal.missing_id.Reads as missing-id-reads
 use Rattle.record.proofs.refusal.number.Reads as number-reads
 
--- src/answer.rt:37:17
 number-requires : tie.Need-number-requires
 number-requires c κs = search needs
 
--- src/answer.rt:38:13
 missing-id-requires : tie.Need-missing-id-requires
 missing-id-requires c κs = search needs
 
--- src/answer.rt:32:1
 returns : tie.Need-returns
 returns c = ap₂ (λ (x y : ℕ). record { number = x; id = y; leaders = c .before .before .args .answer .leaders; journal = c .before .before .args .answer .journal }) (c .before .number .ensures) (c .missing-id .ensures)
 

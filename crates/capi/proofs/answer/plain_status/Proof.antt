@@ -7,11 +7,9 @@ use Rattle.capi.proofs.answer.plain_status.Reads as reads
 use Rattle.capi.proofs.answer.plain_status.Lts as lts
 use Rattle.record.proofs.refusal.number.Reads as number-reads
 
--- src/answer.rt:49:17
 number-requires : tie.Need-number-requires
 number-requires c κs = search needs
 
--- src/answer.rt:44:1
 returns : tie.Need-returns
 returns c = ap (λ (x : ℕ). record { number = x; «current_round» = c .before .args .status .«current_round»; «committed_round» = c .before .args .status .«committed_round»; «leader_count» = c .before .args .status .«leader_count»; «journal_count» = c .before .args .status .«journal_count» }) (c .number .ensures)
 

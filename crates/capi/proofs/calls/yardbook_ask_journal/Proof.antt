@@ -8,15 +8,12 @@ use Rattle.capi.proofs.calls.yardbook_ask_journal.Lts as lts
 use Rattle.record.proofs.refusal.number.Reads as number-reads
 use Rattle.replica.proofs.lists.ask_journal.Reads as ask-journal-reads
 
--- src/calls.rt:79:12
 ask-journal-requires : tie.Need-ask-journal-requires
 ask-journal-requires c κs = search needs
 
--- src/calls.rt:79:5
 number-requires : tie.Need-number-requires
 number-requires c κs = search needs
 
--- src/calls.rt:75:1
 returns : tie.Need-returns
 returns c = c .number .ensures ∙ ap numberOf (c .before .ask-journal .ensures)
 

@@ -8,15 +8,12 @@ use Rattle.capi.proofs.calls.yardbook_ask_leaders.Lts as lts
 use Rattle.record.proofs.refusal.number.Reads as number-reads
 use Rattle.replica.proofs.lists.ask_leaders.Reads as ask-leaders-reads
 
--- src/calls.rt:72:12
 ask-leaders-requires : tie.Need-ask-leaders-requires
 ask-leaders-requires c κs = search needs
 
--- src/calls.rt:72:5
 number-requires : tie.Need-number-requires
 number-requires c κs = search needs
 
--- src/calls.rt:68:1
 returns : tie.Need-returns
 returns c = c .number .ensures ∙ ap numberOf (c .before .ask-leaders .ensures)
 

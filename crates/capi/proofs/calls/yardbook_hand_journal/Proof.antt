@@ -12,31 +12,24 @@ use Rattle.capi.proofs.calls.yardbook_hand_journal.Lts as lts
 use Rattle.record.proofs.refusal.number.Reads as number-reads
 use Rattle.replica.proofs.lists.ask_journal.Reads as ask-journal-reads
 
--- src/calls.rt:105:22
 ask-journal-requires : tie.Need-ask-journal-requires
 ask-journal-requires c κs = search needs
 
--- src/calls.rt:105:9
 number-requires : tie.Need-number-requires
 number-requires c κs = search needs
 
--- src/calls.rt:107:9
 returns : tie.Need-returns
 returns c = journal-refused (c .before .before .before .before .args .state .now) (c .before .before .before .before .args .k) _ (c .before .number .ensures ∙ ap numberOf (c .before .before .ask-journal .ensures)) (c .if1 .taken)
 
--- src/calls.rt:115:16
 add-t6 : tie.Need-add-t6
 add-t6 c = let a = journal-asked (c .before .before .before .before .args .state .now) (c .before .before .before .before .args .k) (sym (c .before .number .ensures ∙ ap numberOf (c .before .before .ask-journal .ensures)) ∙ c .if1 .left) in let n = counts (c .before .before .before .before .args .state .now) (a .1) in omega (arith, a .2, n .0, n .1)
 
--- src/calls.rt:116:17
 shared-slice-read-t8 : tie.Need-shared-slice-read-t8
 shared-slice-read-t8 c = let a = journal-asked (c .before .before .before .before .before .args .state .now) (c .before .before .before .before .before .args .k) (sym (c .before .before .number .ensures ∙ ap numberOf (c .before .before .before .ask-journal .ensures)) ∙ c .before .if1 .left) in omega (arith, a .0)
 
--- src/calls.rt:116:17
 sub-t9 : tie.Need-sub-t9
 sub-t9 c = let a = journal-asked (c .before .before .before .before .before .args .state .now) (c .before .before .before .before .before .args .k) (sym (c .before .before .number .ensures ∙ ap numberOf (c .before .before .before .ask-journal .ensures)) ∙ c .before .if1 .left) in omega (arith, a .2)
 
--- src/calls.rt:101:1
 returns-2 : tie.Need-returns-2
 returns-2 c = journal-given (c .before .before .before .before .before .args .state .now) (c .before .before .before .before .before .args .k) (sym (c .before .before .number .ensures ∙ ap numberOf (c .before .before .before .ask-journal .ensures)) ∙ c .before .if1 .left)
 

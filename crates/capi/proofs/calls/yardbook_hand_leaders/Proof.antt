@@ -12,31 +12,24 @@ use Rattle.capi.proofs.calls.yardbook_hand_leaders.Lts as lts
 use Rattle.record.proofs.refusal.number.Reads as number-reads
 use Rattle.replica.proofs.lists.ask_leaders.Reads as ask-leaders-reads
 
--- src/calls.rt:86:22
 ask-leaders-requires : tie.Need-ask-leaders-requires
 ask-leaders-requires c κs = search needs
 
--- src/calls.rt:86:9
 number-requires : tie.Need-number-requires
 number-requires c κs = search needs
 
--- src/calls.rt:88:9
 returns : tie.Need-returns
 returns c = leaders-refused (c .before .before .before .before .args .state .now) (c .before .before .before .before .args .k) _ (c .before .number .ensures ∙ ap numberOf (c .before .before .ask-leaders .ensures)) (c .if1 .taken)
 
--- src/calls.rt:96:16
 add-t6 : tie.Need-add-t6
 add-t6 c = let a = leaders-asked (c .before .before .before .before .args .state .now) (c .before .before .before .before .args .k) (sym (c .before .number .ensures ∙ ap numberOf (c .before .before .ask-leaders .ensures)) ∙ c .if1 .left) in let n = counts (c .before .before .before .before .args .state .now) (a .1) in omega (arith, a .2, n .0, n .1)
 
--- src/calls.rt:97:17
 shared-slice-read-t8 : tie.Need-shared-slice-read-t8
 shared-slice-read-t8 c = let a = leaders-asked (c .before .before .before .before .before .args .state .now) (c .before .before .before .before .before .args .k) (sym (c .before .before .number .ensures ∙ ap numberOf (c .before .before .before .ask-leaders .ensures)) ∙ c .before .if1 .left) in omega (arith, a .0)
 
--- src/calls.rt:97:17
 sub-t9 : tie.Need-sub-t9
 sub-t9 c = let a = leaders-asked (c .before .before .before .before .before .args .state .now) (c .before .before .before .before .before .args .k) (sym (c .before .before .number .ensures ∙ ap numberOf (c .before .before .before .ask-leaders .ensures)) ∙ c .before .if1 .left) in omega (arith, a .2)
 
--- src/calls.rt:82:1
 returns-2 : tie.Need-returns-2
 returns-2 c = leaders-given (c .before .before .before .before .before .args .state .now) (c .before .before .before .before .before .args .k) (sym (c .before .before .number .ensures ∙ ap numberOf (c .before .before .before .ask-leaders .ensures)) ∙ c .before .if1 .left)
 

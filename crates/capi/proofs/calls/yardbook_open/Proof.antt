@@ -7,19 +7,15 @@ use Rattle.capi.proofs.calls.yardbook_open.Lts as lts
 use Rattle.capi.proofs.answer.plain_answer.Reads as plain-answer-reads
 use Rattle.replica.proofs.lists.open.Reads as open-reads
 
--- src/calls.rt:30:18
 open-requires : tie.Need-open-requires
 open-requires c κs = search needs
 
--- src/calls.rt:30:5
 plain-answer-requires : tie.Need-plain-answer-requires
 plain-answer-requires c κs = search needs
 
--- src/calls.rt:26:1
 same-length : tie.Need-same-length
 same-length c = search needs
 
--- src/calls.rt:26:1
 returns : tie.Need-returns
 returns c = answered (c .before .before .before .«open» .result) _ _ _ (c .plain-answer .ensures) (c .before .before .before .«open» .ensures)
 

@@ -8,15 +8,12 @@ use Rattle.capi.proofs.calls.yardbook_status.Lts as lts
 use Rattle.capi.proofs.answer.plain_status.Reads as plain-status-reads
 use Rattle.replica.proofs.lists.status.Reads as status-reads
 
--- src/calls.rt:65:18
 status-requires : tie.Need-status-requires
 status-requires c κs = search needs
 
--- src/calls.rt:65:5
 plain-status-requires : tie.Need-plain-status-requires
 plain-status-requires c κs = search needs
 
--- src/calls.rt:61:1
 returns : tie.Need-returns
 returns c = ap plainHead (c .plain-status .ensures) ∙ c .before .status .ensures
 

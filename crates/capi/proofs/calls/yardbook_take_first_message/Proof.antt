@@ -7,19 +7,15 @@ use Rattle.capi.proofs.calls.yardbook_take_first_message.Lts as lts
 use Rattle.capi.proofs.answer.plain_answer.Reads as plain-answer-reads
 use Rattle.ordering.proofs.calls.take_first_message.Reads as take-first-message-reads
 
--- src/calls.rt:44:18
 take-first-message-requires : tie.Need-take-first-message-requires
 take-first-message-requires c κs = search needs
 
--- src/calls.rt:44:5
 plain-answer-requires : tie.Need-plain-answer-requires
 plain-answer-requires c κs = search needs
 
--- src/calls.rt:40:1
 same-length : tie.Need-same-length
 same-length c = search needs
 
--- src/calls.rt:40:1
 returns : tie.Need-returns
 returns c = answered (c .before .before .before .take-first-message .result) _ _ _ (c .plain-answer .ensures) (c .before .before .before .take-first-message .ensures)
 

@@ -7,19 +7,15 @@ use Rattle.capi.proofs.calls.yardbook_take_no_vote.Lts as lts
 use Rattle.capi.proofs.answer.plain_answer.Reads as plain-answer-reads
 use Rattle.ordering.proofs.calls.take_no_vote.Reads as take-no-vote-reads
 
--- src/calls.rt:58:18
 take-no-vote-requires : tie.Need-take-no-vote-requires
 take-no-vote-requires c κs = search needs
 
--- src/calls.rt:58:5
 plain-answer-requires : tie.Need-plain-answer-requires
 plain-answer-requires c κs = search needs
 
--- src/calls.rt:54:1
 same-length : tie.Need-same-length
 same-length c = search needs
 
--- src/calls.rt:54:1
 returns : tie.Need-returns
 returns c = answered (c .before .before .before .take-no-vote .result) _ _ _ (c .plain-answer .ensures) (c .before .before .before .take-no-vote .ensures)
 

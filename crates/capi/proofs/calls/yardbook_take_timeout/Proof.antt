@@ -7,19 +7,15 @@ use Rattle.capi.proofs.calls.yardbook_take_timeout.Lts as lts
 use Rattle.capi.proofs.answer.plain_answer.Reads as plain-answer-reads
 use Rattle.ordering.proofs.calls.take_timeout.Reads as take-timeout-reads
 
--- src/calls.rt:51:18
 take-timeout-requires : tie.Need-take-timeout-requires
 take-timeout-requires c κs = search needs
 
--- src/calls.rt:51:5
 plain-answer-requires : tie.Need-plain-answer-requires
 plain-answer-requires c κs = search needs
 
--- src/calls.rt:47:1
 same-length : tie.Need-same-length
 same-length c = search needs
 
--- src/calls.rt:47:1
 returns : tie.Need-returns
 returns c = answered (c .before .before .before .take-timeout .result) _ _ _ (c .plain-answer .ensures) (c .before .before .before .take-timeout .ensures)
 

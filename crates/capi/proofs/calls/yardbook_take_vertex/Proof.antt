@@ -7,19 +7,15 @@ use Rattle.capi.proofs.calls.yardbook_take_vertex.Lts as lts
 use Rattle.capi.proofs.answer.plain_answer.Reads as plain-answer-reads
 use Rattle.ordering.proofs.calls.take_vertex.Reads as take-vertex-reads
 
--- src/calls.rt:37:18
 take-vertex-requires : tie.Need-take-vertex-requires
 take-vertex-requires c κs = search needs
 
--- src/calls.rt:37:5
 plain-answer-requires : tie.Need-plain-answer-requires
 plain-answer-requires c κs = search needs
 
--- src/calls.rt:33:1
 same-length : tie.Need-same-length
 same-length c = search needs
 
--- src/calls.rt:33:1
 returns : tie.Need-returns
 returns c = answered (c .before .before .before .take-vertex .result) _ _ _ (c .plain-answer .ensures) (c .before .before .before .take-vertex .ensures)
 

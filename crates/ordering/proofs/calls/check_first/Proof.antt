@@ -20,58 +20,45 @@ use Rattle.record.proofs.refusal.number.Reads as number-reads
 use Rattle.replica.proofs.layout.heard_mask.Reads as heard-mask-reads
 use Rattle.replica.proofs.lists.check_state.Reads as check-state-reads
 
--- src/calls.rt:202:9
 check-state-requires : tie.Need-check-state-requires
 check-state-requires c κs = search needs
 
--- src/calls.rt:203:8
 number-requires : tie.Need-number-requires
 number-requires c κs = search needs
 
--- src/calls.rt:204:9
 returns : tie.Need-returns
 returns c = at-state (c .before .before .before .before .before .args .state .now) (c .before .before .before .before .before .args .rec .now) _ _ (c .before .before .check-state .ensures) (λ d. c .if1 .taken (c .before .number .ensures ∙ d))
 
--- src/calls.rt:206:13
 shared-slice-read-n : tie.Need-shared-slice-read-n
 shared-slice-read-n c = omega (arith, state-ok (c .before .before .before .before .before .before .args .state .now) (sym (ap numberOf (c .before .before .before .check-state .ensures)) ∙ (sym (c .before .before .number .ensures) ∙ c .before .if1 .left)) .0)
 
--- src/calls.rt:207:9
 check-requires : tie.Need-check-requires
 check-requires c κs = search needs
 
--- src/calls.rt:208:8
 number-requires-2 : tie.Need-number-requires-2
 number-requires-2 c κs = search needs
 
--- src/calls.rt:209:9
 returns-2 : tie.Need-returns-2
 returns-2 c = at-record (c .before .before .before .before .before .before .before .before .before .args .state .now) (c .before .before .before .before .before .before .before .before .before .args .rec .now) _ _ _ (c .before .before .before .before .before .before .check-state .ensures) (sym (c .before .before .before .before .before .number .ensures) ∙ c .before .before .before .before .if1 .left) (c .before .before .check .ensures) (λ d. c .if2 .taken (c .before .number2 .ensures ∙ d))
 
--- src/calls.rt:212:33
 shared-slice-read-heard-mask : tie.Need-shared-slice-read-heard-mask
 shared-slice-read-heard-mask c = omega (arith, known-record (c .before .before .before .before .before .before .before .before .before .before .args .state .now) (c .before .before .before .before .before .before .before .before .before .before .args .rec .now) _ _ (c .before .before .before .before .before .before .before .check-state .ensures) (sym (c .before .before .before .before .before .before .number .ensures) ∙ c .before .before .before .before .before .if1 .left) (c .before .before .before .check .ensures) (sym (c .before .before .number2 .ensures) ∙ c .before .if2 .left) .3)
 
--- src/calls.rt:212:15
 heard-mask-requires : tie.Need-heard-mask-requires
 heard-mask-requires c κs = let k = known-record (c .before .before .before .before .before .before .before .before .before .before .args .state .now) (c .before .before .before .before .before .before .before .before .before .before .args .rec .now) _ _ (c .before .before .before .before .before .before .before .check-state .ensures) (sym (c .before .before .before .before .before .before .number .ensures) ∙ c .before .before .before .before .before .if1 .left) (c .before .before .before .check .ensures) (sym (c .before .before .number2 .ensures) ∙ c .before .if2 .left) in
     (k .0 .size, k .1 .round-low, k .1 .round-high)
 
--- src/calls.rt:215:18
 shared-slice-read-has : tie.Need-shared-slice-read-has
 shared-slice-read-has c = omega (arith, known-record (c .before .before .before .before .before .before .before .before .before .before .before .before .args .state .now) (c .before .before .before .before .before .before .before .before .before .before .before .before .args .rec .now) _ _ (c .before .before .before .before .before .before .before .before .before .check-state .ensures) (sym (c .before .before .before .before .before .before .before .before .number .ensures) ∙ c .before .before .before .before .before .before .before .if1 .left) (c .before .before .before .before .before .check .ensures) (sym (c .before .before .before .before .number2 .ensures) ∙ c .before .before .before .if2 .left) .3)
 
--- src/calls.rt:215:8
 has-requires : tie.Need-has-requires
 has-requires c κs = let k = known-record (c .before .before .before .before .before .before .before .before .before .before .before .before .args .state .now) (c .before .before .before .before .before .before .before .before .before .before .before .before .args .rec .now) _ _ (c .before .before .before .before .before .before .before .before .before .check-state .ensures) (sym (c .before .before .before .before .before .before .before .before .number .ensures) ∙ c .before .before .before .before .before .before .before .if1 .left) (c .before .before .before .before .before .check .ensures) (sym (c .before .before .before .before .number2 .ensures) ∙ c .before .before .before .if2 .left) in
     omega (arith, k .1 .source-low, k .0 .front .high)
 
--- src/calls.rt:216:9
 returns-3 : tie.Need-returns-3
 returns-3 c = past-record (c .before .before .before .before .before .before .before .before .before .before .before .before .before .before .args .state .now) (c .before .before .before .before .before .before .before .before .before .before .before .before .before .before .args .rec .now) _ _ _ _ (c .before .before .before .before .before .before .before .before .before .before .before .check-state .ensures) (sym (c .before .before .before .before .before .before .before .before .before .before .number .ensures) ∙ c .before .before .before .before .before .before .before .before .before .if1 .left) (c .before .before .before .before .before .before .before .check .ensures) (sym (c .before .before .before .before .before .before .number2 .ensures) ∙ c .before .before .before .before .before .if2 .left)
     (heard-before (heardMask (c .before .before .before .before .before .before .before .before .before .before .before .before .before .before .args .state .now) (roundOf (c .before .before .before .before .before .before .before .before .before .before .before .before .before .before .args .rec .now))) (sourceOf (c .before .before .before .before .before .before .before .before .before .before .before .before .before .before .args .rec .now)) (sym (rw (c .before .before .before .heard-mask .ensures) at (c .before .has .ensures)) ∙ c .if3 .taken))
 
--- src/calls.rt:199:1
 returns-4 : tie.Need-returns-4
 returns-4 c = past-record (c .before .before .before .before .before .before .before .before .before .before .before .before .before .before .args .state .now) (c .before .before .before .before .before .before .before .before .before .before .before .before .before .before .args .rec .now) _ _ _ _ (c .before .before .before .before .before .before .before .before .before .before .before .check-state .ensures) (sym (c .before .before .before .before .before .before .before .before .before .before .number .ensures) ∙ c .before .before .before .before .before .before .before .before .before .if1 .left) (c .before .before .before .before .before .before .before .check .ensures) (sym (c .before .before .before .before .before .before .number2 .ensures) ∙ c .before .before .before .before .before .if2 .left)
     (heard-first (heardMask (c .before .before .before .before .before .before .before .before .before .before .before .before .before .before .args .state .now) (roundOf (c .before .before .before .before .before .before .before .before .before .before .before .before .before .before .args .rec .now))) (sourceOf (c .before .before .before .before .before .before .before .before .before .before .before .before .before .before .args .rec .now)) (sym (rw (c .before .before .before .heard-mask .ensures) at (c .before .has .ensures)) ∙ c .if3 .left))

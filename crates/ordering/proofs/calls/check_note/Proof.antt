@@ -22,61 +22,47 @@ use Rattle.record.proofs.refusal.number.Reads as number-reads
 use Rattle.replica.proofs.layout.masks_at.Reads as masks-at-reads
 use Rattle.replica.proofs.lists.check_state.Reads as check-state-reads
 
--- src/calls.rt:226:9
 check-state-requires : tie.Need-check-state-requires
 check-state-requires c κs = search needs
 
--- src/calls.rt:227:8
 number-requires : tie.Need-number-requires
 number-requires c κs = search needs
 
--- src/calls.rt:228:9
 returns : tie.Need-returns
 returns c = note-state (c .before .before .before .before .args .state .now) _ _ _ _ (c .before .before .check-state .ensures) (λ d. c .if1 .taken (c .before .number .ensures ∙ d))
 
--- src/calls.rt:230:13
 shared-slice-read-n : tie.Need-shared-slice-read-n
 shared-slice-read-n c = omega (arith, state-ok (c .before .before .before .before .before .args .state .now) (sym (ap numberOf (c .before .before .before .check-state .ensures)) ∙ (sym (c .before .before .number .ensures) ∙ c .before .if1 .left)) .0)
 
--- src/calls.rt:232:9
 returns-2 : tie.Need-returns-2
 returns-2 c = note-round (c .before .before .before .before .before .before .args .state .now) _ _ _ _ (c .before .before .before .before .check-state .ensures) (sym (c .before .before .before .number .ensures) ∙ c .before .before .if1 .left) (round-below _ (c .if2 .taken))
 
--- src/calls.rt:235:9
 returns-3 : tie.Need-returns-3
 returns-3 c = note-round (c .before .before .before .before .before .before .before .args .state .now) _ _ _ _ (c .before .before .before .before .before .check-state .ensures) (sym (c .before .before .before .before .number .ensures) ∙ c .before .before .before .if1 .left) (round-above _ (c .if3 .taken))
 
--- src/calls.rt:238:9
 returns-4 : tie.Need-returns-4
 returns-4 c = note-signer (c .before .before .before .before .before .before .before .before .args .state .now) _ _ _ _ (c .before .before .before .before .before .before .check-state .ensures) (sym (c .before .before .before .before .before .number .ensures) ∙ c .before .before .before .before .if1 .left) (round-in _ (c .before .before .if2 .left) (c .before .if3 .left)) (c .if4 .taken)
 
--- src/calls.rt:240:14
 masks-at-requires : tie.Need-masks-at-requires
 masks-at-requires c κs = search needs
 
--- src/calls.rt:240:14
 add-at : tie.Need-add-at
 add-at c = search needs
 
--- src/calls.rt:241:32
 mul-t12 : tie.Need-mul-t12
 mul-t12 c = search needs
 
--- src/calls.rt:241:32
 shared-slice-read-t9 : tie.Need-shared-slice-read-t9
 shared-slice-read-t9 c = omega (arith, c .before .masks-at .ensures, state-ok (c .before .before .before .before .before .before .before .before .before .before .args .state .now) (sym (ap numberOf (c .before .before .before .before .before .before .before .before .check-state .ensures)) ∙ (sym (c .before .before .before .before .before .before .before .number .ensures) ∙ c .before .before .before .before .before .before .if1 .left)) .0)
 
--- src/calls.rt:242:8
 has-requires : tie.Need-has-requires
 has-requires c κs = let s = state-ok (c .before .before .before .before .before .before .before .before .before .before .args .state .now) (sym (ap numberOf (c .before .before .before .before .before .before .before .before .check-state .ensures)) ∙ (sym (c .before .before .before .before .before .before .before .number .ensures) ∙ c .before .before .before .before .before .before .if1 .left)) in
     omega (arith, sound (c .before .before .before .before .before .before .before .before .before .before .args .state .now) (s .0) (s .1) .front .high)
 
--- src/calls.rt:243:9
 returns-5 : tie.Need-returns-5
 returns-5 c = note-before (c .before .before .before .before .before .before .before .before .before .before .before .before .args .state .now) _ _ _ _ (c .before .before .before .before .before .before .before .before .before .before .check-state .ensures) (sym (c .before .before .before .before .before .before .before .before .before .number .ensures) ∙ c .before .before .before .before .before .before .before .before .if1 .left) (round-in _ (c .before .before .before .before .before .before .if2 .left) (c .before .before .before .before .before .if3 .left)) (c .before .before .before .before .if4 .left)
     (ap (λ (x : ℕ). has (getD (c .before .before .before .before .before .before .before .before .before .before .before .before .args .state .now) (x + c .before .before .before .before .before .before .before .before .before .before .before .before .args .kind) 0) (c .before .before .before .before .before .before .before .before .before .before .before .before .args .signer)) (sym (c .before .before .before .masks-at .ensures)) ∙ (sym (c .before .has .ensures) ∙ c .if5 .taken))
 
--- src/calls.rt:222:1
 returns-6 : tie.Need-returns-6
 returns-6 c = note-new (c .before .before .before .before .before .before .before .before .before .before .before .before .args .state .now) _ _ _ _ (c .before .before .before .before .before .before .before .before .before .before .check-state .ensures) (sym (c .before .before .before .before .before .before .before .before .before .number .ensures) ∙ c .before .before .before .before .before .before .before .before .if1 .left) (round-in _ (c .before .before .before .before .before .before .if2 .left) (c .before .before .before .before .before .if3 .left)) (c .before .before .before .before .if4 .left)
     (ap (λ (x : ℕ). has (getD (c .before .before .before .before .before .before .before .before .before .before .before .before .args .state .now) (x + c .before .before .before .before .before .before .before .before .before .before .before .before .args .kind) 0) (c .before .before .before .before .before .before .before .before .before .before .before .before .args .signer)) (sym (c .before .before .before .masks-at .ensures)) ∙ (sym (c .before .has .ensures) ∙ c .if5 .left))

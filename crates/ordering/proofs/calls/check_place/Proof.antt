@@ -17,36 +17,28 @@ use Rattle.ordering.proofs.calls.same_body.Reads as same-body-reads
 use Rattle.record.proofs.members.Members.has.Reads as has-reads
 use Rattle.replica.proofs.layout.held_mask.Reads as held-mask-reads
 
--- src/calls.rt:166:15
 held-mask-requires : tie.Need-held-mask-requires
 held-mask-requires c κs = let a = admitted _ _ _ _ (c .before .before .pre .2) in (c .before .before .pre .0, a .round-low, a .round-high)
 
--- src/calls.rt:169:8
 has-requires : tie.Need-has-requires
 has-requires c κs = let a = admitted _ _ _ _ (c .before .before .before .pre .2) in let g = legal-range _ (c .before .before .before .pre .1) in omega (arith, a .source-low, g .high)
 
--- src/calls.rt:170:12
 same-body-requires : tie.Need-same-body-requires
 same-body-requires c κs = let a = admitted _ _ _ _ (c .before .before .before .before .before .pre .2) in let g = legal-range _ (c .before .before .before .before .before .pre .1) in
     (c .before .before .before .before .before .pre .0, a .round-low, a .round-high, omega (arith, a .source-low, g .high), a .size)
 
--- src/calls.rt:171:13
 returns : tie.Need-returns
 returns c = place-same _ _ _ _ (sym (rw (c .before .before .before .before .held-mask .ensures) at (c .before .before .before .has .ensures)) ∙ c .before .before .if1 .taken) (sym (c .before .same-body .ensures) ∙ c .if2 .taken)
 
--- src/calls.rt:173:9
 returns-2 : tie.Need-returns-2
 returns-2 c = place-other _ _ _ _ (sym (rw (c .before .before .before .before .held-mask .ensures) at (c .before .before .before .has .ensures)) ∙ c .before .before .if1 .taken) (sym (c .before .same-body .ensures) ∙ c .if2 .left)
 
--- src/calls.rt:175:9
 first-missing-requires : tie.Need-first-missing-requires
 first-missing-requires c κs = search needs
 
--- src/calls.rt:177:9
 returns-3 : tie.Need-returns-3
 returns-3 c = place-lacking _ _ _ _ _ (sym (rw (c .before .before .before .before .held-mask .ensures) at (c .before .before .before .has .ensures)) ∙ c .before .before .if1 .left) (c .before .first-missing .ensures) (c .if3 .taken)
 
--- src/calls.rt:161:1
 returns-4 : tie.Need-returns-4
 returns-4 c = place-free (c .before .before .before .before .before .before .before .args .state .now) (c .before .before .before .before .before .before .before .args .round) (c .before .before .before .before .before .before .before .args .source) (c .before .before .before .before .before .before .before .args .body .now) (c .before .first-missing .result)
     (sym (rw (c .before .before .before .before .held-mask .ensures) at (c .before .before .before .has .ensures)) ∙ c .before .before .if1 .left) (c .before .first-missing .ensures) (c .if3 .left)

@@ -1,7 +1,7 @@
 use Rattle.ordering.proofs.Search.{look-range, held-none}
 use Rattle.replica.specs.State.{heldId}
 use Rattle.ordering.proofs.Search.{Passed, Looked, passed-none, looked-none, looked-more, passed-more, none-missing, first-found, size-weak, size-strong}
-use Rattle.ordering.specs.Standing.{parentAt, groupSize}
+use Rattle.ordering.specs.Search.{parentAt, groupSize}
 use Rattle.record.specs.Admitted.{Admitted}
 use Rattle.record.proofs.Masks.{legal-range}
 use Rattle.record.proofs.Turn.{admitted}
@@ -39,19 +39,15 @@ Inv-search state n round source body found₀ group₀ found group = (group ≤ 
 abbrev μ-search : tie.MeasureT-search
 μ-search state n round source body found₀ group₀ found group = 2 - group
 
--- src/calls.rt:97:9
 returns : tie.Need-returns Inv-loop μ-loop Inv-search μ-search
 returns c = held-none _ _ _ (first-held _ _ (c .before .before .before .args .source) _ _ (c .before .before .before .pre .1) (admitted _ _ _ _ (c .before .before .before .pre .2)) (c .if1 .taken))
 
--- src/calls.rt:100:5
 search-holds : tie.Need-search-holds Inv-loop μ-loop Inv-search μ-search
 search-holds c = (omega arith, refl, passed-none _ _ (c .before .before .before .args .source) _ _ (c .before .before .before .pre .1) (admitted _ _ _ _ (c .before .before .before .pre .2)) (omega arith))
 
--- src/calls.rt:101:13
 group-size-requires : tie.Need-group-size-requires Inv-loop μ-loop Inv-search μ-search
 group-size-requires c κs = admitted _ _ _ _ (c .before .before .before .before .before .pre .2) .size
 
--- src/calls.rt:103:9
 loop-holds : tie.Need-loop-holds Inv-loop μ-loop Inv-search μ-search
 loop-holds c = (
   c .before .search-test .taken,
@@ -61,25 +57,20 @@ loop-holds c = (
   looked-none _ _ (c .before .before .before .before .before .before .args .source) _ _ (c .before .before .before .before .before .before .pre .1) (admitted _ _ _ _ (c .before .before .before .before .before .before .pre .2)) (omega arith) _ (c .before .before .search .inv .2),
 )
 
--- src/calls.rt:104:17
 parent-at-requires : tie.Need-parent-at-requires Inv-loop μ-loop Inv-search μ-search
 parent-at-requires c κs = let a = admitted _ _ _ _ (c .before .before .before .before .before .before .before .before .pre .2) in
     let w = look-range (c .before .before .before .before .before .before .before .before .args .n) (c .before .before .before .before .before .before .before .before .args .round) (c .before .before .before .before .before .before .before .before .args .source) (c .before .before .before .before .before .before .before .before .args .state .now) (c .before .before .before .before .before .before .before .before .args .body .now) (c .before .before .before .before .before .before .before .before .pre .1) a (omega arith) (c .before .before .before .before .search .group) (c .before .loop .j) (c .before .before .before .search-test .taken) (omega (arith, c .before .loop .inv .2)) in
     (a .size, omega arith, a .round-high, w .0, w .1)
 
--- src/calls.rt:106:21
 is-held-requires : tie.Need-is-held-requires Inv-loop μ-loop Inv-search μ-search
 is-held-requires c κs = c .before .before .before .before .before .before .before .before .before .before .pre .0
 
--- src/calls.rt:111:13
 add-j : tie.Need-add-j Inv-loop μ-loop Inv-search μ-search
 add-j c = search needs
 
--- src/calls.rt:103:9
 loop-less : tie.Need-loop-less Inv-loop μ-loop Inv-search μ-search
 loop-less c = search needs
 
--- src/calls.rt:103:9
 loop-again : tie.Need-loop-again Inv-loop μ-loop Inv-search μ-search
 loop-again c = (
   c .before .before .before .loop .inv .0,
@@ -90,24 +81,19 @@ loop-again c = (
       (⊎-elim (λ v. inr (passed (rw (c .before .parent-at .ensures) at (v .1 .ensures)) (v .2 .left))) (λ v. inl (sym (c .before .parent-at .ensures) ∙ v .left)) (c .if2 .came)),
 )
 
--- src/calls.rt:113:9
 add-group : tie.Need-add-group Inv-loop μ-loop Inv-search μ-search
 add-group c = search needs
 
--- src/calls.rt:100:5
 search-less : tie.Need-search-less Inv-loop μ-loop Inv-search μ-search
 search-less c = search needs
 
--- src/calls.rt:100:5
 search-again : tie.Need-search-again Inv-loop μ-loop Inv-search μ-search
 search-again c = (omega arith, c .before .loop .inv .1, passed-more _ _ (c .before .before .before .before .before .before .before .before .args .source) _ _ (c .before .before .before .before .before .before .before .before .pre .1) (admitted _ _ _ _ (c .before .before .before .before .before .before .before .before .pre .2)) (omega arith) _ _ (c .before .before .before .search-test .taken) (c .before .loop .inv .4) (omega (arith, c .before .loop .inv .2)))
 
--- src/calls.rt:91:1
 returns-2 : tie.Need-returns-2 Inv-loop μ-loop Inv-search μ-search
 returns-2 c = let e : c .before .search .group ≡ 2 = omega arith in
     c .before .search .inv .1 ∙ none-missing (c .before .before .before .before .before .args .n) (c .before .before .before .before .before .args .round) (c .before .before .before .before .before .args .source) (c .before .before .before .before .before .args .state .now) (c .before .before .before .before .before .args .body .now) (c .before .before .before .before .before .pre .1) (admitted _ _ _ _ (c .before .before .before .before .before .pre .2)) (omega arith) (rw e at (c .before .search .inv .2))
 
--- src/calls.rt:91:1
 returns-3 : tie.Need-returns-3 Inv-loop μ-loop Inv-search μ-search
 returns-3 c = c .before .before .before .parent-at .ensures ∙ first-found (c .before .before .before .before .before .before .before .before .before .before .before .before .args .n) (c .before .before .before .before .before .before .before .before .before .before .before .before .args .round) (c .before .before .before .before .before .before .before .before .before .before .before .before .args .source) (c .before .before .before .before .before .before .before .before .before .before .before .before .args .state .now) (c .before .before .before .before .before .before .before .before .before .before .before .before .args .body .now) (c .before .before .before .before .before .before .before .before .before .before .before .before .pre .1) (admitted _ _ _ _ (c .before .before .before .before .before .before .before .before .before .before .before .before .pre .2)) (omega arith)
     (c .before .before .before .before .before .before .before .before .search .group) (c .before .before .before .before .before .loop .j) (c .before .before .before .before .before .before .before .search-test .taken) (omega (arith, c .before .before .before .before .before .loop .inv .2)) (c .before .before .before .before .before .loop .inv .4) (λ z. c .before .before .if2 .taken (c .before .before .before .parent-at .ensures ∙ z))

@@ -1,4 +1,4 @@
-use Rattle.ordering.specs.Standing.{groupSize}
+use Rattle.ordering.specs.Search.{groupSize}
 use Rattle.record.specs.Layout.{weakCountOf}
 use borrow.Author.Tests.{eq-eqb, ne-eqb}
 use borrow.Author.Needs.{needs}
@@ -7,16 +7,13 @@ use Rattle.ordering.proofs.calls.group_size.Tie as tie
 use Rattle.ordering.proofs.calls.group_size.Reads as reads
 use Rattle.ordering.proofs.calls.group_size.Lts as lts
 
--- src/calls.rt:85:16
 shared-slice-read-result : tie.Need-shared-slice-read-result
 shared-slice-read-result c = search needs
 
--- src/calls.rt:85:9
 returns : tie.Need-returns
 unfolding groupSize weakCountOf
 returns c = rw (eq-eqb _ _ (c .before .if1 .taken))
 
--- src/calls.rt:80:1
 returns-2 : tie.Need-returns-2
 unfolding groupSize weakCountOf
 returns-2 c = rw (ne-eqb _ _ (c .if1 .left))

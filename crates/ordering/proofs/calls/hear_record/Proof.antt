@@ -19,62 +19,48 @@ use Rattle.record.proofs.members.Members.has.Reads as has-reads
 use Rattle.record.proofs.members.leader_of.Reads as leader-of-reads
 use Rattle.replica.proofs.layout.masks_at.Reads as masks-at-reads
 
--- src/calls.rt:282:9
 masks-at-requires : tie.Need-masks-at-requires
 masks-at-requires c κs = search needs
 
--- src/calls.rt:283:26
 add-add-member : tie.Need-add-add-member
 add-add-member c = search needs
 
--- src/calls.rt:283:5
 add-member-requires : tie.Need-add-member-requires
 add-member-requires c κs = search needs
 
--- src/calls.rt:285:9
 same-length : tie.Need-same-length
 same-length c = search needs
 
--- src/calls.rt:285:9
 returns : tie.Need-returns
 returns c = c .before .before .before .add-member .ensures ∙ ap (λ (x : ℕ). addMember (c .before .before .before .before .before .before .before .args .state .now) (x + 1) (c .before .before .before .before .before .before .before .args .source)) (c .before .before .before .before .before .masks-at .ensures)
     ∙ hear-none (c .before .before .before .before .before .before .before .args .state .now) (c .before .before .before .before .before .before .before .args .round) (c .before .before .before .before .before .before .before .args .source) (c .before .before .before .before .before .before .before .args .n) (c .before .before .before .before .before .before .before .args .strong) (c .before .before .before .before .before .before .before .pre .1) (c .before .before .before .before .before .before .before .pre .7 (omega arith))
 
--- src/calls.rt:288:33
 sub-leader-of : tie.Need-sub-leader-of
 sub-leader-of c = search needs
 
--- src/calls.rt:288:20
 leader-of-requires : tie.Need-leader-of-requires
 leader-of-requires c κs = search needs
 
--- src/calls.rt:288:8
 has-requires : tie.Need-has-requires
 has-requires c κs = omega (arith, c .leader-of .ensures, leader-small (c .before .before .before .before .before .before .before .before .args .n) (c .before .before .before .before .before .before .before .before .args .round - 1) (omega arith))
 
--- src/calls.rt:289:30
 add-add-member-2 : tie.Need-add-add-member-2
 add-add-member-2 c = search needs
 
--- src/calls.rt:289:9
 add-member-requires-2 : tie.Need-add-member-requires-2
 add-member-requires-2 c κs = search needs
 
--- src/calls.rt:278:1
 same-length-2 : tie.Need-same-length-2
 same-length-2 c = search needs
 
--- src/calls.rt:278:1
 returns-2 : tie.Need-returns-2
 returns-2 c = c .before .before .add-member2 .ensures ∙ ap (λ (x : List ℕ). addMember x (c .before .before .before .before .before .before .before .before .before .before .before .before .masks-at .result + 2) (c .before .before .before .before .before .before .before .before .before .before .before .before .before .before .args .source)) (c .before .before .before .before .before .before .before .before .before .before .add-member .ensures)
     ∙ ap (λ (x : ℕ). addMember (addMember (c .before .before .before .before .before .before .before .before .before .before .before .before .before .before .args .state .now) (x + 1) (c .before .before .before .before .before .before .before .before .before .before .before .before .before .before .args .source)) (x + 2) (c .before .before .before .before .before .before .before .before .before .before .before .before .before .before .args .source)) (c .before .before .before .before .before .before .before .before .before .before .before .before .masks-at .ensures)
     ∙ hear-voting (c .before .before .before .before .before .before .before .before .before .before .before .before .before .before .args .state .now) (c .before .before .before .before .before .before .before .before .before .before .before .before .before .before .args .round) (c .before .before .before .before .before .before .before .before .before .before .before .before .before .before .args .source) (c .before .before .before .before .before .before .before .before .before .before .before .before .before .before .args .n) (c .before .before .before .before .before .before .before .before .before .before .before .before .before .before .args .strong) (c .before .before .before .before .before .before .before .before .before .before .before .before .before .before .pre .1) (sym (rw (c .before .before .before .before .before .before .leader-of .ensures) at (c .before .before .before .before .before .has .ensures)) ∙ c .before .before .before .before .if2 .taken)
 
--- src/calls.rt:278:1
 same-length-3 : tie.Need-same-length-3
 same-length-3 c = search needs
 
--- src/calls.rt:278:1
 returns-3 : tie.Need-returns-3
 returns-3 c = c .before .before .before .before .before .before .add-member .ensures ∙ ap (λ (x : ℕ). addMember (c .before .before .before .before .before .before .before .before .before .before .args .state .now) (x + 1) (c .before .before .before .before .before .before .before .before .before .before .args .source)) (c .before .before .before .before .before .before .before .before .masks-at .ensures)
     ∙ hear-silent (c .before .before .before .before .before .before .before .before .before .before .args .state .now) (c .before .before .before .before .before .before .before .before .before .before .args .round) (c .before .before .before .before .before .before .before .before .before .before .args .source) (c .before .before .before .before .before .before .before .before .before .before .args .n) (c .before .before .before .before .before .before .before .before .before .before .args .strong) (c .before .before .before .before .before .before .before .before .before .before .pre .1) (sym (rw (c .before .before .leader-of .ensures) at (c .before .has .ensures)) ∙ c .if2 .left)

@@ -1,4 +1,4 @@
-use Rattle.ordering.specs.Standing.{parentAt}
+use Rattle.ordering.specs.Search.{parentAt}
 use Rattle.record.specs.Layout.{weakOf, strongOf}
 use borrow.Author.Tests.{eq-eqb, ne-eqb}
 use mathlib.Core.Path.{_≡_, refl, sym, ap, _∙_}
@@ -11,53 +11,41 @@ use Rattle.ordering.proofs.calls.parent_at.Lts as lts
 use Rattle.record.proofs.members.Members.has.Reads as has-reads
 use Rattle.replica.proofs.layout.wide.Reads as wide-reads
 
--- src/calls.rt:67:28
 wide-requires : tie.Need-wide-requires
 wide-requires c κs = search needs
 
--- src/calls.rt:67:21
 add-result : tie.Need-add-result
 add-result c = search needs
 
--- src/calls.rt:67:16
 mul-result : tie.Need-mul-result
 mul-result c = search needs
 
--- src/calls.rt:67:16
 shared-slice-read-result : tie.Need-shared-slice-read-result
 shared-slice-read-result c = omega (arith, c .before .wide .ensures, c .before .before .before .before .pre .4 (c .before .before .if1 .taken), c .before .before .before .before .pre .0)
 
--- src/calls.rt:67:9
 returns : tie.Need-returns
 unfolding parentAt weakOf
 returns c = rw (c .before .wide .ensures, eq-eqb _ _ (c .before .before .if1 .taken))
 
--- src/calls.rt:70:15
 shared-slice-read-t14 : tie.Need-shared-slice-read-t14
 shared-slice-read-t14 c = search needs
 
--- src/calls.rt:73:8
 has-requires : tie.Need-has-requires
 has-requires c κs = search needs
 
--- src/calls.rt:74:22
 sub-result : tie.Need-sub-result
 sub-result c = search needs
 
--- src/calls.rt:74:16
 mul-result-2 : tie.Need-mul-result-2
 mul-result-2 c = search needs
 
--- src/calls.rt:74:16
 add-result-2 : tie.Need-add-result-2
 add-result-2 c = search needs
 
--- src/calls.rt:74:9
 returns-2 : tie.Need-returns-2
 unfolding parentAt strongOf
 returns-2 c = rw (ne-eqb _ _ (c .before .before .before .if1 .left), sym (c .before .has .ensures) ∙ c .if2 .taken)
 
--- src/calls.rt:62:1
 returns-3 : tie.Need-returns-3
 unfolding parentAt strongOf
 returns-3 c = rw (ne-eqb _ _ (c .before .before .before .if1 .left), sym (c .before .has .ensures) ∙ c .if2 .left)

@@ -16,51 +16,39 @@ use Rattle.ordering.proofs.calls.write_body.Reads as write-body-reads
 use Rattle.replica.proofs.layout.cell_at.Reads as cell-at-reads
 use Rattle.replica.proofs.layout.masks_at.Reads as masks-at-reads
 
--- src/calls.rt:140:16
 masks-at-requires : tie.Need-masks-at-requires
 masks-at-requires c κs = search needs
 
--- src/calls.rt:140:16
 add-mask : tie.Need-add-mask
 add-mask c = search needs
 
--- src/calls.rt:141:5
 add-member-requires : tie.Need-add-member-requires
 add-member-requires c κs = search needs
 
--- src/calls.rt:142:9
 cell-at-requires : tie.Need-cell-at-requires
 cell-at-requires c κs = search needs
 
--- src/calls.rt:143:15
 add-end : tie.Need-add-end
 add-end c = search needs
 
--- src/calls.rt:144:16
 mul-write-body : tie.Need-mul-write-body
 mul-write-body c = search needs
 
--- src/calls.rt:144:16
 sub-write-body : tie.Need-sub-write-body
 sub-write-body c = search needs
 
--- src/calls.rt:144:16
 part-write-body-start : tie.Need-part-write-body-start
 part-write-body-start c = search needs
 
--- src/calls.rt:144:16
 part-write-body-end : tie.Need-part-write-body-end
 part-write-body-end c = search needs
 
--- src/calls.rt:144:5
 write-body-requires : tie.Need-write-body-requires
 write-body-requires c κs = search needs
 
--- src/calls.rt:136:1
 same-length : tie.Need-same-length
 same-length c = search needs
 
--- src/calls.rt:136:1
 returns : tie.Need-returns
 unfolding putVertex
 returns c = put-pasted (c .before .before .before .before .cell-at .result) 10 (c .before .before .before .before .before .before .before .add-member .last .0) (c .before .before .write-body .last .0) (c .before .before .before .before .before .before .before .before .before .before .before .before .args .body .now)

@@ -23,53 +23,41 @@ Inv-loop state round member body at i₀ i = (i ≤ 10) × (all i (λ k. eqb (ge
 abbrev μ-loop : tie.MeasureT-loop
 μ-loop state round member body at i₀ i = 10 - i
 
--- src/calls.rt:112:9
 cell-at-requires : tie.Need-cell-at-requires Inv-loop μ-loop
 cell-at-requires c κs = search needs
 
--- src/calls.rt:114:5
 loop-holds : tie.Need-loop-holds Inv-loop μ-loop
 loop-holds c = (omega arith, all-none _)
 
--- src/calls.rt:115:18
 add-if1 : tie.Need-add-if1 Inv-loop μ-loop
 add-if1 c = search needs
 
--- src/calls.rt:115:12
 mul-if1 : tie.Need-mul-if1 Inv-loop μ-loop
 mul-if1 c = search needs
 
--- src/calls.rt:115:12
 shared-slice-read-if1 : tie.Need-shared-slice-read-if1 Inv-loop μ-loop
 shared-slice-read-if1 c = search needs
 
--- src/calls.rt:115:29
 mul-if1-2 : tie.Need-mul-if1-2 Inv-loop μ-loop
 mul-if1-2 c = search needs
 
--- src/calls.rt:115:29
 shared-slice-read-if1-2 : tie.Need-shared-slice-read-if1-2 Inv-loop μ-loop
 shared-slice-read-if1-2 c = search needs
 
--- src/calls.rt:116:13
 returns : tie.Need-returns Inv-loop μ-loop
 unfolding sameBody
 returns c = let t : ℕ → Bool = λ k. eqb (getD (c .before .before .before .before .before .before .before .before .args .state .now) (cellAt (c .before .before .before .before .before .before .before .before .args .round) (c .before .before .before .before .before .before .before .before .args .member) + k) 0) (getD (c .before .before .before .before .before .before .before .before .args .body .now) k 0) in
     sym (all-stop 10 t (c .before .before .before .before .loop .i) (c .before .before .before .loop-test .taken) (ne-eqb _ _ (rw (c .before .before .before .before .before .cell-at .ensures) at (c .if1 .taken))))
 
--- src/calls.rt:118:9
 add-i : tie.Need-add-i Inv-loop μ-loop
 add-i c = search needs
 
--- src/calls.rt:114:5
 loop-less : tie.Need-loop-less Inv-loop μ-loop
 loop-less c = search needs
 
--- src/calls.rt:114:5
 loop-again : tie.Need-loop-again Inv-loop μ-loop
 loop-again c = (omega arith, all-more _ _ (c .before .before .before .before .loop .inv .1) (eq-eqb _ _ (rw (c .before .before .before .before .before .cell-at .ensures) at (c .if1 .left))))
 
--- src/calls.rt:108:1
 returns-2 : tie.Need-returns-2 Inv-loop μ-loop
 unfolding sameBody
 returns-2 c = let e : c .before .loop .i ≡ 10 = omega arith in sym (rw e at (c .before .loop .inv .1))

@@ -1,4 +1,4 @@
-use Rattle.ordering.proofs.Ground.{standing, room}
+use Rattle.commits.proofs.Ground.{standing, room}
 use Rattle.ordering.proofs.Counts.{commits-grow}
 use Rattle.replica.proofs.Sound.{sound, leaders-few}
 use native.Mathlib.Omega.{arith}
@@ -11,41 +11,32 @@ use Rattle.ordering.proofs.calls.settle.Statement.{statement}
 use Rattle.ordering.proofs.calls.settle.Tie as tie
 use Rattle.ordering.proofs.calls.settle.Reads as reads
 use Rattle.ordering.proofs.calls.settle.Lts as lts
-use Rattle.ordering.proofs.commit.commit_all.Reads as commit-all-reads
+use Rattle.commits.proofs.commit.commit_all.Reads as commit-all-reads
 
--- src/calls.rt:253:19
 slice-read-leaders : tie.Need-slice-read-leaders
 slice-read-leaders c = search needs
 
--- src/calls.rt:254:19
 slice-read-journal : tie.Need-slice-read-journal
 slice-read-journal c = search needs
 
--- src/calls.rt:255:5
 commit-all-requires : tie.Need-commit-all-requires
 commit-all-requires c κs = let S = sound _ (c .before .before .before .before .pre .0) (c .before .before .before .before .pre .1) in (standing _ S, room _ S, c .before .before .before .before .pre .2, leaders-few _ S, S .leaders .committed-high)
 
--- src/calls.rt:258:18
 slice-read-t6 : tie.Need-slice-read-t6
 slice-read-t6 c = search needs
 
--- src/calls.rt:258:18
 sub-t13 : tie.Need-sub-t13
 sub-t13 c = let S = sound _ (c .before .before .before .before .before .before .before .before .pre .0) (c .before .before .before .before .before .before .before .before .pre .1) in omega (arith, ap (λ (x : List ℕ). getD x 3 0) (c .before .before .before .commit-all .ensures), commits-grow 31 (c .before .before .before .before .before .before .before .before .args .state .now) S .0)
 
--- src/calls.rt:259:18
 slice-read-t15 : tie.Need-slice-read-t15
 slice-read-t15 c = search needs
 
--- src/calls.rt:259:18
 sub-t16 : tie.Need-sub-t16
 sub-t16 c = let S = sound _ (c .before .before .before .before .before .before .before .before .before .pre .0) (c .before .before .before .before .before .before .before .before .before .pre .1) in omega (arith, ap (λ (x : List ℕ). getD x 4 0) (c .before .before .before .before .commit-all .ensures), commits-grow 31 (c .before .before .before .before .before .before .before .before .before .args .state .now) S .1)
 
--- src/calls.rt:249:1
 same-length : tie.Need-same-length
 same-length c = search needs
 
--- src/calls.rt:249:1
 returns : tie.Need-returns
 returns c = rw (c .before .before .before .before .commit-all .ensures)
 

@@ -21,51 +21,39 @@ use Rattle.ordering.proofs.calls.settle.Reads as settle-reads
 use Rattle.record.proofs.refusal.number.Reads as number-reads
 use Rattle.replica.proofs.answer.refuse.Reads as refuse-reads
 
--- src/calls.rt:297:9
 check-first-requires : tie.Need-check-first-requires
 check-first-requires c κs = search needs
 
--- src/calls.rt:298:8
 number-requires : tie.Need-number-requires
 number-requires c κs = search needs
 
--- src/calls.rt:299:9
 refuse-requires : tie.Need-refuse-requires
 refuse-requires c κs = search needs
 
--- src/calls.rt:299:9
 same-length : tie.Need-same-length
 same-length c = search needs
 
--- src/calls.rt:299:9
 returns : tie.Need-returns
 returns c = first-refused (c .before .before .before .before .before .before .before .args .state .now) (c .before .before .before .before .before .before .before .args .rec .now) _ (c .before .before .before .check-first .ensures) (λ d. c .before .if1 .taken (c .before .before .number .ensures ∙ d)) _ (c .refuse .ensures)
 
--- src/calls.rt:301:13
 slice-read-n : tie.Need-slice-read-n
 slice-read-n c = omega (arith, first-sound (c .before .before .before .before .before .before .before .args .state .now) (c .before .before .before .before .before .before .before .args .rec .now) _ (c .before .before .before .check-first .ensures) (sym (c .before .before .number .ensures) ∙ c .before .if1 .left) .0 .size)
 
--- src/calls.rt:302:27
 shared-slice-read-hear-record : tie.Need-shared-slice-read-hear-record
 shared-slice-read-hear-record c = omega (arith, first-long (c .before .before .before .before .before .before .before .before .before .args .state .now) (c .before .before .before .before .before .before .before .before .before .args .rec .now) _ (c .before .before .before .before .before .check-first .ensures) (sym (c .before .before .before .before .number .ensures) ∙ c .before .before .before .if1 .left))
 
--- src/calls.rt:302:39
 shared-slice-read-hear-record-2 : tie.Need-shared-slice-read-hear-record-2
 shared-slice-read-hear-record-2 c = omega (arith, first-long (c .before .before .before .before .before .before .before .before .before .before .args .state .now) (c .before .before .before .before .before .before .before .before .before .before .args .rec .now) _ (c .before .before .before .before .before .before .check-first .ensures) (sym (c .before .before .before .before .before .number .ensures) ∙ c .before .before .before .before .if1 .left))
 
--- src/calls.rt:302:56
 add-hear-record : tie.Need-add-hear-record
 add-hear-record c = search needs
 
--- src/calls.rt:302:52
 mul-hear-record : tie.Need-mul-hear-record
 mul-hear-record c = search needs
 
--- src/calls.rt:302:52
 shared-slice-read-hear-record-3 : tie.Need-shared-slice-read-hear-record-3
 shared-slice-read-hear-record-3 c = omega (arith, first-long (c .before .before .before .before .before .before .before .before .before .before .before .args .state .now) (c .before .before .before .before .before .before .before .before .before .before .before .args .rec .now) _ (c .before .before .before .before .before .before .before .check-first .ensures) (sym (c .before .before .before .before .before .before .number .ensures) ∙ c .before .before .before .before .before .if1 .left))
 
--- src/calls.rt:302:5
 hear-record-requires : tie.Need-hear-record-requires
 unfolding strongOf
 hear-record-requires c κs = let w = first-sound (c .before .before .before .before .before .before .before .before .before .before .before .args .state .now) (c .before .before .before .before .before .before .before .before .before .before .before .args .rec .now) _ (c .before .before .before .before .before .before .before .check-first .ensures) (sym (c .before .before .before .before .before .before .number .ensures) ∙ c .before .before .before .before .before .if1 .left) in (
@@ -79,17 +67,14 @@ hear-record-requires c κs = let w = first-sound (c .before .before .before .bef
   λ z. sym (getD-drop 2 (c .before .before .before .before .before .before .before .before .before .before .before .args .rec .now) 0 0) ∙ w .1 .strong-first z,
 )
 
--- src/calls.rt:303:5
 settle-requires : tie.Need-settle-requires
 settle-requires c κs = let R = first-heard (c .before .before .before .before .before .before .before .before .before .before .before .before .before .before .before .args .state .now) (c .before .before .before .before .before .before .before .before .before .before .before .before .before .before .before .args .rec .now) _ (c .before .before .before .before .before .before .before .before .before .before .before .check-first .ensures) (sym (c .before .before .before .before .before .before .before .before .before .before .number .ensures) ∙ c .before .before .before .before .before .before .before .before .before .if1 .left) in
     let k = c .before .before .before .hear-record .ensures ∙ hear-body (c .before .before .before .before .before .before .before .before .before .before .before .before .before .before .before .args .state .now) (roundOf (c .before .before .before .before .before .before .before .before .before .before .before .before .before .before .before .args .rec .now)) (sourceOf (c .before .before .before .before .before .before .before .before .before .before .before .before .before .before .before .args .rec .now)) (c .before .before .before .before .before .before .before .before .before .before .before .before .before .before .before .args .rec .now) in
     (ap length k ∙ R .size, ap wellFormed k ∙ R .formed, R .members ∙ ap memberCount (sym k))
 
--- src/calls.rt:294:1
 same-length-2 : tie.Need-same-length-2
 same-length-2 c = search needs
 
--- src/calls.rt:294:1
 returns-2 : tie.Need-returns-2
 returns-2 c = first-done (c .before .before .before .before .before .before .before .before .before .before .before .before .before .before .before .before .before .before .args .state .now) (c .before .before .before .before .before .before .before .before .before .before .before .before .before .before .before .before .before .before .args .rec .now) _ (c .before .before .before .before .before .before .before .before .before .before .before .before .before .before .check-first .ensures) (sym (c .before .before .before .before .before .before .before .before .before .before .before .before .before .number .ensures) ∙ c .before .before .before .before .before .before .before .before .before .before .before .before .if1 .left) _ _
     (c .before .before .before .before .before .before .hear-record .ensures ∙ hear-body (c .before .before .before .before .before .before .before .before .before .before .before .before .before .before .before .before .before .before .args .state .now) (roundOf (c .before .before .before .before .before .before .before .before .before .before .before .before .before .before .before .before .before .before .args .rec .now)) (sourceOf (c .before .before .before .before .before .before .before .before .before .before .before .before .before .before .before .before .before .before .args .rec .now)) (c .before .before .before .before .before .before .before .before .before .before .before .before .before .before .before .before .before .before .args .rec .now)) (c .before .before .settle .ensures)

@@ -14,48 +14,37 @@ use Rattle.record.proofs.refusal.number.Reads as number-reads
 use Rattle.replica.proofs.answer.refuse.Reads as refuse-reads
 use Rattle.replica.proofs.layout.masks_at.Reads as masks-at-reads
 
--- src/calls.rt:329:9
 check-note-requires : tie.Need-check-note-requires
 check-note-requires c κs = search needs
 
--- src/calls.rt:330:8
 number-requires : tie.Need-number-requires
 number-requires c κs = search needs
 
--- src/calls.rt:331:9
 refuse-requires : tie.Need-refuse-requires
 refuse-requires c κs = search needs
 
--- src/calls.rt:331:9
 same-length : tie.Need-same-length
 same-length c = search needs
 
--- src/calls.rt:331:9
 returns : tie.Need-returns
 returns c = no-vote-refused (c .before .before .before .before .before .before .args .state .now) (c .before .before .before .before .before .before .args .round) (c .before .before .before .before .before .before .args .signer) _ (c .before .before .before .check-note .ensures) (λ d. c .before .if1 .taken (c .before .before .number .ensures ∙ d)) _ (c .refuse .ensures)
 
--- src/calls.rt:333:13
 slice-read-n : tie.Need-slice-read-n
 slice-read-n c = omega (arith, note-known (c .before .before .before .before .before .before .args .state .now) (c .before .before .before .before .before .before .args .round) (c .before .before .before .before .before .before .args .signer) _ _ (c .before .before .before .check-note .ensures) (sym (c .before .before .number .ensures) ∙ c .before .if1 .left) .0 .size)
 
--- src/calls.rt:334:14
 masks-at-requires : tie.Need-masks-at-requires
 masks-at-requires c κs = let w = note-known (c .before .before .before .before .before .before .args .state .now) (c .before .before .before .before .before .before .args .round) (c .before .before .before .before .before .before .args .signer) _ _ (c .before .before .before .check-note .ensures) (sym (c .before .before .number .ensures) ∙ c .before .if1 .left) in (w .1, w .2)
 
--- src/calls.rt:334:14
 add-at : tie.Need-add-at
 add-at c = search needs
 
--- src/calls.rt:335:5
 add-member-requires : tie.Need-add-member-requires
 add-member-requires c κs = let w = note-known (c .before .before .before .before .before .before .before .before .args .state .now) (c .before .before .before .before .before .before .before .before .args .round) (c .before .before .before .before .before .before .before .before .args .signer) _ _ (c .before .before .before .before .before .check-note .ensures) (sym (c .before .before .before .before .number .ensures) ∙ c .before .before .before .if1 .left) in
     (omega (arith, c .before .masks-at .ensures, w .0 .size, w .2), omega (arith, w .3, w .0 .front .high))
 
--- src/calls.rt:326:1
 same-length-2 : tie.Need-same-length-2
 same-length-2 c = search needs
 
--- src/calls.rt:326:1
 returns-2 : tie.Need-returns-2
 returns-2 c = no-vote-done (c .before .before .before .before .before .before .before .before .before .before .before .args .state .now) (c .before .before .before .before .before .before .before .before .before .before .before .args .round) (c .before .before .before .before .before .before .before .before .before .before .before .args .signer) _ (c .before .before .before .before .before .before .before .before .check-note .ensures) (sym (c .before .before .before .before .before .before .before .number .ensures) ∙ c .before .before .before .before .before .before .if1 .left) _
     (c .before .before .add-member .ensures ∙ ap (λ (x : ℕ). addMember (c .before .before .before .before .before .before .before .before .before .before .before .args .state .now) (x + 4) (c .before .before .before .before .before .before .before .before .before .before .before .args .signer)) (c .before .before .before .before .masks-at .ensures))

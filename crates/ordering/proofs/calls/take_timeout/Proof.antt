@@ -1,6 +1,6 @@
 use Rattle.ordering.proofs.Taking.{timeout-refused, note-known, timeout-done, note-members}
 use Rattle.ordering.specs.Calls.{addMember}
-use Rattle.ordering.specs.Commit.{raiseRound}
+use Rattle.commits.specs.Commit.{raiseRound}
 use Rattle.replica.specs.State.{memberCount, timeoutsMask}
 use mathlib.Core.Path.{_≡_, refl, sym, ap, _∙_}
 use native.Mathlib.Omega.{arith}
@@ -13,59 +13,47 @@ use Rattle.ordering.proofs.calls.take_timeout.Reads as reads
 use Rattle.ordering.proofs.calls.take_timeout.Lts as lts
 use Rattle.ordering.proofs.calls.add_member.Reads as add-member-reads
 use Rattle.ordering.proofs.calls.check_note.Reads as check-note-reads
-use Rattle.ordering.proofs.rounds.raise_round.Reads as raise-round-reads
+use Rattle.commits.proofs.rounds.raise_round.Reads as raise-round-reads
 use Rattle.record.proofs.refusal.number.Reads as number-reads
 use Rattle.replica.proofs.answer.refuse.Reads as refuse-reads
 use Rattle.replica.proofs.layout.masks_at.Reads as masks-at-reads
 
--- src/calls.rt:310:9
 check-note-requires : tie.Need-check-note-requires
 check-note-requires c κs = search needs
 
--- src/calls.rt:311:8
 number-requires : tie.Need-number-requires
 number-requires c κs = search needs
 
--- src/calls.rt:312:9
 refuse-requires : tie.Need-refuse-requires
 refuse-requires c κs = search needs
 
--- src/calls.rt:312:9
 same-length : tie.Need-same-length
 same-length c = search needs
 
--- src/calls.rt:312:9
 returns : tie.Need-returns
 returns c = timeout-refused (c .before .before .before .before .before .before .args .state .now) (c .before .before .before .before .before .before .args .round) (c .before .before .before .before .before .before .args .signer) _ (c .before .before .before .check-note .ensures) (λ d. c .before .if1 .taken (c .before .before .number .ensures ∙ d)) _ (c .refuse .ensures)
 
--- src/calls.rt:314:13
 slice-read-n : tie.Need-slice-read-n
 slice-read-n c = omega (arith, note-known (c .before .before .before .before .before .before .args .state .now) (c .before .before .before .before .before .before .args .round) (c .before .before .before .before .before .before .args .signer) _ _ (c .before .before .before .check-note .ensures) (sym (c .before .before .number .ensures) ∙ c .before .if1 .left) .0 .size)
 
--- src/calls.rt:315:14
 masks-at-requires : tie.Need-masks-at-requires
 masks-at-requires c κs = let w = note-known (c .before .before .before .before .before .before .args .state .now) (c .before .before .before .before .before .before .args .round) (c .before .before .before .before .before .before .args .signer) _ _ (c .before .before .before .check-note .ensures) (sym (c .before .before .number .ensures) ∙ c .before .if1 .left) in (w .1, w .2)
 
--- src/calls.rt:315:14
 add-at : tie.Need-add-at
 add-at c = search needs
 
--- src/calls.rt:316:5
 add-member-requires : tie.Need-add-member-requires
 add-member-requires c κs = let w = note-known (c .before .before .before .before .before .before .before .before .args .state .now) (c .before .before .before .before .before .before .before .before .args .round) (c .before .before .before .before .before .before .before .before .args .signer) _ _ (c .before .before .before .before .before .check-note .ensures) (sym (c .before .before .before .before .number .ensures) ∙ c .before .before .before .if1 .left) in
     (omega (arith, c .before .masks-at .ensures, w .0 .size, w .2), omega (arith, w .3, w .0 .front .high))
 
--- src/calls.rt:317:5
 raise-round-requires : tie.Need-raise-round-requires
 raise-round-requires c κs = let w = note-known (c .before .before .before .before .before .before .before .before .before .before .before .before .args .state .now) (c .before .before .before .before .before .before .before .before .before .before .before .before .args .round) (c .before .before .before .before .before .before .before .before .before .before .before .before .args .signer) _ _ (c .before .before .before .before .before .before .before .before .before .check-note .ensures) (sym (c .before .before .before .before .before .before .before .before .number .ensures) ∙ c .before .before .before .before .before .before .before .if1 .left) in
     let d = c .before .before .before .add-member .ensures ∙ ap (λ (x : ℕ). addMember (c .before .before .before .before .before .before .before .before .before .before .before .before .args .state .now) (x + 3) (c .before .before .before .before .before .before .before .before .before .before .before .before .args .signer)) (c .before .before .before .before .before .masks-at .ensures) in
     (c .before .before .before .add-member .kept .0 ∙ w .0 .size, note-members (c .before .before .before .before .before .before .before .before .before .before .before .before .args .state .now) (c .before .before .before .before .before .before .before .before .before .before .before .before .args .round) (c .before .before .before .before .before .before .before .before .before .before .before .before .args .signer) (c .before .before .before .before .before .before .before .before .before .check-note .result) 3 (omega arith) (w .1) (w .2) ∙ ap memberCount (sym d), omega (arith, w .0 .front .low))
 
--- src/calls.rt:307:1
 same-length-2 : tie.Need-same-length-2
 same-length-2 c = search needs
 
--- src/calls.rt:307:1
 returns-2 : tie.Need-returns-2
 returns-2 c = let d = c .before .before .before .before .before .before .add-member .ensures ∙ ap (λ (x : ℕ). addMember (c .before .before .before .before .before .before .before .before .before .before .before .before .before .before .before .args .state .now) (x + 3) (c .before .before .before .before .before .before .before .before .before .before .before .before .before .before .before .args .signer)) (c .before .before .before .before .before .before .before .before .masks-at .ensures) in
     timeout-done (c .before .before .before .before .before .before .before .before .before .before .before .before .before .before .before .args .state .now) (c .before .before .before .before .before .before .before .before .before .before .before .before .before .before .before .args .round) (c .before .before .before .before .before .before .before .before .before .before .before .before .before .before .before .args .signer) _ (c .before .before .before .before .before .before .before .before .before .before .before .before .check-note .ensures) (sym (c .before .before .before .before .before .before .before .before .before .before .before .number .ensures) ∙ c .before .before .before .before .before .before .before .before .before .before .if1 .left) _ (c .before .before .raise-round .ensures ∙ ap raiseRound d)

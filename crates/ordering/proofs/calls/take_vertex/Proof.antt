@@ -1,6 +1,6 @@
 use Rattle.ordering.proofs.Taking.{vertex-refused, vertex-sound, vertex-admitted, vertex-long, vertex-few, vertex-put, vertex-raised, vertex-done}
 use Rattle.ordering.specs.Calls.{putVertex}
-use Rattle.ordering.specs.Commit.{raiseRound}
+use Rattle.commits.specs.Commit.{raiseRound}
 use Rattle.replica.specs.WellFormed.{wellFormed}
 use mathlib.Core.Path.{subst}
 use mathlib.Core.List.{List}
@@ -8,7 +8,7 @@ use Prim.Native.Nat.{ℕ}
 use lib.ListN.{length, drop}
 use lib.Seq.{take-all}
 use Rattle.ordering.specs.Calls.{takeBody, placeQuestions, putVertex}
-use Rattle.ordering.specs.Commit.{raiseRound, commitAll}
+use Rattle.commits.specs.Commit.{raiseRound, commitAll}
 use Rattle.replica.specs.State.{memberCount}
 use Rattle.record.specs.Layout.{roundOf, sourceOf, bodyOf}
 use Rattle.record.specs.Refusals.{numberOf}
@@ -22,55 +22,43 @@ use Rattle.ordering.proofs.calls.take_vertex.Lts as lts
 use Rattle.ordering.proofs.calls.check_vertex.Reads as check-vertex-reads
 use Rattle.ordering.proofs.calls.put_vertex.Reads as put-vertex-reads
 use Rattle.ordering.proofs.calls.settle.Reads as settle-reads
-use Rattle.ordering.proofs.rounds.raise_round.Reads as raise-round-reads
+use Rattle.commits.proofs.rounds.raise_round.Reads as raise-round-reads
 use Rattle.record.proofs.refusal.number.Reads as number-reads
 use Rattle.replica.proofs.answer.refuse.Reads as refuse-reads
 
--- src/calls.rt:267:9
 check-vertex-requires : tie.Need-check-vertex-requires
 check-vertex-requires c κs = search needs
 
--- src/calls.rt:268:8
 number-requires : tie.Need-number-requires
 number-requires c κs = search needs
 
--- src/calls.rt:269:9
 refuse-requires : tie.Need-refuse-requires
 refuse-requires c κs = search needs
 
--- src/calls.rt:269:9
 same-length : tie.Need-same-length
 same-length c = search needs
 
--- src/calls.rt:269:9
 returns : tie.Need-returns
 returns c = vertex-refused (c .before .before .before .before .before .before .before .args .state .now) (c .before .before .before .before .before .before .before .args .rec .now) _ (c .before .before .before .check-vertex .ensures) (λ d. c .before .if1 .taken (c .before .before .number .ensures ∙ d)) _ (c .refuse .ensures)
 
--- src/calls.rt:271:13
 slice-read-n : tie.Need-slice-read-n
 slice-read-n c = omega (arith, vertex-sound (c .before .before .before .before .before .before .before .args .state .now) (c .before .before .before .before .before .before .before .args .rec .now) _ (c .before .before .before .check-vertex .ensures) (sym (c .before .before .number .ensures) ∙ c .before .if1 .left) .size)
 
--- src/calls.rt:272:26
 shared-slice-read-put-vertex : tie.Need-shared-slice-read-put-vertex
 shared-slice-read-put-vertex c = omega (arith, vertex-long (c .before .before .before .before .before .before .before .before .before .args .state .now) (c .before .before .before .before .before .before .before .before .before .args .rec .now) _ (c .before .before .before .before .before .check-vertex .ensures) (sym (c .before .before .before .before .number .ensures) ∙ c .before .before .before .if1 .left))
 
--- src/calls.rt:272:38
 shared-slice-read-put-vertex-2 : tie.Need-shared-slice-read-put-vertex-2
 shared-slice-read-put-vertex-2 c = omega (arith, vertex-long (c .before .before .before .before .before .before .before .before .before .before .args .state .now) (c .before .before .before .before .before .before .before .before .before .before .args .rec .now) _ (c .before .before .before .before .before .before .check-vertex .ensures) (sym (c .before .before .before .before .before .number .ensures) ∙ c .before .before .before .before .if1 .left))
 
--- src/calls.rt:272:51
 sub-put-vertex : tie.Need-sub-put-vertex
 sub-put-vertex c = search needs
 
--- src/calls.rt:272:51
 part-put-vertex-start : tie.Need-part-put-vertex-start
 part-put-vertex-start c = search needs
 
--- src/calls.rt:272:51
 part-put-vertex-end : tie.Need-part-put-vertex-end
 part-put-vertex-end c = omega (arith, vertex-long (c .before .before .before .before .before .before .before .before .before .before .args .state .now) (c .before .before .before .before .before .before .before .before .before .before .args .rec .now) _ (c .before .before .before .before .before .before .check-vertex .ensures) (sym (c .before .before .before .before .before .number .ensures) ∙ c .before .before .before .before .if1 .left))
 
--- src/calls.rt:272:5
 put-vertex-requires : tie.Need-put-vertex-requires
 put-vertex-requires c κs = let S = vertex-sound (c .before .before .before .before .before .before .before .before .before .before .before .args .state .now) (c .before .before .before .before .before .before .before .before .before .before .before .args .rec .now) _ (c .before .before .before .before .before .before .before .check-vertex .ensures) (sym (c .before .before .before .before .before .before .number .ensures) ∙ c .before .before .before .before .before .if1 .left) in
     let a = vertex-admitted (c .before .before .before .before .before .before .before .before .before .before .before .args .state .now) (c .before .before .before .before .before .before .before .before .before .before .before .args .rec .now) _ (c .before .before .before .before .before .before .before .check-vertex .ensures) (sym (c .before .before .before .before .before .before .number .ensures) ∙ c .before .before .before .before .before .if1 .left) in (
@@ -81,14 +69,12 @@ put-vertex-requires c κs = let S = vertex-sound (c .before .before .before .bef
       rw (take-all 10 (drop 2 (c .before .before .before .before .before .before .before .before .before .before .before .args .rec .now)) (omega (arith, a .size))) (a .size),
     )
 
--- src/calls.rt:273:5
 raise-round-requires : tie.Need-raise-round-requires
 raise-round-requires c κs = let a = vertex-admitted (c .before .before .before .before .before .before .before .before .before .before .before .before .before .before .before .args .state .now) (c .before .before .before .before .before .before .before .before .before .before .before .before .before .before .before .args .rec .now) _ (c .before .before .before .before .before .before .before .before .before .before .before .check-vertex .ensures) (sym (c .before .before .before .before .before .before .before .before .before .before .number .ensures) ∙ c .before .before .before .before .before .before .before .before .before .if1 .left) in
     let R = vertex-put (c .before .before .before .before .before .before .before .before .before .before .before .before .before .before .before .args .state .now) (c .before .before .before .before .before .before .before .before .before .before .before .before .before .before .before .args .rec .now) _ (c .before .before .before .before .before .before .before .before .before .before .before .check-vertex .ensures) (sym (c .before .before .before .before .before .before .before .before .before .before .number .ensures) ∙ c .before .before .before .before .before .before .before .before .before .if1 .left) in
     let d = c .before .before .before .put-vertex .ensures ∙ ap (putVertex (c .before .before .before .before .before .before .before .before .before .before .before .before .before .before .before .args .state .now) (roundOf (c .before .before .before .before .before .before .before .before .before .before .before .before .before .before .before .args .rec .now)) (sourceOf (c .before .before .before .before .before .before .before .before .before .before .before .before .before .before .before .args .rec .now))) (take-all 10 (drop 2 (c .before .before .before .before .before .before .before .before .before .before .before .before .before .before .before .args .rec .now)) (omega (arith, a .size))) in
     (ap length d ∙ R .size, R .members ∙ ap memberCount (sym d), R .some)
 
--- src/calls.rt:274:5
 settle-requires : tie.Need-settle-requires
 settle-requires c κs = let a = vertex-admitted (c .before .before .before .before .before .before .before .before .before .before .before .before .before .before .before .before .before .before .before .args .state .now) (c .before .before .before .before .before .before .before .before .before .before .before .before .before .before .before .before .before .before .before .args .rec .now) _ (c .before .before .before .before .before .before .before .before .before .before .before .before .before .before .before .check-vertex .ensures) (sym (c .before .before .before .before .before .before .before .before .before .before .before .before .before .before .number .ensures) ∙ c .before .before .before .before .before .before .before .before .before .before .before .before .before .if1 .left) in
     let R = vertex-raised (c .before .before .before .before .before .before .before .before .before .before .before .before .before .before .before .before .before .before .before .args .state .now) (c .before .before .before .before .before .before .before .before .before .before .before .before .before .before .before .before .before .before .before .args .rec .now) _ (c .before .before .before .before .before .before .before .before .before .before .before .before .before .before .before .check-vertex .ensures) (sym (c .before .before .before .before .before .before .before .before .before .before .before .before .before .before .number .ensures) ∙ c .before .before .before .before .before .before .before .before .before .before .before .before .before .if1 .left) in
@@ -96,11 +82,9 @@ settle-requires c κs = let a = vertex-admitted (c .before .before .before .befo
     let k = c .before .before .before .raise-round .ensures ∙ ap raiseRound d in
     (ap length k ∙ R .size, ap wellFormed k ∙ R .formed, R .members ∙ ap memberCount (sym k))
 
--- src/calls.rt:264:1
 same-length-2 : tie.Need-same-length-2
 same-length-2 c = search needs
 
--- src/calls.rt:264:1
 returns-2 : tie.Need-returns-2
 returns-2 c = let a = vertex-admitted (c .before .before .before .before .before .before .before .before .before .before .before .before .before .before .before .before .before .before .before .before .before .before .args .state .now) (c .before .before .before .before .before .before .before .before .before .before .before .before .before .before .before .before .before .before .before .before .before .before .args .rec .now) _ (c .before .before .before .before .before .before .before .before .before .before .before .before .before .before .before .before .before .before .check-vertex .ensures) (sym (c .before .before .before .before .before .before .before .before .before .before .before .before .before .before .before .before .before .number .ensures) ∙ c .before .before .before .before .before .before .before .before .before .before .before .before .before .before .before .before .if1 .left) in
     let d = c .before .before .before .before .before .before .before .before .before .before .put-vertex .ensures ∙ ap (putVertex (c .before .before .before .before .before .before .before .before .before .before .before .before .before .before .before .before .before .before .before .before .before .before .args .state .now) (roundOf (c .before .before .before .before .before .before .before .before .before .before .before .before .before .before .before .before .before .before .before .before .before .before .args .rec .now)) (sourceOf (c .before .before .before .before .before .before .before .before .before .before .before .before .before .before .before .before .before .before .before .before .before .before .args .rec .now))) (take-all 10 (drop 2 (c .before .before .before .before .before .before .before .before .before .before .before .before .before .before .before .before .before .before .before .before .before .before .args .rec .now)) (omega (arith, a .size))) in

@@ -16,43 +16,33 @@ Inv-loop cell₀ body i₀ cell i = (i ≤ 10) × (length cell ≡ 10) × (take 
 abbrev μ-loop : tie.MeasureT-loop
 μ-loop cell₀ body i₀ cell i = 10 - i
 
--- src/calls.rt:129:5
 loop-holds : tie.Need-loop-holds Inv-loop μ-loop
 loop-holds c = (omega arith, c .pre .0, refl)
 
--- src/calls.rt:130:19
 mul-cell : tie.Need-mul-cell Inv-loop μ-loop
 mul-cell c = search needs
 
--- src/calls.rt:130:19
 shared-slice-read-cell : tie.Need-shared-slice-read-cell Inv-loop μ-loop
 shared-slice-read-cell c = search needs
 
--- src/calls.rt:130:9
 mul-cell-2 : tie.Need-mul-cell-2 Inv-loop μ-loop
 mul-cell-2 c = search needs
 
--- src/calls.rt:130:9
 slice-write-cell : tie.Need-slice-write-cell Inv-loop μ-loop
 slice-write-cell c = search needs
 
--- src/calls.rt:131:9
 add-i : tie.Need-add-i Inv-loop μ-loop
 add-i c = search needs
 
--- src/calls.rt:129:5
 loop-less : tie.Need-loop-less Inv-loop μ-loop
 loop-less c = search needs
 
--- src/calls.rt:129:5
 loop-again : tie.Need-loop-again Inv-loop μ-loop
 loop-again c = (omega arith, length-set (c .before .before .loop .cell) (c .before .before .loop .i) _ ∙ c .before .before .loop .inv .1, take-copied (c .before .before .loop .cell) (c .before .before .before .args .body .now) (c .before .before .loop .i) (omega (arith, c .before .before .loop .inv .1)) (omega (arith, c .before .before .before .pre .1)) (c .before .before .loop .inv .2))
 
--- src/calls.rt:124:1
 same-length : tie.Need-same-length Inv-loop μ-loop
 same-length c = search needs
 
--- src/calls.rt:124:1
 returns : tie.Need-returns Inv-loop μ-loop
 returns c = take-whole _ _ (c .before .loop .i) (omega (arith, c .before .loop .inv .1)) (omega (arith, c .before .before .pre .1)) (c .before .loop .inv .2)
 

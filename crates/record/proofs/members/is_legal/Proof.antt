@@ -6,17 +6,14 @@ use Rattle.record.proofs.members.is_legal.Tie as tie
 use Rattle.record.proofs.members.is_legal.Reads as reads
 use Rattle.record.proofs.members.is_legal.Lts as lts
 
--- src/members.rt:17:9
 returns : tie.Need-returns
 unfolding legal
 returns c = simp (lt-leb _ _ (c .if1 .taken))
 
--- src/members.rt:20:9
 returns-2 : tie.Need-returns-2
 unfolding legal
 returns-2 c = simp (le-leb _ _ (c .before .if1 .left), lt-leb _ _ (c .if2 .taken))
 
--- src/members.rt:13:1
 returns-3 : tie.Need-returns-3
 unfolding legal
 returns-3 c = simp (le-leb _ _ (c .before .if1 .left), le-leb _ _ (c .if2 .left))

@@ -7,15 +7,12 @@ use Rattle.record.proofs.members.is_within.Tie as tie
 use Rattle.record.proofs.members.is_within.Reads as reads
 use Rattle.record.proofs.members.is_within.Lts as lts
 
--- src/members.rt:54:9
 returns : tie.Need-returns
 returns c = sym (within-wide _ _ (omega arith) (omega arith))
 
--- src/members.rt:56:5
 shr-result : tie.Need-shr-result
 shr-result c = search needs
 
--- src/members.rt:50:1
 returns-2 : tie.Need-returns-2
 returns-2 c = within-shift _ _
 

@@ -6,15 +6,12 @@ use Rattle.record.proofs.members.leader_of.Tie as tie
 use Rattle.record.proofs.members.leader_of.Reads as reads
 use Rattle.record.proofs.members.leader_of.Lts as lts
 
--- src/members.rt:38:6
 sub-result : tie.Need-sub-result
 sub-result c = search needs
 
--- src/members.rt:38:5
 rem-result : tie.Need-rem-result
 rem-result c = search needs
 
--- src/members.rt:34:1
 returns : tie.Need-returns
 unfolding leader
 returns c = refl

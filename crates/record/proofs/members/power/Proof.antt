@@ -5,11 +5,9 @@ use Rattle.record.proofs.members.power.Tie as tie
 use Rattle.record.proofs.members.power.Reads as reads
 use Rattle.record.proofs.members.power.Lts as lts
 
--- src/members.rt:46:5
 shl-result : tie.Need-shl-result
 shl-result c = search needs
 
--- src/members.rt:42:1
 returns : tie.Need-returns
 returns c = shl-one (c .args .p) (c .pre)
 

@@ -4,34 +4,23 @@ use mathlib.Core.Path.{sym}
 use borrow.Author.Needs.{needs}
 use Rattle.record.proofs.questions.certificates_ok.Statement.{statement}
 use Rattle.record.proofs.questions.certificates_ok.Tie as tie
-use Rattle.record.proofs.questions.certificates_ok.Reads as reads
-use Rattle.record.proofs.questions.certificates_ok.Lts as lts
-use Rattle.record.proofs.questions.masks_ok.Reads as masks-ok-reads
-use Rattle.record.proofs.questions.no_votes_ok.Reads as no-votes-ok-reads
-use Rattle.record.proofs.questions.quorum_if.Reads as quorum-if-reads
 
--- src/questions.rt:182:9
 masks-ok-requires : tie.Need-masks-ok-requires
 masks-ok-requires c κs = search needs
 
--- src/questions.rt:183:9
 returns : tie.Need-returns
 returns c = sym (and-fails-left _ (failed (c .before .masks-ok .ensures) (c .if1 .taken)))
 
--- src/questions.rt:185:9
 quorum-if-requires : tie.Need-quorum-if-requires
 quorum-if-requires c κs = search needs
 
--- src/questions.rt:186:9
 returns-2 : tie.Need-returns-2
 unfolding quorumIf
 returns-2 c = rw (passed (c .before .before .before .masks-ok .ensures) (c .before .before .if1 .left)) (sym (and-fails-left _ (failed (c .before .quorum-if .ensures) (c .if2 .taken))))
 
--- src/questions.rt:188:5
 no-votes-ok-requires : tie.Need-no-votes-ok-requires
 no-votes-ok-requires c κs = search needs
 
--- src/questions.rt:179:1
 returns-3 : tie.Need-returns-3
 unfolding quorumIf
 returns-3 c = rw (passed (c .before .before .before .before .masks-ok .ensures) (c .before .before .before .if1 .left), passed (c .before .before .quorum-if .ensures) (c .before .if2 .left)) (c .no-votes-ok .ensures)

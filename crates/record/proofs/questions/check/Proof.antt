@@ -12,36 +12,28 @@ use Rattle.record.proofs.questions.check.Reads as reads
 use Rattle.record.proofs.questions.check.Lts as lts
 use Rattle.record.proofs.questions.check_body.Reads as check-body-reads
 
--- src/questions.rt:233:9
 returns : tie.Need-returns
 unfolding bodyRefusal
 returns c = stop _ _ (ne-eqb (length (drop 2 (c .before .before .args .rec .now))) 10 (λ e. c .if1 .taken (omega (arith, length-drop 2 (c .before .before .args .rec .now), e))))
 
--- src/questions.rt:235:19
 shared-slice-read-check-body : tie.Need-shared-slice-read-check-body
 shared-slice-read-check-body c = search needs
 
--- src/questions.rt:235:31
 shared-slice-read-check-body-2 : tie.Need-shared-slice-read-check-body-2
 shared-slice-read-check-body-2 c = search needs
 
--- src/questions.rt:235:44
 sub-check-body : tie.Need-sub-check-body
 sub-check-body c = search needs
 
--- src/questions.rt:235:44
 part-check-body-start : tie.Need-part-check-body-start
 part-check-body-start c = search needs
 
--- src/questions.rt:235:44
 part-check-body-end : tie.Need-part-check-body-end
 part-check-body-end c = search needs
 
--- src/questions.rt:235:5
 check-body-requires : tie.Need-check-body-requires
 check-body-requires c κs = search needs
 
--- src/questions.rt:229:1
 returns-2 : tie.Need-returns-2
 returns-2 c = rw (take-all 10 (drop 2 (c .before .before .before .before .before .before .args .rec .now)) (omega (arith, length-drop 2 (c .before .before .before .before .before .before .args .rec .now)))) at (c .check-body .ensures)
 

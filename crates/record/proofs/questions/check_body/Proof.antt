@@ -13,36 +13,29 @@ use Rattle.record.proofs.questions.check_known.Reads as check-known-rea
 use Rattle.record.proofs.questions.round_ok.Reads as round-ok-reads
 use Rattle.record.proofs.questions.terms_of.Reads as terms-of-reads
 
--- src/questions.rt:217:9
 returns : tie.Need-returns
 unfolding bodyRefusal
 returns c = stop _ _ (ne-eqb _ _ (c .if1 .taken))
 
--- src/questions.rt:219:9
 round-ok-requires : tie.Need-round-ok-requires
 round-ok-requires c κs = search needs
 
--- src/questions.rt:220:9
 returns-2 : tie.Need-returns-2
 unfolding bodyRefusal
 returns-2 c = next _ _ (eq-eqb _ _ (c .before .before .if1 .left)) (stop _ _ (failed (c .before .round-ok .ensures) (c .if2 .taken)))
 
--- src/questions.rt:223:9
 returns-3 : tie.Need-returns-3
 unfolding bodyRefusal
 returns-3 c = next _ _ (eq-eqb _ _ (c .before .before .before .if1 .left))
     (next _ _ (passed (c .before .before .round-ok .ensures) (c .before .if2 .left)) (stop _ _ (le-ltb _ _ (c .if3 .taken))))
 
--- src/questions.rt:225:17
 terms-of-requires : tie.Need-terms-of-requires
 terms-of-requires c κs = let h = round-range _ (passed (c .before .before .round-ok .ensures) (c .before .if2 .left)) in (omega arith, h .0)
 
--- src/questions.rt:225:5
 check-known-requires : tie.Need-check-known-requires
 check-known-requires c κs = let h = round-range _ (passed (c .before .before .before .round-ok .ensures) (c .before .before .if2 .left)) in
     rw (c .terms-of .ensures) (refl, h .0, h .1, c .before .if3 .left, c .before .before .before .before .if1 .left)
 
--- src/questions.rt:213:1
 returns-4 : tie.Need-returns-4
 returns-4 c = rw (c .before .terms-of .ensures) at (c .check-known .ensures)
 

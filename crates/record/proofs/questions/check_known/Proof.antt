@@ -16,48 +16,38 @@ use Rattle.record.proofs.questions.quorum_if.Reads as quorum-if-reads
 use Rattle.record.proofs.questions.strong_ok.Reads as strong-ok-reads
 use Rattle.record.proofs.questions.weak_ok.Reads as weak-ok-reads
 
--- src/questions.rt:190:18
 shared-slice-read-strong : tie.Need-shared-slice-read-strong
 shared-slice-read-strong c = search needs
 
--- src/questions.rt:191:20
 shared-slice-read-timeouts : tie.Need-shared-slice-read-timeouts
 shared-slice-read-timeouts c = search needs
 
--- src/questions.rt:192:20
 shared-slice-read-no-votes : tie.Need-shared-slice-read-no-votes
 shared-slice-read-no-votes c = search needs
 
--- src/questions.rt:193:9
 masks-ok-requires : tie.Need-masks-ok-requires
 masks-ok-requires c κs = search needs
 
--- src/questions.rt:194:9
 returns : tie.Need-returns
 unfolding masksOk strongOf timeoutsOf noVotesOf
 returns c = known _ _ _ _ (c .before .before .before .before .before .before .pre .1) (c .before .before .before .before .before .before .pre .2) (c .before .before .before .before .before .before .pre .3) (c .before .before .before .before .before .before .pre .4)
     (stop _ _ (failed (c .before .masks-ok .ensures) (c .if1 .taken)))
 
--- src/questions.rt:196:9
 strong-ok-requires : tie.Need-strong-ok-requires
 strong-ok-requires c κs = search needs
 
--- src/questions.rt:197:9
 returns-2 : tie.Need-returns-2
 unfolding masksOk strongOf timeoutsOf noVotesOf
 returns-2 c = known _ _ _ _ (c .before .before .before .before .before .before .before .before .pre .1) (c .before .before .before .before .before .before .before .before .pre .2) (c .before .before .before .before .before .before .before .before .pre .3) (c .before .before .before .before .before .before .before .before .pre .4)
     (next _ _ (passed (c .before .before .before .masks-ok .ensures) (c .before .before .if1 .left))
     (stop _ _ (failed (c .before .strong-ok .ensures) (c .if2 .taken))))
 
--- src/questions.rt:199:9
 lacks-leader-requires : tie.Need-lacks-leader-requires
 lacks-leader-requires c κs = search needs
 
--- src/questions.rt:200:9
 quorum-if-requires : tie.Need-quorum-if-requires
 quorum-if-requires c κs = search needs
 
--- src/questions.rt:201:9
 returns-3 : tie.Need-returns-3
 unfolding masksOk timeoutsOk strongOf timeoutsOf noVotesOf
 returns-3 c = known _ _ _ _ (c .before .before .before .before .before .before .before .before .before .before .before .pre .1) (c .before .before .before .before .before .before .before .before .before .before .before .pre .2) (c .before .before .before .before .before .before .before .before .before .before .before .pre .3) (c .before .before .before .before .before .before .before .before .before .before .before .pre .4)
@@ -65,11 +55,9 @@ returns-3 c = known _ _ _ _ (c .before .before .before .before .before .before .
     (next _ _ (passed (c .before .before .before .before .strong-ok .ensures) (c .before .before .before .if2 .left))
     (stop _ _ (failed (rw (c .before .before .lacks-leader .ensures) at (c .before .quorum-if .ensures)) (c .if3 .taken)))))
 
--- src/questions.rt:203:9
 no-votes-ok-requires : tie.Need-no-votes-ok-requires
 no-votes-ok-requires c κs = search needs
 
--- src/questions.rt:204:9
 returns-4 : tie.Need-returns-4
 unfolding masksOk timeoutsOk noVotesOk strongOf timeoutsOf noVotesOf
 returns-4 c = known _ _ _ _ (c .before .before .before .before .before .before .before .before .before .before .before .before .before .pre .1) (c .before .before .before .before .before .before .before .before .before .before .before .before .before .pre .2) (c .before .before .before .before .before .before .before .before .before .before .before .before .before .pre .3) (c .before .before .before .before .before .before .before .before .before .before .before .before .before .pre .4)
@@ -78,11 +66,9 @@ returns-4 c = known _ _ _ _ (c .before .before .before .before .before .before .
     (next _ _ (passed (rw (c .before .before .before .before .lacks-leader .ensures) at (c .before .before .before .quorum-if .ensures)) (c .before .before .if3 .left))
     (stop _ _ (failed (rw (c .before .before .before .before .lacks-leader .ensures, ap (λ (t : Terms). t .leader) (c .before .before .before .before .before .before .before .before .before .before .before .before .before .pre .0)) at (c .before .no-votes-ok .ensures)) (c .if4 .taken))))))
 
--- src/questions.rt:206:9
 weak-ok-requires : tie.Need-weak-ok-requires
 weak-ok-requires c κs = search needs
 
--- src/questions.rt:207:9
 returns-5 : tie.Need-returns-5
 unfolding masksOk timeoutsOk noVotesOk strongOf timeoutsOf noVotesOf
 returns-5 c = known _ _ _ _ (c .before .before .before .before .before .before .before .before .before .before .before .before .before .before .before .pre .1) (c .before .before .before .before .before .before .before .before .before .before .before .before .before .before .before .pre .2) (c .before .before .before .before .before .before .before .before .before .before .before .before .before .before .before .pre .3) (c .before .before .before .before .before .before .before .before .before .before .before .before .before .before .before .pre .4)
@@ -92,7 +78,6 @@ returns-5 c = known _ _ _ _ (c .before .before .before .before .before .before .
     (next _ _ (passed (rw (c .before .before .before .before .before .before .lacks-leader .ensures, ap (λ (t : Terms). t .leader) (c .before .before .before .before .before .before .before .before .before .before .before .before .before .before .before .pre .0)) at (c .before .before .before .no-votes-ok .ensures)) (c .before .before .if4 .left))
     (stop _ _ (failed (c .before .weak-ok .ensures) (c .if5 .taken)))))))
 
--- src/questions.rt:185:1
 returns-6 : tie.Need-returns-6
 unfolding masksOk timeoutsOk noVotesOk strongOf timeoutsOf noVotesOf
 returns-6 c = known _ _ _ _ (c .before .before .before .before .before .before .before .before .before .before .before .before .before .before .before .pre .1) (c .before .before .before .before .before .before .before .before .before .before .before .before .before .before .before .pre .2) (c .before .before .before .before .before .before .before .before .before .before .before .before .before .before .before .pre .3) (c .before .before .before .before .before .before .before .before .before .before .before .before .before .before .before .pre .4)

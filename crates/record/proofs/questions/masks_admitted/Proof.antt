@@ -1,3 +1,4 @@
+-- `masks-strong`, `masks-lacking` and `masks-full` of `Parts`.
 use Rattle.record.specs.Layout.{strongOf, timeoutsOf, noVotesOf}
 use Rattle.record.specs.declared.questions.Terms.{Terms}
 use Rattle.record.proofs.Booleans.{passed, failed, and-fails-left}
@@ -7,57 +8,40 @@ use mathlib.Core.Path.{sym, ap, _∙_}
 use borrow.Author.Needs.{needs}
 use Rattle.record.proofs.questions.masks_admitted.Statement.{statement}
 use Rattle.record.proofs.questions.masks_admitted.Tie as tie
-use Rattle.record.proofs.questions.masks_admitted.Reads as reads
-use Rattle.record.proofs.questions.masks_admitted.Lts as lts
-use Rattle.record.proofs.members.is_within.Reads as is-within-reads
-use Rattle.record.proofs.questions.certificates_ok.Reads as certificates-ok-reads
-use Rattle.record.proofs.questions.lacks_leader.Reads as lacks-leader-reads
-use Rattle.record.proofs.questions.strong_ok.Reads as strong-ok-reads
 
--- src/questions.rt:197:18
 shared-slice-read-strong : tie.Need-shared-slice-read-strong
 shared-slice-read-strong c = search needs
 
--- src/questions.rt:198:20
 shared-slice-read-timeouts : tie.Need-shared-slice-read-timeouts
 shared-slice-read-timeouts c = search needs
 
--- src/questions.rt:199:20
 shared-slice-read-no-votes : tie.Need-shared-slice-read-no-votes
 shared-slice-read-no-votes c = search needs
 
--- src/questions.rt:200:9
 strong-ok-requires : tie.Need-strong-ok-requires
 strong-ok-requires c κs = search needs
 
--- src/questions.rt:201:9
 returns : tie.Need-returns
 unfolding strongOf
 returns c = sym (masks-strong _ _ _ _ (failed (c .before .strong-ok .ensures) (c .if1 .taken)))
 
--- src/questions.rt:203:8
 lacks-leader-requires : tie.Need-lacks-leader-requires
 lacks-leader-requires c κs = search needs
 
--- src/questions.rt:204:9
 certificates-ok-requires : tie.Need-certificates-ok-requires
 certificates-ok-requires c κs = search needs
 
--- src/questions.rt:204:9
 returns-2 : tie.Need-returns-2
 unfolding strongOf timeoutsOf noVotesOf
 returns-2 c = rw (ap (λ (t : Terms). t .leader) (c .before .before .before .before .before .before .before .before .before .pre .0)) at (c .certificates-ok .ensures) ∙ sym (masks-lacking _ _ _ _ (passed (c .before .before .before .before .strong-ok .ensures) (c .before .before .before .if1 .left)) (sym (c .before .before .lacks-leader .ensures) ∙ c .before .if2 .taken))
 
--- src/questions.rt:207:9
 returns-3 : tie.Need-returns-3
 unfolding strongOf timeoutsOf noVotesOf
 returns-3 c = sym (masks-full _ _ _ _ (passed (c .before .before .before .before .strong-ok .ensures) (c .before .before .before .if1 .left)) (sym (c .before .before .lacks-leader .ensures) ∙ c .before .if2 .left) ∙ and-fails-left _ (ne-eqb _ _ (c .if3 .taken)))
 
--- src/questions.rt:209:5
 is-within-requires : tie.Need-is-within-requires
 is-within-requires c κs = search needs
 
--- src/questions.rt:193:1
 returns-4 : tie.Need-returns-4
 unfolding strongOf timeoutsOf noVotesOf
 returns-4 c = sym (masks-full _ _ _ _ (passed (c .before .before .before .before .before .strong-ok .ensures) (c .before .before .before .before .if1 .left)) (sym (c .before .before .before .lacks-leader .ensures) ∙ c .before .before .if2 .left) ∙ rw (eq-eqb _ _ (c .before .if3 .left)) (sym (c .is-within .ensures)))

@@ -10,15 +10,12 @@ use Rattle.record.proofs.questions.no_votes_ok.Reads as reads
 use Rattle.record.proofs.questions.no_votes_ok.Lts as lts
 use Rattle.record.proofs.questions.quorum_if.Reads as quorum-if-reads
 
--- src/questions.rt:118:9
 quorum-if-requires : tie.Need-quorum-if-requires
 quorum-if-requires c κs = search needs
 
--- src/questions.rt:118:9
 returns : tie.Need-returns
 returns c = c .quorum-if .ensures ∙ wanted-leading _ _ _ _ (eq-eqb _ _ (c .before .if1 .taken))
 
--- src/questions.rt:114:1
 returns-2 : tie.Need-returns-2
 returns-2 c = wanted-not (c .before .before .args .terms .n) (c .before .before .args .lack) _ (c .before .before .args .no-votes) (ne-eqb _ _ (c .if1 .left))
 

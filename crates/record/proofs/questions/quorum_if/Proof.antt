@@ -6,16 +6,13 @@ use Rattle.record.proofs.questions.quorum_if.Reads as reads
 use Rattle.record.proofs.questions.quorum_if.Lts as lts
 use Rattle.record.proofs.members.Members.meets_quorum.Reads as meets-quorum-reads
 
--- src/questions.rt:108:9
 meets-quorum-requires : tie.Need-meets-quorum-requires
 meets-quorum-requires c κs = search needs
 
--- src/questions.rt:108:9
 returns : tie.Need-returns
 unfolding quorumIf
 returns c = rw (c .before .if1 .taken) (c .meets-quorum .ensures)
 
--- src/questions.rt:103:1
 returns-2 : tie.Need-returns-2
 unfolding quorumIf
 returns-2 c = rw (c .if1 .left)

@@ -7,40 +7,31 @@ use Rattle.record.proofs.questions.rises_at.Tie as tie
 use Rattle.record.proofs.questions.rises_at.Reads as reads
 use Rattle.record.proofs.questions.rises_at.Lts as lts
 
--- src/questions.rt:140:9
 returns : tie.Need-returns
 unfolding rises
 returns c = simp (eq-eqb _ _ (c .if1 .taken))
 
--- src/questions.rt:142:18
 sub-result : tie.Need-sub-result
 sub-result c = search needs
 
--- src/questions.rt:142:10
 add-result : tie.Need-add-result
 add-result c = search needs
 
--- src/questions.rt:142:5
 mul-result : tie.Need-mul-result
 mul-result c = search needs
 
--- src/questions.rt:142:5
 shared-slice-read-result : tie.Need-shared-slice-read-result
 shared-slice-read-result c = search needs
 
--- src/questions.rt:142:33
 add-result-2 : tie.Need-add-result-2
 add-result-2 c = search needs
 
--- src/questions.rt:142:28
 mul-result-2 : tie.Need-mul-result-2
 mul-result-2 c = search needs
 
--- src/questions.rt:142:28
 shared-slice-read-result-2 : tie.Need-shared-slice-read-result-2
 shared-slice-read-result-2 c = search needs
 
--- src/questions.rt:135:1
 returns-2 : tie.Need-returns-2
 unfolding rises weakOf
 returns-2 c = simp (ne-eqb _ _ (c .before .before .if1 .left))

@@ -5,12 +5,10 @@ use Rattle.record.proofs.questions.round_ok.Tie as tie
 use Rattle.record.proofs.questions.round_ok.Reads as reads
 use Rattle.record.proofs.questions.round_ok.Lts as lts
 
--- src/questions.rt:58:9
 returns : tie.Need-returns
 unfolding roundOk
 returns c = simp (lt-leb _ _ (c .if1 .taken))
 
--- src/questions.rt:54:1
 returns-2 : tie.Need-returns-2
 unfolding roundOk
 returns-2 c = simp (le-leb _ _ (c .if1 .left))

@@ -11,45 +11,35 @@ use Rattle.record.proofs.questions.rises_at.Reads as rises-at-reads
 use Rattle.record.proofs.questions.weak_id_ok.Reads as weak-id-ok-reads
 use Rattle.record.proofs.questions.wide.Reads as wide-reads
 
--- src/questions.rt:155:18
 add-x : tie.Need-add-x
 add-x c = search needs
 
--- src/questions.rt:155:13
 mul-x : tie.Need-mul-x
 mul-x c = search needs
 
--- src/questions.rt:155:13
 shared-slice-read-x : tie.Need-shared-slice-read-x
 shared-slice-read-x c = search needs
 
--- src/questions.rt:156:13
 shared-slice-read-wide : tie.Need-shared-slice-read-wide
 shared-slice-read-wide c = search needs
 
--- src/questions.rt:156:8
 wide-requires : tie.Need-wide-requires
 wide-requires c κs = search needs
 
--- src/questions.rt:157:9
 returns : tie.Need-returns
 unfolding slotOk weakOf weakCountOf
 returns c = simp (le-ltb _ _ (rw (c .before .wide .ensures) at (c .if1 .taken)))
 
--- src/questions.rt:159:9
 rises-at-requires : tie.Need-rises-at-requires
 rises-at-requires c κs = search needs
 
--- src/questions.rt:160:9
 returns-2 : tie.Need-returns-2
 unfolding slotOk weakOf weakCountOf
 returns-2 c = simp (lt-ltb _ _ (rw (c .before .before .before .wide .ensures) at (c .before .before .if1 .left)), failed (c .before .rises-at .ensures) (c .if2 .taken))
 
--- src/questions.rt:162:5
 weak-id-ok-requires : tie.Need-weak-id-ok-requires
 weak-id-ok-requires c κs = search needs
 
--- src/questions.rt:151:1
 returns-3 : tie.Need-returns-3
 unfolding slotOk weakOf weakCountOf
 returns-3 c = simp (lt-ltb _ _ (rw (c .before .before .before .before .wide .ensures) at (c .before .before .before .if1 .left)), passed (c .before .before .rises-at .ensures) (c .before .if2 .left)) (c .weak-id-ok .ensures)

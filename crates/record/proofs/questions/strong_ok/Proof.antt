@@ -7,16 +7,13 @@ use Rattle.record.proofs.questions.strong_ok.Reads as reads
 use Rattle.record.proofs.questions.strong_ok.Lts as lts
 use Rattle.record.proofs.members.Members.meets_quorum.Reads as meets-quorum-reads
 
--- src/questions.rt:81:9
 returns : tie.Need-returns
 unfolding strongOk
 returns c = simp (eq-eqb _ _ (c .if1 .taken))
 
--- src/questions.rt:84:5
 meets-quorum-requires : tie.Need-meets-quorum-requires
 meets-quorum-requires c κs = search needs
 
--- src/questions.rt:77:1
 returns-2 : tie.Need-returns-2
 unfolding strongOk
 returns-2 c = simp (ne-eqb _ _ (c .before .if1 .left)) (c .meets-quorum .ensures)

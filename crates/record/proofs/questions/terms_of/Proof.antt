@@ -11,23 +11,18 @@ use Rattle.record.proofs.questions.terms_of.Reads as reads
 use Rattle.record.proofs.questions.terms_of.Lts as lts
 use Rattle.record.proofs.members.leader_of.Reads as leader-of-reads
 
--- src/questions.rt:37:9
 leader-of-requires : tie.Need-leader-of-requires
 leader-of-requires c κs = search needs
 
--- src/questions.rt:39:9
 returns : tie.Need-returns
 returns c = rw (c .before .leader-of .ensures, leader-none _ _ (c .if1 .taken))
 
--- src/questions.rt:45:33
 sub-leader-of : tie.Need-sub-leader-of
 sub-leader-of c = search needs
 
--- src/questions.rt:45:9
 leader-of-requires-2 : tie.Need-leader-of-requires-2
 leader-of-requires-2 c κs = search needs
 
--- src/questions.rt:33:1
 returns-2 : tie.Need-returns-2
 returns-2 c = rw (c .before .before .leader-of .ensures, c .leader-of2 .ensures)
 

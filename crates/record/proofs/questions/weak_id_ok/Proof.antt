@@ -6,21 +6,17 @@ use Rattle.record.proofs.questions.weak_id_ok.Tie as tie
 use Rattle.record.proofs.questions.weak_id_ok.Reads as reads
 use Rattle.record.proofs.questions.weak_id_ok.Lts as lts
 
--- src/questions.rt:127:9
 returns : tie.Need-returns
 unfolding weakIdOk
 returns c = simp (le-ltb _ _ (c .if1 .taken))
 
--- src/questions.rt:130:9
 returns-2 : tie.Need-returns-2
 unfolding weakIdOk
 returns-2 c = simp (lt-ltb _ _ (c .before .if1 .left), lt-leb _ _ (c .if2 .taken))
 
--- src/questions.rt:132:5
 add-result : tie.Need-add-result
 add-result c = search needs
 
--- src/questions.rt:123:1
 returns-3 : tie.Need-returns-3
 unfolding weakIdOk
 returns-3 c = simp (lt-ltb _ _ (c .before .if1 .left), le-leb _ _ (c .if2 .left))

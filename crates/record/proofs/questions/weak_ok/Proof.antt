@@ -22,28 +22,22 @@ Inv-loop n round body most i₀ i = (i ≤ 5) × (all i (slotOk n round body) �
 abbrev μ-loop : tie.MeasureT-loop
 μ-loop n round body most i₀ i = 5 - i
 
--- src/questions.rt:170:9
 faulty-of-requires : tie.Need-faulty-of-requires Inv-loop μ-loop
 faulty-of-requires c κs = search needs
 
--- src/questions.rt:171:15
 shared-slice-read-if1 : tie.Need-shared-slice-read-if1 Inv-loop μ-loop
 shared-slice-read-if1 c = search needs
 
--- src/questions.rt:172:9
 returns : tie.Need-returns Inv-loop μ-loop
 unfolding weakOk weakCountOf
 returns c = simp (lt-leb _ _ (rw (c .before .before .faulty-of .ensures) at (c .if1 .taken)))
 
--- src/questions.rt:175:5
 loop-holds : tie.Need-loop-holds Inv-loop μ-loop
 loop-holds c = (omega arith, all-none _)
 
--- src/questions.rt:176:13
 slot-ok-requires : tie.Need-slot-ok-requires Inv-loop μ-loop
 slot-ok-requires c κs = search needs
 
--- src/questions.rt:177:13
 returns-2 : tie.Need-returns-2 Inv-loop μ-loop
 unfolding weakOk weakCountOf
 returns-2 c = simp (
@@ -51,19 +45,15 @@ returns-2 c = simp (
   all-stop 5 (slotOk (c .before .before .before .before .before .before .before .before .args .n) (c .before .before .before .before .before .before .before .before .args .round) (c .before .before .before .before .before .before .before .before .args .body .now)) _ (c .before .before .loop-test .taken) (failed (c .before .slot-ok .ensures) (c .if2 .taken)),
 )
 
--- src/questions.rt:179:9
 add-i : tie.Need-add-i Inv-loop μ-loop
 add-i c = search needs
 
--- src/questions.rt:175:5
 loop-less : tie.Need-loop-less Inv-loop μ-loop
 loop-less c = search needs
 
--- src/questions.rt:175:5
 loop-again : tie.Need-loop-again Inv-loop μ-loop
 loop-again c = (omega arith, all-more _ _ (c .before .before .before .loop .inv .1) (passed (c .before .slot-ok .ensures) (c .if2 .left)))
 
--- src/questions.rt:166:1
 returns-3 : tie.Need-returns-3 Inv-loop μ-loop
 unfolding weakOk weakCountOf
 returns-3 c = let e : c .before .loop .i ≡ 5 = omega arith in

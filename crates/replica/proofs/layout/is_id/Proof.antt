@@ -2,14 +2,10 @@ use mathlib.Core.Path.{sym}
 use Rattle.replica.proofs.Parents.{id-low, id-test}
 use Rattle.replica.proofs.layout.is_id.Statement.{statement}
 use Rattle.replica.proofs.layout.is_id.Tie as tie
-use Rattle.replica.proofs.layout.is_id.Reads as reads
-use Rattle.replica.proofs.layout.is_id.Lts as lts
 
--- src/layout.rt:122:9
 returns : tie.Need-returns
 returns c = sym (id-low _ (c .if1 .taken))
 
--- src/layout.rt:118:1
 returns-2 : tie.Need-returns-2
 returns-2 c = id-test _ (c .if1 .left)
 

@@ -1,4 +1,5 @@
-use mathlib.Core.Path.{_≡_, sym, ap, _∙_}
+-- `cell-zero` and `cell-held` of `Cells`: the lent part is the cell.
+use mathlib.Core.Path.{ap, _∙_}
 use native.Mathlib.Omega.{arith}
 use lib.Seq.{length-take-le}
 use lib.ListN.{length, drop, length-drop}
@@ -11,71 +12,49 @@ use Rattle.replica.proofs.Words.{masks-small, round-elim}
 use borrow.Author.Needs.{needs}
 use Rattle.replica.proofs.wellformed.cell_ok.Statement.{statement}
 use Rattle.replica.proofs.wellformed.cell_ok.Tie as tie
-use Rattle.replica.proofs.wellformed.cell_ok.Reads as reads
-use Rattle.replica.proofs.wellformed.cell_ok.Lts as lts
-use Rattle.record.proofs.members.Members.has.Reads as has-reads
-use Rattle.replica.proofs.layout.cell_at.Reads as cell-at-reads
-use Rattle.replica.proofs.layout.held_mask.Reads as held-mask-reads
-use Rattle.replica.proofs.wellformed.is_zero.Reads as is-zero-reads
-use Rattle.replica.proofs.wellformed.record_ok.Reads as record-ok-reads
 
--- src/wellformed.rt:246:9
 cell-at-requires : tie.Need-cell-at-requires
 cell-at-requires c κs = search needs
 
--- src/wellformed.rt:247:15
 add-end : tie.Need-add-end
 add-end c = search needs
 
--- src/wellformed.rt:249:15
 held-mask-requires : tie.Need-held-mask-requires
 held-mask-requires c κs = search needs
 
--- src/wellformed.rt:252:9
 has-requires : tie.Need-has-requires
 has-requires c κs = search needs
 
--- src/wellformed.rt:253:24
 mul-is-zero : tie.Need-mul-is-zero
 mul-is-zero c = search needs
 
--- src/wellformed.rt:253:24
 sub-is-zero : tie.Need-sub-is-zero
 sub-is-zero c = search needs
 
--- src/wellformed.rt:253:24
 part-is-zero-start : tie.Need-part-is-zero-start
 part-is-zero-start c = search needs
 
--- src/wellformed.rt:253:24
 part-is-zero-end : tie.Need-part-is-zero-end
 part-is-zero-end c = search needs
 
--- src/wellformed.rt:253:9
 is-zero-requires : tie.Need-is-zero-requires
 is-zero-requires c κs = search needs
 
--- src/wellformed.rt:253:9
 returns : tie.Need-returns
 returns c = c .is-zero .ensures ∙ cell-zero (c .before .before .before .before .before .before .before .args .state .now) (c .before .before .before .before .before .before .before .args .round) (c .before .before .before .before .before .before .before .args .member) _ (c .before .before .before .before .before .cell-at .ensures) (omega arith) (failed (rw (c .before .before .before .before .held-mask .ensures) at (c .before .before .before .has .ensures)) (c .before .before .if1 .taken))
 
--- src/wellformed.rt:255:44
 mul-record-ok : tie.Need-mul-record-ok
 mul-record-ok c = search needs
 
--- src/wellformed.rt:255:44
 sub-record-ok : tie.Need-sub-record-ok
 sub-record-ok c = search needs
 
--- src/wellformed.rt:255:44
 part-record-ok-start : tie.Need-part-record-ok-start
 part-record-ok-start c = search needs
 
--- src/wellformed.rt:255:44
 part-record-ok-end : tie.Need-part-record-ok-end
 part-record-ok-end c = search needs
 
--- src/wellformed.rt:255:5
 record-ok-requires : tie.Need-record-ok-requires
 record-ok-requires c κs = (
   c .before .before .before .before .before .before .pre .0,
@@ -88,7 +67,6 @@ record-ok-requires c κs = (
   ap length (cell-part (c .before .before .before .before .before .before .args .state .now) _ (cellAt (c .before .before .before .before .before .before .args .round) (c .before .before .before .before .before .before .args .member)) (c .before .before .before .before .cell-at .ensures)) ∙ length-take-le 10 (drop (cellAt (c .before .before .before .before .before .before .args .round) (c .before .before .before .before .before .before .args .member)) (c .before .before .before .before .before .before .args .state .now)) (omega (arith, length-drop (cellAt (c .before .before .before .before .before .before .args .round) (c .before .before .before .before .before .before .args .member)) (c .before .before .before .before .before .before .args .state .now))),
 )
 
--- src/wellformed.rt:242:1
 returns-2 : tie.Need-returns-2
 returns-2 c = c .record-ok .ensures ∙ cell-held (c .before .before .before .before .before .before .before .args .state .now) (c .before .before .before .before .before .before .before .args .round) (c .before .before .before .before .before .before .before .args .member) _ (passed (rw (c .before .before .before .before .held-mask .ensures) at (c .before .before .before .has .ensures)) (c .before .before .if1 .left)) (cell-part (c .before .before .before .before .before .before .before .args .state .now) _ _ (c .before .before .before .before .before .cell-at .ensures))
 

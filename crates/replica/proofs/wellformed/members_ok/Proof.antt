@@ -1,3 +1,4 @@
+-- Invariant: the first p cells pass, and the terms are those of the round.
 use borrow.Author.Needs.{needs}
 use mathlib.Core.Path.{_≡_, sym, ap, _∙_}
 use mathlib.Core.Bool.{true}
@@ -12,10 +13,6 @@ use Rattle.replica.specs.State.{memberCount}
 use Rattle.replica.specs.WellFormed.{cellOk}
 use Rattle.replica.proofs.wellformed.members_ok.Statement.{statement}
 use Rattle.replica.proofs.wellformed.members_ok.Tie as tie
-use Rattle.replica.proofs.wellformed.members_ok.Reads as reads
-use Rattle.replica.proofs.wellformed.members_ok.Lts as lts
-use Rattle.record.proofs.questions.terms_of.Reads as terms-of-reads
-use Rattle.replica.proofs.wellformed.cell_ok.Reads as cell-ok-reads
 
 abbrev Inv-loop : tie.InvT-loop
 Inv-loop state n round terms p₀ p = (p ≤ n) × (terms ≡ termsOf (memberCount state) round) × (all p (cellOk state round) ≡ true)
@@ -23,35 +20,27 @@ Inv-loop state n round terms p₀ p = (p ≤ n) × (terms ≡ termsOf (memberCou
 abbrev μ-loop : tie.MeasureT-loop
 μ-loop state n round terms p₀ p = n - p
 
--- src/wellformed.rt:263:9
 terms-of-requires : tie.Need-terms-of-requires Inv-loop μ-loop
 terms-of-requires c κs = let g = legal-range _ (c .before .pre .2) in (omega (arith, g .low), c .before .pre .4)
 
--- src/wellformed.rt:265:5
 loop-holds : tie.Need-loop-holds Inv-loop μ-loop
 loop-holds c = (omega arith, c .terms-of .ensures ∙ ap (λ (m : ℕ). termsOf m (c .before .before .args .round)) (c .before .before .pre .1), all-none _)
 
--- src/wellformed.rt:266:13
 cell-ok-requires : tie.Need-cell-ok-requires Inv-loop μ-loop
 cell-ok-requires c κs = let g = legal-range _ (c .before .before .before .before .pre .2) in (c .before .before .before .before .pre .0, c .before .loop .inv .1, rw (c .before .before .before .before .pre .1) at (c .before .before .before .before .pre .2), c .before .before .before .before .pre .3, c .before .before .before .before .pre .4, c .before .before .before .before .pre .5, omega (arith, g .high))
 
--- src/wellformed.rt:267:13
 returns : tie.Need-returns Inv-loop μ-loop
 returns c = sym (all-stop (c .before .before .before .before .before .before .args .n) (cellOk (c .before .before .before .before .before .before .args .state .now) (c .before .before .before .before .before .before .args .round)) (c .before .before .before .loop .p) (c .before .before .loop-test .taken) (failed (c .before .cell-ok .ensures) (c .if1 .taken)))
 
--- src/wellformed.rt:269:9
 add-p : tie.Need-add-p Inv-loop μ-loop
 add-p c = search needs
 
--- src/wellformed.rt:265:5
 loop-less : tie.Need-loop-less Inv-loop μ-loop
 loop-less c = search needs
 
--- src/wellformed.rt:265:5
 loop-again : tie.Need-loop-again Inv-loop μ-loop
 loop-again c = (omega arith, c .before .before .before .loop .inv .1, all-more _ _ (c .before .before .before .loop .inv .2) (passed (c .before .cell-ok .ensures) (c .if1 .left)))
 
--- src/wellformed.rt:259:1
 returns-2 : tie.Need-returns-2 Inv-loop μ-loop
 returns-2 c = let e : c .before .loop .p ≡ c .before .before .before .before .args .n = omega arith in sym (rw e at (c .before .loop .inv .2))
 

@@ -1,3 +1,4 @@
+-- `masks-refused` and `masks-passed` of `Parents`.
 use mathlib.Core.Path.{_≡_, sym, ap, _∙_}
 use Prim.Native.Nat.{ℕ}
 use Rattle.record.specs.Questions.{termsOf}
@@ -9,42 +10,30 @@ use Rattle.replica.proofs.Parents.{masks-refused, masks-passed}
 use borrow.Author.Needs.{needs}
 use Rattle.replica.proofs.wellformed.record_ok.Statement.{statement}
 use Rattle.replica.proofs.wellformed.record_ok.Tie as tie
-use Rattle.replica.proofs.wellformed.record_ok.Reads as reads
-use Rattle.replica.proofs.wellformed.record_ok.Lts as lts
-use Rattle.record.proofs.questions.masks_admitted.Reads as masks-admitted-reads
-use Rattle.replica.proofs.wellformed.strong_held.Reads as strong-held-reads
-use Rattle.replica.proofs.wellformed.weak_ok.Reads as weak-ok-reads
 
--- src/wellformed.rt:232:9
 masks-admitted-requires : tie.Need-masks-admitted-requires
 masks-admitted-requires c κs = let e : c .before .before .args .terms .n ≡ memberCount (c .before .before .args .state .now) = ap (λ (t : Terms). t .n) (c .before .before .pre .1) in
     (c .before .before .pre .1 ∙ ap (λ (m : ℕ). termsOf m (c .before .before .args .round)) (sym e), c .before .before .pre .4, c .before .before .pre .5, c .before .before .pre .7)
 
--- src/wellformed.rt:233:9
 returns : tie.Need-returns
 returns c = let e : c .before .before .before .before .args .terms .n ≡ memberCount (c .before .before .before .before .args .state .now) = ap (λ (t : Terms). t .n) (c .before .before .before .before .pre .1) in
     sym (masks-refused (memberCount (c .before .before .before .before .args .state .now)) (c .before .before .before .before .args .round) (c .before .before .before .before .args .source) (c .before .before .before .before .args .state .now) (c .before .before .before .before .args .body .now) (c .before .before .before .before .pre .2) (c .before .before .before .before .pre .4) (c .before .before .before .before .pre .5) (c .before .before .before .before .pre .6) (c .before .before .before .before .pre .7) (rw e at (failed (c .before .masks-admitted .ensures) (c .if1 .taken))))
 
--- src/wellformed.rt:235:35
 shared-slice-read-strong-held : tie.Need-shared-slice-read-strong-held
 shared-slice-read-strong-held c = search needs
 
--- src/wellformed.rt:235:9
 strong-held-requires : tie.Need-strong-held-requires
 strong-held-requires c κs = search needs
 
--- src/wellformed.rt:236:9
 returns-2 : tie.Need-returns-2
 unfolding strongOf
 returns-2 c = let e : c .before .before .before .before .before .before .before .args .terms .n ≡ memberCount (c .before .before .before .before .before .before .before .args .state .now) = ap (λ (t : Terms). t .n) (c .before .before .before .before .before .before .before .pre .1) in
     sym (sym (masks-passed (memberCount (c .before .before .before .before .before .before .before .args .state .now)) (c .before .before .before .before .before .before .before .args .round) (c .before .before .before .before .before .before .before .args .source) (c .before .before .before .before .before .before .before .args .state .now) (c .before .before .before .before .before .before .before .args .body .now) (c .before .before .before .before .before .before .before .pre .2) (c .before .before .before .before .before .before .before .pre .4) (c .before .before .before .before .before .before .before .pre .5) (c .before .before .before .before .before .before .before .pre .6) (c .before .before .before .before .before .before .before .pre .7) (rw e at (passed (c .before .before .before .before .masks-admitted .ensures) (c .before .before .before .if1 .left)))) ∙ and-fails-left _ (failed (c .before .strong-held .ensures) (c .if2 .taken)))
 
--- src/wellformed.rt:238:5
 weak-ok-requires : tie.Need-weak-ok-requires
 weak-ok-requires c κs = let e : c .before .before .before .before .before .before .before .args .terms .n ≡ memberCount (c .before .before .before .before .before .before .before .args .state .now) = ap (λ (t : Terms). t .n) (c .before .before .before .before .before .before .before .pre .1) in
     (c .before .before .before .before .before .before .before .pre .0, e, rw e (c .before .before .before .before .before .before .before .pre .2), c .before .before .before .before .before .before .before .pre .3, c .before .before .before .before .before .before .before .pre .4, c .before .before .before .before .before .before .before .pre .5, c .before .before .before .before .before .before .before .pre .7)
 
--- src/wellformed.rt:228:1
 returns-3 : tie.Need-returns-3
 unfolding strongOf
 returns-3 c = let e : c .before .before .before .before .before .before .before .before .args .terms .n ≡ memberCount (c .before .before .before .before .before .before .before .before .args .state .now) = ap (λ (t : Terms). t .n) (c .before .before .before .before .before .before .before .before .pre .1) in

@@ -1,4 +1,5 @@
-use mathlib.Core.Path.{_≡_, sym, ap, _∙_}
+-- `round-empty` and `round-rest` of `Cells`.
+use mathlib.Core.Path.{sym, _∙_}
 use Prim.Native.Nat.{_+_, _*_, _-_}
 use native.Mathlib.Omega.{arith}
 use Rattle.record.proofs.Booleans.{passed, failed, and-fails-left}
@@ -11,96 +12,68 @@ use Rattle.replica.proofs.Words.{masks-small, round-elim}
 use borrow.Author.Needs.{needs}
 use Rattle.replica.proofs.wellformed.round_cells_ok.Statement.{statement}
 use Rattle.replica.proofs.wellformed.round_cells_ok.Tie as tie
-use Rattle.replica.proofs.wellformed.round_cells_ok.Reads as reads
-use Rattle.replica.proofs.wellformed.round_cells_ok.Lts as lts
-use Rattle.replica.proofs.layout.cell_at.Reads as cell-at-reads
-use Rattle.replica.proofs.layout.held_mask.Reads as held-mask-reads
-use Rattle.replica.proofs.layout.wide.Reads as wide-reads
-use Rattle.replica.proofs.wellformed.is_zero.Reads as is-zero-reads
-use Rattle.replica.proofs.wellformed.members_ok.Reads as members-ok-reads
 
--- src/wellformed.rt:279:13
 shared-slice-read-n : tie.Need-shared-slice-read-n
 shared-slice-read-n c = search needs
 
--- src/wellformed.rt:280:9
 cell-at-requires : tie.Need-cell-at-requires
 cell-at-requires c κs = search needs
 
--- src/wellformed.rt:281:15
 add-end : tie.Need-add-end
 add-end c = search needs
 
--- src/wellformed.rt:282:8
 held-mask-requires : tie.Need-held-mask-requires
 held-mask-requires c κs = search needs
 
--- src/wellformed.rt:283:24
 mul-is-zero : tie.Need-mul-is-zero
 mul-is-zero c = search needs
 
--- src/wellformed.rt:283:24
 sub-is-zero : tie.Need-sub-is-zero
 sub-is-zero c = search needs
 
--- src/wellformed.rt:283:24
 part-is-zero-start : tie.Need-part-is-zero-start
 part-is-zero-start c = search needs
 
--- src/wellformed.rt:283:24
 part-is-zero-end : tie.Need-part-is-zero-end
 part-is-zero-end c = search needs
 
--- src/wellformed.rt:283:9
 is-zero-requires : tie.Need-is-zero-requires
 is-zero-requires c κs = search needs
 
--- src/wellformed.rt:283:9
 returns : tie.Need-returns
 returns c = c .is-zero .ensures ∙ words-part (c .before .before .before .before .before .before .before .args .state .now) _ _ (cellAt (c .before .before .before .before .before .before .before .args .round) 0) 160 (c .before .before .before .before .cell-at .ensures) (omega (arith, c .before .before .before .before .cell-at .ensures)) (omega arith) ∙ round-empty (c .before .before .before .before .before .before .before .args .state .now) (c .before .before .before .before .before .before .before .args .round) (sym (c .before .before .before .held-mask .ensures) ∙ c .before .before .if1 .taken)
 
--- src/wellformed.rt:285:9
 members-ok-requires : tie.Need-members-ok-requires
 members-ok-requires c κs = search needs
 
--- src/wellformed.rt:286:9
 returns-2 : tie.Need-returns-2
 returns-2 c = let g = legal-range _ (c .before .before .before .before .before .before .before .pre .1) in
     sym (sym (round-rest (c .before .before .before .before .before .before .before .args .state .now) (c .before .before .before .before .before .before .before .args .round) (memberCount (c .before .before .before .before .before .before .before .args .state .now)) (g .high) (masks-small (c .before .before .before .before .before .before .before .args .state .now) (c .before .before .before .before .before .before .before .args .round) (round-elim (masksWithin (c .before .before .before .before .before .before .before .args .state .now)) (c .before .before .before .before .before .before .before .pre .2) (c .before .before .before .before .before .before .before .args .round) (c .before .before .before .before .before .before .before .pre .3) (c .before .before .before .before .before .before .before .pre .4)) .held)) ∙ and-fails-left _ (failed (c .before .members-ok .ensures) (c .if2 .taken)))
 
--- src/wellformed.rt:288:36
 wide-requires : tie.Need-wide-requires
 wide-requires c κs = search needs
 
--- src/wellformed.rt:288:24
 mul-rest : tie.Need-mul-rest
 mul-rest c = let g = legal-range _ (c .before .before .before .before .before .before .before .before .pre .1) in omega (arith, g .high, c .wide .ensures)
 
--- src/wellformed.rt:288:16
 add-rest : tie.Need-add-rest
 add-rest c = let g = legal-range _ (c .before .before .before .before .before .before .before .before .pre .1) in omega (arith, g .high, c .wide .ensures, c .before .before .before .before .before .cell-at .ensures)
 
--- src/wellformed.rt:289:13
 mul-is-zero-2 : tie.Need-mul-is-zero-2
 mul-is-zero-2 c = let g = legal-range _ (c .before .before .before .before .before .before .before .before .pre .1) in omega (arith, g .high, c .wide .ensures, c .before .before .before .before .before .cell-at .ensures)
 
--- src/wellformed.rt:289:13
 sub-is-zero-2 : tie.Need-sub-is-zero-2
 sub-is-zero-2 c = let g = legal-range _ (c .before .before .before .before .before .before .before .before .pre .1) in omega (arith, g .high, c .wide .ensures, c .before .before .before .before .before .cell-at .ensures)
 
--- src/wellformed.rt:289:13
 part-is-zero-start-2 : tie.Need-part-is-zero-start-2
 part-is-zero-start-2 c = let g = legal-range _ (c .before .before .before .before .before .before .before .before .pre .1) in omega (arith, g .high, c .wide .ensures, c .before .before .before .before .before .cell-at .ensures)
 
--- src/wellformed.rt:289:13
 part-is-zero-end-2 : tie.Need-part-is-zero-end-2
 part-is-zero-end-2 c = search needs
 
--- src/wellformed.rt:289:5
 is-zero-requires-2 : tie.Need-is-zero-requires-2
 is-zero-requires-2 c κs = search needs
 
--- src/wellformed.rt:275:1
 returns-3 : tie.Need-returns-3
 returns-3 c = let g = legal-range _ (c .before .before .before .before .before .before .before .before .before .before .pre .1) in
     c .is-zero2 .ensures ∙ words-part (c .before .before .before .before .before .before .before .before .before .before .args .state .now) (c .before .before .before .before .before .before .before .cell-at .result + 10 * c .before .before .wide .result) (c .before .before .before .before .before .before .before .cell-at .result + 160) (cellAt (c .before .before .before .before .before .before .before .before .before .before .args .round) (memberCount (c .before .before .before .before .before .before .before .before .before .before .args .state .now))) (10 * (16 - memberCount (c .before .before .before .before .before .before .before .before .before .before .args .state .now))) (omega (arith, c .before .before .before .before .before .before .before .cell-at .ensures, c .before .before .wide .ensures)) (omega (arith, g .high, c .before .before .before .before .before .before .before .cell-at .ensures)) (omega (arith, g .high))

@@ -1,41 +1,30 @@
-use mathlib.Core.Path.{sym, ap, _∙_}
-use native.Mathlib.Omega.{arith}
+-- `weak-beyond` and `weak-held` of `Weak`.
+use mathlib.Core.Path.{sym, _∙_}
 use borrow.Author.Tests.{le-ltb}
 use Rattle.record.proofs.Booleans.{and-fails-left}
 use Rattle.replica.proofs.Weak.{weak-beyond, weak-held}
 use borrow.Author.Needs.{needs}
 use Rattle.replica.proofs.wellformed.weak_id_ok.Statement.{statement}
 use Rattle.replica.proofs.wellformed.weak_id_ok.Tie as tie
-use Rattle.replica.proofs.wellformed.weak_id_ok.Reads as reads
-use Rattle.replica.proofs.wellformed.weak_id_ok.Lts as lts
-use Rattle.record.proofs.members.Members.has.Reads as has-reads
-use Rattle.replica.proofs.layout.held_mask.Reads as held-mask-reads
 
--- src/wellformed.rt:167:9
 returns : tie.Need-returns
 returns c = sym (and-fails-left _ (le-ltb _ _ (c .if1 .taken)))
 
--- src/wellformed.rt:169:14
 sub-if2 : tie.Need-sub-if2
 sub-if2 c = search needs
 
--- src/wellformed.rt:169:8
 mul-if2 : tie.Need-mul-if2
 mul-if2 c = search needs
 
--- src/wellformed.rt:170:9
 returns-2 : tie.Need-returns-2
 returns-2 c = sym (weak-beyond (c .before .before .before .args .state .now) (c .before .before .before .args .n) (c .before .before .before .args .round) (c .before .before .before .args .last) (c .before .before .before .args .x) (c .before .before .before .pre .3) (c .if2 .taken))
 
--- src/wellformed.rt:173:15
 held-mask-requires : tie.Need-held-mask-requires
 held-mask-requires c κs = search needs
 
--- src/wellformed.rt:176:5
 has-requires : tie.Need-has-requires
 has-requires c κs = search needs
 
--- src/wellformed.rt:162:1
 returns-3 : tie.Need-returns-3
 returns-3 c = rw (c .before .held-mask .ensures) at (c .has .ensures) ∙ weak-held (c .before .before .before .before .before .args .state .now) (c .before .before .before .before .before .args .n) (c .before .before .before .before .before .args .round) (c .before .before .before .before .before .args .last) (c .before .before .before .before .before .args .x) (c .before .before .before .before .before .pre .1) (c .before .before .before .before .before .pre .2) (c .before .before .before .before .before .pre .4) (c .before .before .before .before .before .pre .5) (c .before .before .before .if1 .left) (c .before .before .if2 .left)
 

@@ -1,9 +1,10 @@
+-- Invariant: the first i weak ids pass, and the last one is that of the slot before, 15 at first; `weak-slot` of `Weak`.
 use lib.ListN.{getD}
 use Rattle.replica.proofs.Weak.{weak-slot, weak-above}
 use borrow.Author.Needs.{needs}
 use mathlib.Core.Path.{_≡_, refl, sym, ap, _∙_}
 use mathlib.Core.Bool.{true, _&&_}
-use Prim.Native.Nat.{ℕ, _+_, _-_, _≤_}
+use Prim.Native.Nat.{_+_, _-_, _≤_}
 use native.Mathlib.Omega.{arith}
 use Rattle.record.specs.Below.{all}
 use Rattle.record.specs.Layout.{weakOf}
@@ -13,9 +14,6 @@ use Rattle.record.proofs.Below.{all-none, all-more, all-stop}
 use Rattle.replica.specs.State.{heldId}
 use Rattle.replica.proofs.wellformed.weak_ids_ok.Statement.{statement}
 use Rattle.replica.proofs.wellformed.weak_ids_ok.Tie as tie
-use Rattle.replica.proofs.wellformed.weak_ids_ok.Reads as reads
-use Rattle.replica.proofs.wellformed.weak_ids_ok.Lts as lts
-use Rattle.replica.proofs.wellformed.weak_id_ok.Reads as weak-id-ok-reads
 
 abbrev Inv-loop : tie.InvT-loop
 Inv-loop state n round body count last₀ i₀ last i = (i ≤ count) × (15 ≤ last) × (i ≡ 0 → last ≡ 15) × (1 ≤ i → last ≡ weakOf body (i - 1)) × (all i (λ k. (rises body k && weakIdOk n round (weakOf body k)) && heldId state (weakOf body k)) ≡ true)
@@ -23,40 +21,31 @@ Inv-loop state n round body count last₀ i₀ last i = (i ≤ count) × (15 ≤
 abbrev μ-loop : tie.MeasureT-loop
 μ-loop state n round body count last₀ i₀ last i = count - i
 
--- src/wellformed.rt:186:5
 loop-holds : tie.Need-loop-holds Inv-loop μ-loop
 loop-holds c = (omega arith, omega arith, λ _. refl, λ h. absurd (omega arith), all-none _)
 
--- src/wellformed.rt:187:22
 add-x : tie.Need-add-x Inv-loop μ-loop
 add-x c = search needs
 
--- src/wellformed.rt:187:17
 mul-x : tie.Need-mul-x Inv-loop μ-loop
 mul-x c = search needs
 
--- src/wellformed.rt:187:17
 shared-slice-read-x : tie.Need-shared-slice-read-x Inv-loop μ-loop
 shared-slice-read-x c = search needs
 
--- src/wellformed.rt:188:13
 weak-id-ok-requires : tie.Need-weak-id-ok-requires Inv-loop μ-loop
 weak-id-ok-requires c κs = (c .before .before .before .before .before .pre .0, c .before .before .before .before .before .pre .1, c .before .before .before .before .before .pre .2, c .before .before .before .before .before .pre .3, c .before .before .before .before .before .pre .4, c .before .before .loop .inv .1)
 
--- src/wellformed.rt:189:13
 returns : tie.Need-returns Inv-loop μ-loop
 unfolding weakOf
 returns c = sym (all-stop _ _ (c .before .before .before .before .loop .i) (c .before .before .before .loop-test .taken) (sym (weak-slot (c .before .before .before .before .before .before .before .args .state .now) (c .before .before .before .before .before .before .before .args .n) (c .before .before .before .before .before .before .before .args .round) (c .before .before .before .before .before .before .before .args .body .now) (c .before .before .before .before .loop .i) (c .before .before .before .before .loop .last) _ refl (c .before .before .before .before .loop .inv .2) (c .before .before .before .before .loop .inv .3)) ∙ failed (c .before .weak-id-ok .ensures) (c .if1 .taken)))
 
--- src/wellformed.rt:192:9
 add-i : tie.Need-add-i Inv-loop μ-loop
 add-i c = search needs
 
--- src/wellformed.rt:186:5
 loop-less : tie.Need-loop-less Inv-loop μ-loop
 loop-less c = search needs
 
--- src/wellformed.rt:186:5
 loop-again : tie.Need-loop-again Inv-loop μ-loop
 unfolding weakOf
 loop-again c = let y = passed (c .before .weak-id-ok .ensures) (c .if1 .left) in
@@ -68,7 +57,6 @@ loop-again c = let y = passed (c .before .weak-id-ok .ensures) (c .if1 .left) in
       all-more _ _ (c .before .before .before .before .loop .inv .4) (sym (weak-slot (c .before .before .before .before .before .before .before .args .state .now) (c .before .before .before .before .before .before .before .args .n) (c .before .before .before .before .before .before .before .args .round) (c .before .before .before .before .before .before .before .args .body .now) (c .before .before .before .before .loop .i) (c .before .before .before .before .loop .last) _ refl (c .before .before .before .before .loop .inv .2) (c .before .before .before .before .loop .inv .3)) ∙ y),
     )
 
--- src/wellformed.rt:180:1
 returns-2 : tie.Need-returns-2 Inv-loop μ-loop
 returns-2 c = let e : c .before .loop .i ≡ c .before .before .before .before .args .count = omega arith in sym (rw e at (c .before .loop .inv .4))
 

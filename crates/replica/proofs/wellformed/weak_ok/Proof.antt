@@ -1,4 +1,5 @@
-use mathlib.Core.Path.{_≡_, sym, ap, _∙_}
+-- `weak-all` of `Weak`; a legal group has at most five weak ids.
+use mathlib.Core.Path.{sym, _∙_}
 use native.Mathlib.Omega.{arith}
 use Prim.Native.Nat.{_≤_}
 use Rattle.record.specs.Members.{faulty}
@@ -10,51 +11,36 @@ use Rattle.replica.proofs.Weak.{weak-all}
 use borrow.Author.Needs.{needs}
 use Rattle.replica.proofs.wellformed.weak_ok.Statement.{statement}
 use Rattle.replica.proofs.wellformed.weak_ok.Tie as tie
-use Rattle.replica.proofs.wellformed.weak_ok.Reads as reads
-use Rattle.replica.proofs.wellformed.weak_ok.Lts as lts
-use Rattle.record.proofs.members.faulty_of.Reads as faulty-of-reads
-use Rattle.replica.proofs.layout.wide.Reads as wide-reads
-use Rattle.replica.proofs.wellformed.unused_zero.Reads as unused-zero-reads
-use Rattle.replica.proofs.wellformed.weak_ids_ok.Reads as weak-ids-ok-reads
 
--- src/wellformed.rt:217:8
 faulty-of-requires : tie.Need-faulty-of-requires
 faulty-of-requires c κs = search needs
 
--- src/wellformed.rt:217:23
 shared-slice-read-if1 : tie.Need-shared-slice-read-if1
 shared-slice-read-if1 c = search needs
 
--- src/wellformed.rt:218:9
 returns : tie.Need-returns
 unfolding weakCountOf
 returns c = sym (and-fails-left _ (weak-many (c .before .before .before .before .before .args .n) (c .before .before .before .before .before .args .round) (c .before .before .before .before .before .args .body .now) (rw (c .before .before .faulty-of .ensures) at (c .if1 .taken))))
 
--- src/wellformed.rt:220:22
 shared-slice-read-wide : tie.Need-shared-slice-read-wide
 shared-slice-read-wide c = search needs
 
--- src/wellformed.rt:220:9
 wide-requires : tie.Need-wide-requires
 wide-requires c κs = search needs
 
--- src/wellformed.rt:221:9
 weak-ids-ok-requires : tie.Need-weak-ids-ok-requires
 unfolding weakCountOf
 weak-ids-ok-requires c κs = let g = legal-range _ (c .before .before .before .before .before .before .before .pre .2) in (c .before .before .before .before .before .before .before .pre .0, c .before .before .before .before .before .before .before .pre .1, c .before .before .before .before .before .before .before .pre .3, c .before .before .before .before .before .before .before .pre .4, c .before .before .before .before .before .before .before .pre .5, c .before .before .before .before .before .before .before .pre .6, omega (arith, c .wide .ensures, c .before .before .before .before .faulty-of .ensures, c .before .before .if1 .left))
 
--- src/wellformed.rt:222:9
 returns-2 : tie.Need-returns-2
 unfolding weakCountOf
 returns-2 c = let g = legal-range _ (c .before .before .before .before .before .before .before .before .before .pre .2) in
     let few : weakCountOf (c .before .before .before .before .before .before .before .before .before .args .body .now) ≤ faulty (c .before .before .before .before .before .before .before .before .before .args .n) = omega (arith, c .before .before .before .before .before .before .faulty-of .ensures, c .before .before .before .before .if1 .left) in
     sym (sym (weak-all (c .before .before .before .before .before .before .before .before .before .args .state .now) (c .before .before .before .before .before .before .before .before .before .args .n) (c .before .before .before .before .before .before .before .before .before .args .round) (c .before .before .before .before .before .before .before .before .before .args .body .now) (omega arith) few) ∙ and-fails-left _ (rw (c .before .before .wide .ensures) at (failed (c .before .weak-ids-ok .ensures) (c .if2 .taken))))
 
--- src/wellformed.rt:224:5
 unused-zero-requires : tie.Need-unused-zero-requires
 unused-zero-requires c κs = let g = legal-range _ (c .before .before .before .before .before .before .before .before .before .pre .2) in (c .before .before .before .before .before .before .before .before .before .pre .6, omega (arith, c .before .before .wide .ensures, c .before .before .before .before .before .before .faulty-of .ensures, c .before .before .before .before .if1 .left))
 
--- src/wellformed.rt:213:1
 returns-3 : tie.Need-returns-3
 unfolding weakCountOf
 returns-3 c = let g = legal-range _ (c .before .before .before .before .before .before .before .before .before .before .pre .2) in

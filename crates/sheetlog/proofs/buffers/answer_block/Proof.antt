@@ -18,47 +18,36 @@ Inv-loop input line₀ kept out₀ state₀ fill₀ i₀ line out state fill i =
 abbrev μ-loop : tie.MeasureT-loop
 μ-loop input line₀ kept out₀ state₀ fill₀ i₀ line out state fill i = length input - i
 
--- src/buffers.rt:92:5
 loop-holds : tie.Need-loop-holds Inv-loop μ-loop
 loop-holds c = (search needs, search needs, search needs, search needs, search needs, search needs, follows-none _ _ _)
 
--- src/buffers.rt:93:30
 shared-slice-read-take-byte : tie.Need-shared-slice-read-take-byte Inv-loop μ-loop
 shared-slice-read-take-byte c = search needs
 
--- src/buffers.rt:93:13
 take-byte-requires : tie.Need-take-byte-requires Inv-loop μ-loop
 take-byte-requires c κs = search needs
 
--- src/buffers.rt:95:9
 add-i : tie.Need-add-i Inv-loop μ-loop
 add-i c = search needs
 
--- src/buffers.rt:92:5
 loop-less : tie.Need-loop-less Inv-loop μ-loop
 loop-less c = search needs
 
--- src/buffers.rt:92:5
 loop-again : tie.Need-loop-again Inv-loop μ-loop
 loop-again c = (search needs, search needs, search needs, search needs, search needs, search needs, follows-turn _ _ (c .before .before .before .before .before .before .before .before .before .before .before .loop-test .taken) (c .before .before .before .before .before .before .before .before .before .before .before .before .loop .inv .6) (c .before .before .before .before .before .before .take-byte .ensures .2))
 
--- src/buffers.rt:97:5
 flush-requires : tie.Need-flush-requires Inv-loop μ-loop
 flush-requires c κs = search needs
 
--- src/buffers.rt:86:1
 same-length : tie.Need-same-length Inv-loop μ-loop
 same-length c = search needs
 
--- src/buffers.rt:86:1
 same-length-2 : tie.Need-same-length-2 Inv-loop μ-loop
 same-length-2 c = search needs
 
--- src/buffers.rt:86:1
 same-length-3 : tie.Need-same-length-3 Inv-loop μ-loop
 same-length-3 c = search needs
 
--- src/buffers.rt:86:1
 returns : tie.Need-returns Inv-loop μ-loop
 returns c = (search needs, follows-all _ _ (c .before .before .loop-test .left) (c .before .before .before .loop .inv .6))
 

@@ -7,15 +7,12 @@ use Rattle.sheetlog.proofs.buffers.flush.Reads as reads
 use Rattle.sheetlog.proofs.buffers.flush.Lts as lts
 use Rattle.io.proofs.write_all.Reads as write-all-reads
 
--- src/buffers.rt:25:34
 slice-aggregate-write-all : tie.Need-slice-aggregate-write-all
 slice-aggregate-write-all c = sym (length-take-le _ _ (c .before .before .pre))
 
--- src/buffers.rt:25:5
 write-all-requires : tie.Need-write-all-requires
 write-all-requires c κs = search needs
 
--- src/buffers.rt:22:1
 returns : tie.Need-returns
 returns c = search needs
 

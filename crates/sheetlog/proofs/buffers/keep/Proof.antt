@@ -5,23 +5,18 @@ use Rattle.sheetlog.proofs.buffers.keep.Tie as tie
 use Rattle.sheetlog.proofs.buffers.keep.Reads as reads
 use Rattle.sheetlog.proofs.buffers.keep.Lts as lts
 
--- src/buffers.rt:39:9
 slice-write-line : tie.Need-slice-write-line
 slice-write-line c = search needs
 
--- src/buffers.rt:40:16
 add-result : tie.Need-add-result
 add-result c = search needs
 
--- src/buffers.rt:40:9
 same-length : tie.Need-same-length
 same-length c = search needs
 
--- src/buffers.rt:40:9
 returns : tie.Need-returns
 returns c = (search needs, λ whole k. keeps-more whole _ (c .before .pre .0) (c .if1 .taken) k)
 
--- src/buffers.rt:34:1
 returns-2 : tie.Need-returns-2
 returns-2 c = (search needs, λ whole k. keeps-full whole _ (c .before .pre .0) (c .if1 .left) k)
 

@@ -9,43 +9,33 @@ use Rattle.sheetlog.proofs.buffers.take_byte.Lts as lts
 use Rattle.sheetlog.proofs.buffers.answer_kept.Reads as answer-kept-reads
 use Rattle.sheetlog.proofs.buffers.keep.Reads as keep-reads
 
--- src/buffers.rt:76:33
 slice-reshare-prefix-answer-kept : tie.Need-slice-reshare-prefix-answer-kept
 slice-reshare-prefix-answer-kept c = search needs
 
--- src/buffers.rt:76:33
 slice-aggregate-answer-kept : tie.Need-slice-aggregate-answer-kept
 slice-aggregate-answer-kept c = sym (length-take-le _ _ (c .before .before .before .before .before .pre .1))
 
--- src/buffers.rt:76:21
 answer-kept-requires : tie.Need-answer-kept-requires
 answer-kept-requires c κs = search needs
 
--- src/buffers.rt:74:9
 same-length : tie.Need-same-length
 same-length c = search needs
 
--- src/buffers.rt:74:9
 same-length-2 : tie.Need-same-length-2
 same-length-2 c = search needs
 
--- src/buffers.rt:74:9
 same-length-3 : tie.Need-same-length-3
 same-length-3 c = search needs
 
--- src/buffers.rt:74:9
 returns : tie.Need-returns
 returns c = (search needs, search needs, byte-ends _ (c .before .before .before .before .before .before .before .before .if1 .taken) (c .before .before .before .before .answer-kept .ensures .1))
 
--- src/buffers.rt:80:15
 keep-requires : tie.Need-keep-requires
 keep-requires c κs = search needs
 
--- src/buffers.rt:67:1
 same-length-4 : tie.Need-same-length-4
 same-length-4 c = search needs
 
--- src/buffers.rt:67:1
 returns-2 : tie.Need-returns-2
 returns-2 c = (search needs, search needs, byte-joins _ (c .before .before .before .before .if1 .left) (c .before .before .keep .ensures .1))
 

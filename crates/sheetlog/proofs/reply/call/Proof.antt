@@ -15,115 +15,87 @@ use Rattle.ordering.proofs.calls.take_vertex.Reads as take-vertex-reads
 use Rattle.replica.proofs.answer.refuse.Reads as refuse-reads
 use Rattle.replica.proofs.lists.open.Reads as open-reads
 
--- src/reply.rt:41:31
 enum-told : tie.Need-enum-told
 enum-told c = search needs
 
--- src/reply.rt:41:24
 refuse-requires : tie.Need-refuse-requires
 refuse-requires c κs = search needs
 
--- src/reply.rt:42:28
 enum-told-2 : tie.Need-enum-told-2
 enum-told-2 c = search needs
 
--- src/reply.rt:42:35
 element-copy-out-open : tie.Need-element-copy-out-open
 element-copy-out-open c = search needs
 
--- src/reply.rt:42:23
 open-requires : tie.Need-open-requires
 open-requires c κs = search needs
 
--- src/reply.rt:43:37
 enum-told-3 : tie.Need-enum-told-3
 enum-told-3 c = search needs
 
--- src/reply.rt:43:25
 take-vertex-requires : tie.Need-take-vertex-requires
 take-vertex-requires c κs = search needs
 
--- src/reply.rt:44:43
 enum-told-4 : tie.Need-enum-told-4
 enum-told-4 c = search needs
 
--- src/reply.rt:44:24
 take-first-message-requires : tie.Need-take-first-message-requires
 take-first-message-requires c κs = search needs
 
--- src/reply.rt:45:39
 enum-told-5 : tie.Need-enum-told-5
 enum-told-5 c = search needs
 
--- src/reply.rt:45:46
 element-copy-out-take-timeout : tie.Need-element-copy-out-take-timeout
 element-copy-out-take-timeout c = search needs
 
--- src/reply.rt:45:56
 element-copy-out-take-timeout-2 : tie.Need-element-copy-out-take-timeout-2
 element-copy-out-take-timeout-2 c = search needs
 
--- src/reply.rt:45:26
 take-timeout-requires : tie.Need-take-timeout-requires
 take-timeout-requires c κs = search needs
 
--- src/reply.rt:46:38
 enum-told-6 : tie.Need-enum-told-6
 enum-told-6 c = search needs
 
--- src/reply.rt:46:45
 element-copy-out-take-no-vote : tie.Need-element-copy-out-take-no-vote
 element-copy-out-take-no-vote c = search needs
 
--- src/reply.rt:46:55
 element-copy-out-take-no-vote-2 : tie.Need-element-copy-out-take-no-vote-2
 element-copy-out-take-no-vote-2 c = search needs
 
--- src/reply.rt:46:25
 take-no-vote-requires : tie.Need-take-no-vote-requires
 take-no-vote-requires c κs = search needs
 
--- src/reply.rt:37:1
 returns : tie.Need-returns
 returns c = ap (λ (a : Answer). told a (c .before .before .before .before .args .state .now)) (c .refuse .ensures) ∙ sym (ap (λ (k : Kind). callFor k (c .before .before .before .before .args .words .now) (c .before .before .before .before .args .state .now)) (c .before .enum-told .given .1))
 
--- src/reply.rt:37:1
 same-length : tie.Need-same-length
 same-length c = search needs
 
--- src/reply.rt:37:1
 returns-2 : tie.Need-returns-2
 returns-2 c = c .before .before .«open» .ensures ∙ sym (ap (λ (k : Kind). callFor k (c .before .before .before .before .before .before .before .before .args .words .now) (c .before .before .before .before .before .before .before .before .args .state .now)) (c .before .before .before .before .before .enum-told2 .given .1))
 
--- src/reply.rt:37:1
 same-length-2 : tie.Need-same-length-2
 same-length-2 c = search needs
 
--- src/reply.rt:37:1
 returns-3 : tie.Need-returns-3
 returns-3 c = c .before .before .take-vertex .ensures ∙ sym (ap (λ (k : Kind). callFor k (c .before .before .before .before .before .before .before .before .args .words .now) (c .before .before .before .before .before .before .before .before .args .state .now)) (c .before .before .before .before .before .enum-told3 .given .1))
 
--- src/reply.rt:37:1
 same-length-3 : tie.Need-same-length-3
 same-length-3 c = search needs
 
--- src/reply.rt:37:1
 returns-4 : tie.Need-returns-4
 returns-4 c = c .before .before .take-first-message .ensures ∙ sym (ap (λ (k : Kind). callFor k (c .before .before .before .before .before .before .before .before .args .words .now) (c .before .before .before .before .before .before .before .before .args .state .now)) (c .before .before .before .before .before .enum-told4 .given .1))
 
--- src/reply.rt:37:1
 same-length-4 : tie.Need-same-length-4
 same-length-4 c = search needs
 
--- src/reply.rt:37:1
 returns-5 : tie.Need-returns-5
 returns-5 c = c .before .before .take-timeout .ensures ∙ sym (ap (λ (k : Kind). callFor k (c .before .before .before .before .before .before .before .before .before .args .words .now) (c .before .before .before .before .before .before .before .before .before .args .state .now)) (c .before .before .before .before .before .before .enum-told5 .given .1))
 
--- src/reply.rt:37:1
 same-length-5 : tie.Need-same-length-5
 same-length-5 c = search needs
 
--- src/reply.rt:37:1
 returns-6 : tie.Need-returns-6
 returns-6 c = c .before .before .take-no-vote .ensures ∙ sym (ap (λ (k : Kind). callFor k (c .before .before .before .before .before .before .before .before .before .args .words .now) (c .before .before .before .before .before .before .before .before .before .args .state .now)) (c .before .before .before .before .before .before .enum-told6 .given .1))
 

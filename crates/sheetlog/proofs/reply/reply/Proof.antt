@@ -13,43 +13,33 @@ use Rattle.transcript.proofs.command.parse.Reads as parse-reads
 use Rattle.transcript.proofs.text.answer_line.Reads as answer-line-reads
 use Rattle.transcript.proofs.text.other_line.Reads as other-line-reads
 
--- src/reply.rt:54:9
 parse-requires : tie.Need-parse-requires
 parse-requires c κs = search needs
 
--- src/reply.rt:56:8
 is-other-requires : tie.Need-is-other-requires
 is-other-requires c κs = search needs
 
--- src/reply.rt:57:9
 other-line-requires : tie.Need-other-line-requires
 other-line-requires c κs = search needs
 
--- src/reply.rt:57:9
 returns : tie.Need-returns
 returns c = other-reply _ _ _ (c .before .before .before .parse .ensures) (sym (c .before .before .is-other .ensures) ∙ c .before .if1 .taken) (c .other-line .ensures)
 
--- src/reply.rt:60:9
 call-requires : tie.Need-call-requires
 call-requires c κs = search needs
 
--- src/reply.rt:62:9
 status-requires : tie.Need-status-requires
 status-requires c κs = search needs
 
--- src/reply.rt:63:17
 number-requires : tie.Need-number-requires
 number-requires c κs = search needs
 
--- src/reply.rt:63:5
 answer-line-requires : tie.Need-answer-line-requires
 answer-line-requires c κs = search needs
 
--- src/reply.rt:51:1
 same-length : tie.Need-same-length
 same-length c = search needs
 
--- src/reply.rt:51:1
 returns-2 : tie.Need-returns-2
 returns-2 c = call-reply _ _ _ _ (c .before .before .before .before .before .before .call .result) (c .before .before .status .result) _ (c .before .before .before .before .before .before .before .before .before .before .before .before .parse .ensures) (sym (c .before .before .before .before .before .before .before .before .before .before .before .is-other .ensures) ∙ c .before .before .before .before .before .before .before .before .before .before .if1 .left) (c .before .before .before .before .before .before .call .ensures) (c .before .number .ensures) (c .before .before .status .ensures) (c .answer-line .ensures)
 

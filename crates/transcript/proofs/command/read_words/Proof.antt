@@ -20,84 +20,64 @@ Inv-loop line count words₀ at₀ i₀ words at i = (i ≤ count) × (count ≤
 abbrev μ-loop : tie.MeasureT-loop
 μ-loop line count words₀ at₀ i₀ words at i = count - i
 
--- src/command.rt:86:5
 loop-holds : tie.Need-loop-holds Inv-loop μ-loop
 loop-holds c = (omega arith, omega arith, omega arith, words-all _ _, values-all _ _)
 
--- src/command.rt:88:13
 no-words-requires : tie.Need-no-words-requires Inv-loop μ-loop
 no-words-requires c κs = search needs
 
--- src/command.rt:88:13
 returns : tie.Need-returns Inv-loop μ-loop
 returns c = c .no-words .ensures ∙ scan-no _ _ (c .before .before .before .loop .inv .3 ∙ words-short _ _ (c .before .before .before .before .before .args .count - (c .before .before .before .loop .i + 1)) _ (omega arith) (c .before .if1 .taken))
 
--- src/command.rt:90:12
 shared-slice-read-if2 : tie.Need-shared-slice-read-if2 Inv-loop μ-loop
 shared-slice-read-if2 c = search needs
 
--- src/command.rt:91:13
 no-words-requires-2 : tie.Need-no-words-requires-2 Inv-loop μ-loop
 no-words-requires-2 c κs = search needs
 
--- src/command.rt:91:13
 returns-2 : tie.Need-returns-2 Inv-loop μ-loop
 returns-2 c = c .no-words2 .ensures ∙ scan-no _ _ (c .before .before .before .before .before .loop .inv .3 ∙ words-apart _ _ (c .before .before .before .before .before .before .before .args .count - (c .before .before .before .before .before .loop .i + 1)) _ (omega arith) (c .before .before .before .if1 .left) (c .before .if2 .taken))
 
--- src/command.rt:93:21
 add-start : tie.Need-add-start Inv-loop μ-loop
 add-start c = search needs
 
--- src/command.rt:94:13
 word-end-requires : tie.Need-word-end-requires Inv-loop μ-loop
 word-end-requires c κs = search needs
 
--- src/command.rt:95:29
 sub-numeral : tie.Need-sub-numeral Inv-loop μ-loop
 sub-numeral c = omega arith
 
--- src/command.rt:95:29
 part-numeral-start : tie.Need-part-numeral-start Inv-loop μ-loop
 part-numeral-start c = search needs
 
--- src/command.rt:95:29
 part-numeral-end : tie.Need-part-numeral-end Inv-loop μ-loop
 part-numeral-end c = omega (arith, word-short (drop (c .before .before .before .before .before .loop .at + 1) (c .before .before .before .before .before .before .before .args .line .now)), length-drop (c .before .before .before .before .before .loop .at + 1) (c .before .before .before .before .before .before .before .args .line .now))
 
--- src/command.rt:95:13
 numeral-requires : tie.Need-numeral-requires Inv-loop μ-loop
 numeral-requires c κs = search needs
 
--- src/command.rt:97:13
 no-words-requires-3 : tie.Need-no-words-requires-3 Inv-loop μ-loop
 no-words-requires-3 c κs = search needs
 
--- src/command.rt:97:13
 returns-3 : tie.Need-returns-3 Inv-loop μ-loop
 returns-3 c = let e : c .before .before .numeral .result ≡ numeralValue (upToSpace (drop (c .before .before .before .before .before .before .before .before .before .loop .at + 1) (c .before .before .before .before .before .before .before .before .before .before .before .args .line .now))) = c .before .before .numeral .ensures ∙ ap numeralValue (part-word _ _ _ (c .before .before .before .before .word-end .ensures)) in
     c .no-words3 .ensures ∙ scan-no _ _ (c .before .before .before .before .before .before .before .before .before .loop .inv .3 ∙ words-bad _ _ (c .before .before .before .before .before .before .before .before .before .before .before .args .count - (c .before .before .before .before .before .before .before .before .before .loop .i + 1)) _ (omega arith) (c .before .before .before .before .before .before .before .if1 .left) (omega arith))
 
--- src/command.rt:99:20
 cast-words : tie.Need-cast-words Inv-loop μ-loop
 cast-words c = search needs
 
--- src/command.rt:99:9
 mul-words : tie.Need-mul-words Inv-loop μ-loop
 mul-words c = search needs
 
--- src/command.rt:99:9
 array-write-words : tie.Need-array-write-words Inv-loop μ-loop
 array-write-words c = search needs
 
--- src/command.rt:101:9
 add-i : tie.Need-add-i Inv-loop μ-loop
 add-i c = search needs
 
--- src/command.rt:86:5
 loop-less : tie.Need-loop-less Inv-loop μ-loop
 loop-less c = search needs
 
--- src/command.rt:86:5
 loop-again : tie.Need-loop-again Inv-loop μ-loop
 loop-again c = let e : c .before .numeral .result ≡ numeralValue (upToSpace (drop (c .before .before .before .before .before .before .before .before .loop .at + 1) (c .before .before .before .before .before .before .before .before .before .before .args .line .now))) = c .before .numeral .ensures ∙ ap numeralValue (part-word _ _ _ (c .before .before .before .word-end .ensures)) in
     let p : c .before .before .before .before .before .before .before .before .before .before .args .count - c .before .before .before .before .before .before .before .before .loop .i ≡ suc (c .before .before .before .before .before .before .before .before .before .before .args .count - (c .before .before .before .before .before .before .before .before .loop .i + 1)) = omega arith in (
@@ -108,15 +88,12 @@ loop-again c = let e : c .before .numeral .result ≡ numeralValue (upToSpace (d
       placed-turn _ _ _ _ _ _ (c .before .before .before .before .before .before .before .before .loop .inv .4) (values-next _ _ _ _ p (c .before .before .before .before .before .before .if1 .left) _ _ (c .before .before .before .word-end .ensures) e (c .if3 .left)),
     )
 
--- src/command.rt:104:9
 no-words-requires-4 : tie.Need-no-words-requires-4 Inv-loop μ-loop
 no-words-requires-4 c κs = search needs
 
--- src/command.rt:104:9
 returns-4 : tie.Need-returns-4 Inv-loop μ-loop
 returns-4 c = c .no-words4 .ensures ∙ scan-no _ _ (c .before .before .before .loop .inv .3 ∙ words-more _ _ _ (omega arith) (c .before .before .before .loop .inv .2) (c .before .if4 .taken))
 
--- src/command.rt:79:1
 returns-5 : tie.Need-returns-5 Inv-loop μ-loop
 returns-5 c = let z : c .before .before .before .before .args .count - c .before .before .loop .i ≡ 0 = omega arith in
     scan-yes _ _ _ (c .before .before .loop .inv .3 ∙ words-end _ _ _ z (c .if4 .left)) (c .before .before .loop .inv .4 ∙ ap (sets (c .before .before .loop .words) (c .before .before .loop .i)) (values-end _ _ z))

@@ -5,12 +5,10 @@ use Rattle.transcript.proofs.numeral.is_digit.Tie as tie
 use Rattle.transcript.proofs.numeral.is_digit.Reads as reads
 use Rattle.transcript.proofs.numeral.is_digit.Lts as lts
 
--- src/numeral.rt:20:9
 returns : tie.Need-returns
 unfolding isDigit
 returns c = simp (lt-leb 48 _ (c .if1 .taken))
 
--- src/numeral.rt:16:1
 returns-2 : tie.Need-returns-2
 unfolding isDigit
 returns-2 c = simp (le-leb 48 _ (c .if1 .left))

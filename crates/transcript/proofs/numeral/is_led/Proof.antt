@@ -5,19 +5,15 @@ use Rattle.transcript.proofs.numeral.is_led.Tie as tie
 use Rattle.transcript.proofs.numeral.is_led.Reads as reads
 use Rattle.transcript.proofs.numeral.is_led.Lts as lts
 
--- src/numeral.rt:36:9
 returns : tie.Need-returns
 returns c = led-none _ (c .if1 .taken)
 
--- src/numeral.rt:39:9
 returns-2 : tie.Need-returns-2
 returns-2 c = led-one _ (c .if2 .taken)
 
--- src/numeral.rt:41:5
 shared-slice-read-result : tie.Need-shared-slice-read-result
 shared-slice-read-result c = search needs
 
--- src/numeral.rt:32:1
 returns-3 : tie.Need-returns-3
 returns-3 c = led-more _ (c .before .before .if1 .left) (c .before .if2 .left)
 

@@ -21,63 +21,48 @@ Inv-loop s value₀ i₀ value i = (i ≤ length s) × (value ≤ largest) × (a
 abbrev μ-loop : tie.MeasureT-loop
 μ-loop s value₀ i₀ value i = length s - i
 
--- src/numeral.rt:48:9
 is-led-requires : tie.Need-is-led-requires Inv-loop μ-loop
 is-led-requires c κs = search needs
 
--- src/numeral.rt:49:9
 returns : tie.Need-returns Inv-loop μ-loop
 returns c = not-led _ (failed (c .before .is-led .ensures) (c .if1 .taken))
 
--- src/numeral.rt:53:5
 loop-holds : tie.Need-loop-holds Inv-loop μ-loop
 loop-holds c = (omega arith, omega arith, refl, refl)
 
--- src/numeral.rt:54:17
 shared-slice-read-b : tie.Need-shared-slice-read-b Inv-loop μ-loop
 shared-slice-read-b c = search needs
 
--- src/numeral.rt:55:13
 is-digit-requires : tie.Need-is-digit-requires Inv-loop μ-loop
 is-digit-requires c κs = search needs
 
--- src/numeral.rt:56:13
 returns-2 : tie.Need-returns-2 Inv-loop μ-loop
 returns-2 c = not-digits _ (c .before .before .before .before .loop .inv .2 ∙ digits-stop _ _ (c .before .before .before .loop-test .taken) (failed (c .before .is-digit .ensures) (c .if2 .taken)))
 
--- src/numeral.rt:58:17
 mul-value : tie.Need-mul-value Inv-loop μ-loop
 mul-value c = omega arith
 
--- src/numeral.rt:58:35
 sub-wide : tie.Need-sub-wide Inv-loop μ-loop
 sub-wide c = digit-low _ (passed (c .before .is-digit .ensures) (c .if2 .left))
 
--- src/numeral.rt:58:30
 wide-requires : tie.Need-wide-requires Inv-loop μ-loop
 wide-requires c κs = search needs
 
--- src/numeral.rt:58:17
 add-value : tie.Need-add-value Inv-loop μ-loop
 add-value c = omega (arith, digit-high _ (passed (c .before .before .is-digit .ensures) (c .before .if2 .left)))
 
--- src/numeral.rt:60:13
 returns-3 : tie.Need-returns-3 Inv-loop μ-loop
 returns-3 c = too-large _ (value-over _ (c .before .before .before .before .before .before .loop .i + 1) _ (value-turn _ _ _ _ (c .before .before .before .before .before .loop-test .taken) (c .before .wide .ensures) (c .before .before .before .before .before .before .loop .inv .3)) (c .if3 .taken))
 
--- src/numeral.rt:62:9
 add-i : tie.Need-add-i Inv-loop μ-loop
 add-i c = search needs
 
--- src/numeral.rt:53:5
 loop-less : tie.Need-loop-less Inv-loop μ-loop
 loop-less c = search needs
 
--- src/numeral.rt:53:5
 loop-again : tie.Need-loop-again Inv-loop μ-loop
 loop-again c = (omega arith, omega arith, c .before .before .before .before .before .before .loop .inv .2 ∙ digits-next _ _ (c .before .before .before .before .before .loop-test .taken) (passed (c .before .before .before .is-digit .ensures) (c .before .before .if2 .left)), value-turn _ _ _ _ (c .before .before .before .before .before .loop-test .taken) (c .before .wide .ensures) (c .before .before .before .before .before .before .loop .inv .3))
 
--- src/numeral.rt:45:1
 returns-4 : tie.Need-returns-4 Inv-loop μ-loop
 returns-4 c = let e = value-end _ _ _ (c .loop-test .left) (c .before .loop .inv .3) in
     sym e ∙ a-numeral _ (passed (c .before .before .before .is-led .ensures) (c .before .before .if1 .left)) (digits-end _ _ (c .loop-test .left) (c .before .loop .inv .2)) (rw e (c .before .loop .inv .1))

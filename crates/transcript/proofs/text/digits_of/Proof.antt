@@ -19,39 +19,30 @@ Inv-loop n bytes₀ rest₀ i₀ bytes rest i = (i ≤ 10) × (length bytes ≡ 
 abbrev μ-loop : tie.MeasureT-loop
 μ-loop n bytes₀ rest₀ i₀ bytes rest i = i
 
--- src/text.rt:39:9
 returns : tie.Need-returns Inv-loop μ-loop
 returns c = (refl, omega arith, decimal-zero _ (c .if1 .taken))
 
--- src/text.rt:43:5
 loop-holds : tie.Need-loop-holds Inv-loop μ-loop
 loop-holds c = (omega arith, refl, append-nil _)
 
--- src/text.rt:45:13
 returns-2 : tie.Need-returns-2 Inv-loop μ-loop
 returns-2 c = (c .before .before .loop .inv .1, c .before .before .loop .inv .0, ap (λ (r : List ℕ). r ++ drop (c .before .before .loop .i) (c .before .before .loop .bytes)) (sym (digits-done (c .before .before .loop .i) _ (c .if2 .taken))) ∙ c .before .before .loop .inv .2 ∙ decimal-more _ (c .before .before .before .if1 .left))
 
--- src/text.rt:47:9
 sub-i : tie.Need-sub-i Inv-loop μ-loop
 sub-i c = search needs
 
--- src/text.rt:48:20
 last-digit-requires : tie.Need-last-digit-requires Inv-loop μ-loop
 last-digit-requires c κs = search needs
 
--- src/text.rt:48:9
 array-write-bytes : tie.Need-array-write-bytes Inv-loop μ-loop
 array-write-bytes c = search needs
 
--- src/text.rt:43:5
 loop-less : tie.Need-loop-less Inv-loop μ-loop
 loop-less c = search needs
 
--- src/text.rt:43:5
 loop-again : tie.Need-loop-again Inv-loop μ-loop
 loop-again c = (omega arith, search needs, digits-turn _ _ (c .before .before .before .loop .i - 1) (c .before .before .before .loop .i) _ _ (omega arith) (omega arith) (c .before .if2 .left) (c .last-digit .ensures) (c .before .before .before .loop .inv .2))
 
--- src/text.rt:34:1
 returns-3 : tie.Need-returns-3 Inv-loop μ-loop
 returns-3 c = (c .before .loop .inv .1, c .before .loop .inv .0, ap (λ (r : List ℕ). r ++ drop (c .before .loop .i) (c .before .loop .bytes)) (sym (digits-out (c .before .loop .i) (c .before .loop .rest) (omega arith))) ∙ c .before .loop .inv .2 ∙ decimal-more _ (c .before .before .if1 .left))
 

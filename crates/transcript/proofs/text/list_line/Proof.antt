@@ -8,27 +8,21 @@ use Rattle.transcript.proofs.text.list_line.Lts as lts
 use Rattle.transcript.proofs.text.put_byte.Reads as put-byte-reads
 use Rattle.transcript.proofs.text.put_items.Reads as put-items-reads
 
--- src/text.rt:125:9
 returns : tie.Need-returns
 returns c = no-list (c .before .before .before .args .out .now) (c .before .before .before .args .letter) (c .before .before .before .args .ids .now) (c .if1 .taken)
 
--- src/text.rt:127:9
 put-byte-requires : tie.Need-put-byte-requires
 put-byte-requires c κs = search needs
 
--- src/text.rt:128:9
 put-items-requires : tie.Need-put-items-requires
 put-items-requires c κs = search needs
 
--- src/text.rt:129:5
 put-byte-requires-2 : tie.Need-put-byte-requires-2
 put-byte-requires-2 c κs = omega (arith, items-few (c .before .before .before .before .before .before .before .before .before .before .before .before .args .ids .now))
 
--- src/text.rt:121:1
 same-length : tie.Need-same-length
 same-length c = search needs
 
--- src/text.rt:121:1
 returns-2 : tie.Need-returns-2
 returns-2 c = a-list _ _ (c .before .before .before .before .before .before .before .before .before .before .before .before .if1 .left) (c .before .before .before .before .before .before .before .before .before .before .put-byte .ensures) (c .before .before .before .before .before .before .put-items .ensures) (c .before .before .put-byte2 .ensures)
 

@@ -5,19 +5,15 @@ use Rattle.transcript.proofs.text.put_byte.Tie as tie
 use Rattle.transcript.proofs.text.put_byte.Reads as reads
 use Rattle.transcript.proofs.text.put_byte.Lts as lts
 
--- src/text.rt:58:5
 slice-write-out : tie.Need-slice-write-out
 slice-write-out c = search needs
 
--- src/text.rt:59:5
 add-result : tie.Need-add-result
 add-result c = search needs
 
--- src/text.rt:54:1
 same-length : tie.Need-same-length
 same-length c = search needs
 
--- src/text.rt:54:1
 returns : tie.Need-returns
 returns c = appended-byte _ _ _ (c .pre)
 

@@ -8,31 +8,24 @@ use Rattle.transcript.proofs.text.put_number.Lts as lts
 use Rattle.transcript.proofs.text.digits_of.Reads as digits-of-reads
 use Rattle.transcript.proofs.text.put_bytes.Reads as put-bytes-reads
 
--- src/text.rt:78:9
 digits-of-requires : tie.Need-digits-of-requires
 digits-of-requires c κs = search needs
 
--- src/text.rt:81:24
 sub-put-bytes : tie.Need-sub-put-bytes
 sub-put-bytes c = search needs
 
--- src/text.rt:81:24
 part-put-bytes-start : tie.Need-part-put-bytes-start
 part-put-bytes-start c = search needs
 
--- src/text.rt:81:24
 part-put-bytes-end : tie.Need-part-put-bytes-end
 part-put-bytes-end c = omega arith
 
--- src/text.rt:81:5
 put-bytes-requires : tie.Need-put-bytes-requires
 put-bytes-requires c κs = search needs
 
--- src/text.rt:74:1
 same-length : tie.Need-same-length
 same-length c = search needs
 
--- src/text.rt:74:1
 returns : tie.Need-returns
 returns c = rw (digits-part _ _ _ (c .before .before .before .before .before .before .before .digits-of .ensures .0) (c .before .before .before .before .before .before .before .digits-of .ensures .2)) at (c .before .before .put-bytes .ensures)
 

@@ -5,11 +5,9 @@ use Rattle.record.proofs.members.Members.has.Tie as tie
 use Rattle.record.proofs.members.Members.has.Reads as reads
 use Rattle.record.proofs.members.Members.has.Lts as lts
 
--- src/members.rt:74:10
 shr-result : tie.Need-shr-result
 shr-result c = search needs
 
--- src/members.rt:70:5
 returns : tie.Need-returns
 returns c = has-test _ _
 

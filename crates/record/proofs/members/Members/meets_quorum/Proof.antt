@@ -6,11 +6,9 @@ use Rattle.record.proofs.members.Members.meets_quorum.Reads as reads
 use Rattle.record.proofs.members.Members.meets_quorum.Lts as lts
 use Rattle.record.proofs.members.quorum_of.Reads as quorum-of-reads
 
--- src/members.rt:80:9
 quorum-of-requires : tie.Need-quorum-of-requires
 quorum-of-requires c κs = search needs
 
--- src/members.rt:77:5
 returns : tie.Need-returns
 unfolding meets
 returns c = rw (c .before .quorum-of .ensures)

@@ -5,11 +5,9 @@ use Rattle.record.proofs.members.Members.with.Reads as reads
 use Rattle.record.proofs.members.Members.with.Lts as lts
 use Rattle.record.proofs.members.power.Reads as power-reads
 
--- src/members.rt:65:31
 power-requires : tie.Need-power-requires
 power-requires c κs = search needs
 
--- src/members.rt:60:5
 returns : tie.Need-returns
 returns c = rw (c .before .power .ensures)
 

@@ -1,0 +1,10 @@
+pub mod Laws
+pub mod Walking
+pub mod Steps
+pub mod Frame
+pub mod Entering
+pub mod Committing
+pub mod Repeating
+pub mod Ground
+pub mod Frames
+pub mod Growing

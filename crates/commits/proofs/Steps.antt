@@ -1,0 +1,253 @@
+-- The commits' steps, as laws: votes counted, leaders appended, ids entered. Assumes nothing.
+use mathlib.Core.Path.{_≡_, refl, sym, ap, _∙_}
+use mathlib.Core.Bool.{Bool, true, false, not, or-false}
+use mathlib.Core.Logic.{_⊎_, inl, inr}
+use mathlib.Core.List.{List, [], _∷_, _++_, append-nil}
+use Prim.Native.Nat.{ℕ, zero, suc, _+_, _-_, _/_, _≤_, _<_}
+use native.Mathlib.Nat.{add-zero, add-suc, eq-or-lt-of-le, le-of-suc-le-suc}
+use native.Mathlib.Numerals.{add-one, sub-one}
+use native.Mathlib.Omega.{arith}
+use lib.Dec.{leb}
+use lib.ListN.{getD, set, take, drop, length, length-set, length-drop}
+use lib.Seq.{getD-set-same, getD-set-other}
+use borrow.Author.Tests.{lt-ltb, le-ltb, le-leb, lt-leb, eq-eqb}
+use Rattle.record.specs.Below.{count, select}
+use Rattle.record.specs.Members.{quorum, leader, has, meets, idOf, idMember}
+use Rattle.record.specs.Layout.{strongOf}
+use Rattle.record.specs.Questions.{roundOk}
+use Rattle.record.proofs.Booleans.{which, never, and-both, and-fails-left, and-fails-right, or-right, cond-true, cond-false}
+use Rattle.record.proofs.Below.{count-cong, count-le}
+use Rattle.record.proofs.Masks.{has-zero, has-one, meets-count}
+use Rattle.protocol.specs.Dag.{Dag, present, held, votes, enough, committed}
+use Rattle.protocol.specs.Chain.{leaderId}
+use Rattle.protocol.proofs.History.{id-round, id-member}
+use Rattle.replica.specs.Layout.{cellAt}
+use Rattle.replica.specs.State.{memberCount, committedRound, leaderCount, journalCount, heldMask, heardMask, votesMask, orderedMask, cell, vertices, firsts, dag, orderedId}
+use Rattle.replica.specs.WellFormed.{subset}
+use Rattle.replica.proofs.Laws.{subset-has}
+use Rattle.replica.proofs.Parents.{round-in}
+use Rattle.commits.specs.Commit.{appendLeader, appendLeaders, enter, enterAll, committable, lowest}
+use Rattle.commits.specs.Standing.{Standing, Room, orderId, orderRound}
+use Rattle.commits.proofs.Laws.{strong-word}
+
+-- a cell that lies within the state is a record's body
+cell-present : (l : List ℕ) (r p : ℕ) → cellAt r p < length l → present (cell l r p) ≡ true
+cell-present l r p h = go (drop (cellAt r p) l) (omega (arith, length-drop (cellAt r p) l))
+  where
+    go : (xs : List ℕ) → 0 < length xs → present (take 10 xs) ≡ true
+    go [] k = absurd (omega arith)
+    go (x ∷ xs) k = refl
+
+-- ---- selections, a number at a time
+
+pub select-zero : (t : ℕ → Bool) → select 0 t ≡ []
+unfolding select
+select-zero t = refl
+
+pub select-in : (i : ℕ) (t : ℕ → Bool) → t i ≡ true → select (i + 1) t ≡ select i t ++ i ∷ []
+unfolding select
+select-in i t e = rw (add-one i) (rw e)
+
+pub select-out : (i : ℕ) (t : ℕ → Bool) → t i ≡ false → select (i + 1) t ≡ select i t
+unfolding select
+select-out i t e = rw (add-one i) (rw e (append-nil (select i t)))
+
+-- ---- leaders appended
+
+pub append-none : (l : List ℕ) → l ≡ appendLeaders l []
+unfolding appendLeaders
+append-none l = refl
+
+pub append-more : (l rs : List ℕ) (r : ℕ) → appendLeader (appendLeaders l rs) r ≡ appendLeaders l (rs ++ r ∷ [])
+unfolding appendLeaders
+append-more l [] r = refl
+append-more l (x ∷ rs) r = append-more (appendLeader l x) rs r
+
+pub append-size : (l : List ℕ) (r : ℕ) → length (appendLeader l r) ≡ length l
+unfolding appendLeader
+append-size l r = simp length-set
+
+pub append-members : (l : List ℕ) (r : ℕ) → memberCount (appendLeader l r) ≡ memberCount l
+unfolding appendLeader
+append-members l r =
+    getD-set-other (set l (200 + leaderCount l) (leaderId (memberCount l) r)) 3 0 (leaderCount l + 1) 0 (λ e. omega arith)
+    ∙ getD-set-other l (200 + leaderCount l) 0 (leaderId (memberCount l) r) 0 (λ e. omega arith)
+
+pub append-count : (l : List ℕ) (r : ℕ) → length l ≡ 5864 → leaderCount (appendLeader l r) ≡ leaderCount l + 1
+unfolding appendLeader
+append-count l r e =
+    getD-set-same (set l (200 + leaderCount l) (leaderId (memberCount l) r)) 3 (leaderCount l + 1) 0
+    (omega (arith, length-set l (200 + leaderCount l) (leaderId (memberCount l) r)))
+
+-- the leaders of the rounds below r that are taken have been appended
+pub record Appending (n : ℕ) (l₀ : List ℕ) (taken r : ℕ) (l : List ℕ) : Type 0 where
+  pub size : length l ≡ 5864
+  pub members : n ≡ memberCount l
+  pub few : leaderCount l ≤ 32 + r
+  pub is : l ≡ appendLeaders l₀ (select r (has taken))
+
+pub appending-start : (n : ℕ) (l : List ℕ) (taken : ℕ) → length l ≡ 5864 → n ≡ memberCount l → leaderCount l ≤ 32 → has taken 0 ≡ false → Appending n l taken 1 l
+appending-start n l taken s m f e =
+    record { size = s; members = m; few = omega arith; is = append-none l ∙ ap (appendLeaders l) (sym (select-out 0 (has taken) e ∙ select-zero (has taken))) }
+
+pub appending-in : (n : ℕ) (l₀ : List ℕ) (taken r : ℕ) (l l′ : List ℕ) → Appending n l₀ taken r l → has taken r ≡ true → l′ ≡ appendLeader l r
+    → Appending n l₀ taken (r + 1) l′
+appending-in n l₀ taken r l l′ a e d = rw d (record {
+  size = append-size l r ∙ a .size;
+  members = a .members ∙ sym (append-members l r);
+  few = omega (arith, append-count l r (a .size), a .few);
+  is = ap (λ (x : List ℕ). appendLeader x r) (a .is) ∙ append-more l₀ (select r (has taken)) r ∙ ap (appendLeaders l₀) (sym (select-in r (has taken) e));
+})
+
+pub appending-out : (n : ℕ) (l₀ : List ℕ) (taken r : ℕ) (l l′ : List ℕ) → Appending n l₀ taken r l → has taken r ≡ false → l′ ≡ l
+    → Appending n l₀ taken (r + 1) l′
+appending-out n l₀ taken r l l′ a e d = rw d (record {
+  size = a .size;
+  members = a .members;
+  few = omega (arith, a .few);
+  is = a .is ∙ ap (appendLeaders l₀) (sym (select-out r (has taken) e));
+})
+
+-- ---- ids entered
+
+pub order-out : (l : List ℕ) (mask y : ℕ) → has mask (idMember y) ≡ false → l ≡ orderId l mask y
+unfolding orderId
+order-out l mask y e = sym (cond-false _ _ (and-fails-left _ e))
+
+pub order-old : (l : List ℕ) (mask y : ℕ) → orderedId l y ≡ true → l ≡ orderId l mask y
+unfolding orderId
+order-old l mask y e = sym (cond-false _ _ (and-fails-right (has mask (idMember y)) (ap not e)))
+
+pub order-new : (l : List ℕ) (mask y : ℕ) → has mask (idMember y) ≡ true → orderedId l y ≡ false → enter l y ≡ orderId l mask y
+unfolding orderId
+order-new l mask y e d = sym (cond-true _ _ (and-both e (ap not d)))
+
+-- a round's ids, a member at a time
+pub round-none : (l : List ℕ) (mask r : ℕ) → l ≡ orderRound l mask r 0
+unfolding orderRound
+round-none l mask r = refl
+
+pub round-more : (l : List ℕ) (mask r p : ℕ) → orderId (orderRound l mask r p) mask (idOf r p) ≡ orderRound l mask r (p + 1)
+unfolding orderRound
+round-more l mask r p = rw (add-one p)
+
+-- a round with nothing new changes nothing
+pub round-old : (l : List ℕ) (mask r k : ℕ) → 1 ≤ r → r ≤ 32 → k ≤ 16 → subset mask (orderedMask l r) ≡ true → l ≡ orderRound l mask r k
+unfolding orderRound
+round-old l mask r zero low high few e = refl
+round-old l mask r (suc k) low high few e =
+    go (which (has mask k)) ∙ ap (λ (x : List ℕ). orderId x mask (idOf r k)) (round-old l mask r k low high (omega arith) e)
+  where
+    go : (has mask k ≡ true) ⊎ (has mask k ≡ false) → l ≡ orderId l mask (idOf r k)
+    go (inl h) =
+        let old = and-both (round-in r low high) (subset-has mask (orderedMask l r) k e h) in
+        order-old l mask (idOf r k) (rw (id-round r k (omega arith), id-member r k (omega arith)) old)
+    go (inr h) = order-out l mask (idOf r k) (rw (id-member r k (omega arith)) h)
+
+pub enter-none : (l : List ℕ) → l ≡ enterAll l []
+unfolding enterAll
+enter-none l = refl
+
+pub enter-more : (l ys : List ℕ) (y : ℕ) → enter (enterAll l ys) y ≡ enterAll l (ys ++ y ∷ [])
+unfolding enterAll
+enter-more l [] y = refl
+enter-more l (x ∷ ys) y = enter-more (enter l x) ys y
+
+-- an id that is not ordered finds room in the journal
+count-but : (k : ℕ) (t : ℕ → Bool) (y : ℕ) → y < k → t y ≡ false → count k t < k
+unfolding count
+count-but zero t y l e = absurd (omega arith)
+count-but (suc k) t y l e = go (which (t k)) (eq-or-lt-of-le (le-of-suc-le-suc l)) (λ m. count-but k t y m e)
+  where
+    go : (t k ≡ true) ⊎ (t k ≡ false) → (y ≡ k) ⊎ (y < k) → (y < k → count k t < k) → count (suc k) t < suc k
+    go (inl d) (inl q) ih = never d (ap t (sym q) ∙ e)
+    go (inl d) (inr m) ih = rw d (omega (arith, ih m))
+    go (inr d) q ih = rw d (omega (arith, count-le k t))
+
+-- ids below 16 have round 0, so none is ordered
+low-out : (l : List ℕ) (y : ℕ) → y < 16 → orderedId l y ≡ false
+unfolding roundOk
+low-out l y h = and-fails-left _ (and-fails-left _ (lt-leb 1 (y / 16) (omega arith)))
+
+count-add : (j k : ℕ) (t : ℕ → Bool) → count (j + k) t ≡ count j t + count k (λ i. t (j + i))
+unfolding count
+count-add j zero t = rw (add-zero j) (sym (add-zero (count j t)))
+count-add j (suc k) t = rw (add-suc j k) (omega (arith, count-add j k t))
+
+count-none : (k : ℕ) (t : ℕ → Bool) → ((y : ℕ) → y < k → t y ≡ false) → count k t ≡ 0
+unfolding count
+count-none zero t h = refl
+count-none (suc k) t h = rw (count-none k t (λ y m. h y (omega arith)), h k (omega arith))
+
+pub room-for : (l : List ℕ) (y : ℕ) → Room l → 16 ≤ y → y < 528 → orderedId l y ≡ false → journalCount l < 512
+room-for l y R low high e =
+    let d : 16 + (y - 16) ≡ y = omega arith in
+    omega (
+      arith,
+      R,
+      count-add 16 512 (orderedId l),
+      count-none 16 (orderedId l) (low-out l),
+      count-but 512 (λ i. orderedId l (16 + i)) (y - 16) (omega arith) (ap (orderedId l) d ∙ e),
+    )
+
+-- ---- votes
+
+-- a first message votes exactly if its bit is in the votes mask
+pub first-votes : (l : List ℕ) → Standing l → (n q p : ℕ) → n ≡ memberCount l → 1 ≤ q → q ≤ 31 → votes n q (firsts l (suc q) p) ≡ has (votesMask l (suc q)) p
+unfolding firsts strongOf
+first-votes l S n q p e low high = go (which (has (votesMask l (suc q)) p)) (which (has (heardMask l (suc q)) p))
+  where
+    in′ : roundOk (suc q) ≡ true
+    in′ = round-in (suc q) (omega arith) (omega arith)
+
+    go : (has (votesMask l (suc q)) p ≡ true) ⊎ (has (votesMask l (suc q)) p ≡ false) → (has (heardMask l (suc q)) p ≡ true) ⊎ (has (heardMask l (suc q)) p ≡ false)
+        → votes n q (firsts l (suc q) p) ≡ has (votesMask l (suc q)) p
+    go (inl a) (inl b) = rw (in′, b, a, ← e, sub-one (suc q)) (has-one (leader n q) (leader n q) ∙ eq-eqb (leader n q) (leader n q) refl)
+    go (inl a) (inr b) = never (S .votes-heard (suc q) p (omega arith) (omega arith) a) b
+    go (inr a) (inl b) = rw (in′, b, a) (has-zero (leader n q))
+    go (inr a) (inr b) = rw (in′, b, a) (has-zero (leader n q))
+
+pub first-quorum : (l : List ℕ) → Standing l → (n q : ℕ) → n ≡ memberCount l → 1 ≤ q → q ≤ 31
+    → meets n (votesMask l (suc q)) ≡ enough n (λ p. votes n q (firsts l (suc q) p))
+first-quorum l S n q e low high =
+    meets-count n (votesMask l (suc q)) (rw (sym e) at (S .votes-low (suc q) (omega arith) (omega arith)))
+    ∙ ap (leb (quorum n)) (count-cong n _ _ (λ p k. sym (first-votes l S n q p e low high)))
+
+-- the leader's vertex of a round is held exactly if its bit is in the held mask
+pub held-word : (l : List ℕ) → Standing l → (r p : ℕ) → 1 ≤ r → r ≤ 32 → p < 16 → has (heldMask l r) p ≡ held (vertices l) r p
+unfolding vertices
+held-word l S r p low high few = go (which (has (heldMask l r) p))
+  where
+    go : (has (heldMask l r) p ≡ true) ⊎ (has (heldMask l r) p ≡ false) → has (heldMask l r) p ≡ held (vertices l) r p
+    go (inl e) = rw (round-in r low high, e) (sym (cell-present l r p (omega (arith, S .size))))
+    go (inr e) = rw (round-in r low high, e)
+
+-- what makes a round committed, and what not
+pub not-led : (n : ℕ) (d : Dag) (q : ℕ) → held (d .vertex) q (leader n q) ≡ false → false ≡ committed n d q
+unfolding committed
+not-led n d q e = sym (and-fails-left _ e)
+
+pub by-messages : (n : ℕ) (d : Dag) (q : ℕ) → held (d .vertex) q (leader n q) ≡ true → enough n (λ p. votes n q (d .first (suc q) p)) ≡ true → true ≡ committed n d q
+unfolding committed
+by-messages n d q e h = sym (and-both e (or-right (enough n (λ p. votes n q (d .vertex (suc q) p))) h))
+
+pub by-vertices : (n : ℕ) (d : Dag) (q : ℕ) → held (d .vertex) q (leader n q) ≡ true → enough n (λ p. votes n q (d .first (suc q) p)) ≡ false
+    → enough n (λ p. votes n q (d .vertex (suc q) p)) ≡ committed n d q
+unfolding committed
+by-vertices n d q e h = rw (e, h) (sym (or-false (enough n (λ p. votes n q (d .vertex (suc q) p)))))
+
+-- ---- the lowest committable round
+
+pub committable-at : (l : List ℕ) (n q : ℕ) → n ≡ memberCount l → committedRound l < q → q ≤ 31 → committed n (dag l) q ≡ committable l q
+unfolding committable
+committable-at l n q e low high = rw (lt-ltb (committedRound l) q low, le-leb q 31 high, e)
+
+pub committable-low : (l : List ℕ) (q : ℕ) → q ≤ committedRound l → committable l q ≡ false
+unfolding committable
+committable-low l q h = and-fails-left _ (le-ltb (committedRound l) q h)
+
+-- a vertex votes exactly if the strong mask in its cell has the leader
+pub vertex-vote : (l : List ℕ) → Standing l → (n q p at : ℕ) → q ≤ 31 → p < 16 → at ≡ cellAt (q + 1) p → has (getD l at 0) (leader n q) ≡ votes n q (vertices l (suc q) p)
+vertex-vote l S n q p at high few e =
+    ap (λ (x : ℕ). has x (leader n q)) (ap (λ (x : ℕ). getD l x 0) e ∙ sym (strong-word l S (q + 1) p (omega arith) (omega arith) few))
+    ∙ ap (λ (x : ℕ). votes n q (vertices l x p)) (add-one q)

@@ -1,0 +1,72 @@
+use Rattle.commits.proofs.Steps.{Appending, appending-start, appending-in, appending-out}
+use Rattle.commits.specs.Commit.{appendLeader, appendLeaders}
+use Rattle.commits.proofs.Steps.{select-zero, select-in, select-out, append-none, append-more, append-size, append-members, append-count}
+use Rattle.replica.specs.State.{memberCount, leaderCount}
+use Rattle.record.specs.Below.{select}
+use Rattle.record.specs.Members.{has}
+use Rattle.record.proofs.Booleans.{never}
+use mathlib.Core.Path.{_≡_, refl, sym, ap, _∙_}
+use mathlib.Core.Logic.{⊎-elim}
+use mathlib.Core.List.{List}
+use Prim.Native.Nat.{ℕ, _+_, _≤_, _-_}
+use native.Mathlib.Omega.{arith}
+use lib.ListN.{length}
+use borrow.Author.Needs.{needs}
+use Rattle.commits.proofs.commit.append_leaders.Statement.{statement}
+use Rattle.commits.proofs.commit.append_leaders.Tie as tie
+use Rattle.commits.proofs.commit.append_leaders.Reads as reads
+use Rattle.commits.proofs.commit.append_leaders.Lts as lts
+use Rattle.commits.proofs.commit.append_leader.Reads as append-leader-reads
+use Rattle.record.proofs.members.Members.has.Reads as has-reads
+
+abbrev Inv-loop : tie.InvT-loop
+Inv-loop state₀ n taken rounds r₀ state r = (1 ≤ r) × (r ≤ 32) × Appending n state₀ taken r state
+
+abbrev μ-loop : tie.MeasureT-loop
+μ-loop state₀ n taken rounds r₀ state r = 32 - r
+
+loop-holds : tie.Need-loop-holds Inv-loop μ-loop
+loop-holds c = (omega arith, omega arith, appending-start _ _ _ (c .before .pre .0) (c .before .pre .1) (c .before .pre .4) (c .before .pre .3))
+
+has-requires : tie.Need-has-requires Inv-loop μ-loop
+has-requires c κs = search needs
+
+append-leader-requires : tie.Need-append-leader-requires Inv-loop μ-loop
+append-leader-requires c κs = (c .before .before .before .before .loop .inv .2 .size, c .before .before .before .before .loop .inv .2 .members, c .before .before .before .before .before .before .pre .2, c .before .before .before .before .loop .inv .0, omega arith, omega (arith, c .before .before .before .before .loop .inv .2 .few))
+
+add-r : tie.Need-add-r Inv-loop μ-loop
+add-r c = search needs
+
+loop-less : tie.Need-loop-less Inv-loop μ-loop
+loop-less c = search needs
+
+loop-again : tie.Need-loop-again Inv-loop μ-loop
+loop-again c = (
+  omega arith,
+  omega arith,
+  ⊎-elim
+      (λ v. appending-in _ _ _ _ _ _ (c .before .before .before .loop .inv .2) (sym (c .before .has .ensures) ∙ v .0 .taken) (v .5 ∙ v .2 .ensures))
+      (λ v. appending-out _ _ _ _ _ _ (c .before .before .before .loop .inv .2) (sym (c .before .has .ensures) ∙ v .0 .left) (v .1))
+      (c .if1 .came),
+)
+
+same-length : tie.Need-same-length Inv-loop μ-loop
+same-length c = search needs
+
+returns : tie.Need-returns Inv-loop μ-loop
+returns c = let e : c .before .loop .r ≡ 32 = omega arith in c .before .loop .inv .2 .is ∙ ap (λ (x : ℕ). appendLeaders (c .before .before .before .args .state .now) (select x (has (c .before .before .before .args .taken)))) e
+
+pub append-leaders-spec : {M : Type 1} → statement M
+append-leaders-spec =
+    tie.close
+    (tie.spec
+    Inv-loop
+    μ-loop
+    loop-holds
+    has-requires
+    append-leader-requires
+    add-r
+    loop-less
+    loop-again
+    same-length
+    returns)

@@ -1,0 +1,76 @@
+use Rattle.commits.proofs.Repeating.{onward-ready, onward-rises, lowest-le}
+use Rattle.record.specs.Members.{leader}
+use Rattle.protocol.specs.Dag.{held}
+use Rattle.replica.specs.State.{vertices}
+use mathlib.Core.Bool.{true}
+use Rattle.commits.proofs.Repeating.{Going, Onward, lowest-is, lowest-rises, onward-start, onward-next, onward-end, commit-round}
+use Rattle.commits.specs.Commit.{lowest, commit}
+use Rattle.replica.specs.State.{memberCount}
+use mathlib.Core.Path.{_≡_, refl, sym, ap, _∙_}
+use mathlib.Core.List.{List}
+use Prim.Native.Nat.{ℕ, _+_, _≤_, _-_}
+use native.Mathlib.Omega.{arith}
+use borrow.Author.Needs.{needs}
+use Rattle.commits.proofs.commit.commit_all.Statement.{statement}
+use Rattle.commits.proofs.commit.commit_all.Tie as tie
+use Rattle.commits.proofs.commit.commit_all.Reads as reads
+use Rattle.commits.proofs.commit.commit_all.Lts as lts
+use Rattle.commits.proofs.commit.commit_round.Reads as commit-round-reads
+use Rattle.commits.proofs.commit.lowest_committable.Reads as lowest-committable-reads
+
+abbrev Inv-loop : tie.InvT-loop
+Inv-loop state₀ n q₀ state q = (q ≡ lowest state) × (q ≤ 32) × Onward state₀ state
+
+abbrev μ-loop : tie.MeasureT-loop
+μ-loop state₀ n q₀ state q = 32 - q
+
+lowest-committable-requires : tie.Need-lowest-committable-requires Inv-loop μ-loop
+lowest-committable-requires c κs = search needs
+
+loop-holds : tie.Need-loop-holds Inv-loop μ-loop
+loop-holds c = (
+  c .lowest-committable .ensures,
+  omega (arith, c .lowest-committable .ensures, lowest-le (c .before .before .before .args .state .now)),
+  onward-start _ (record { standing = c .before .before .before .pre .0; room = c .before .before .before .pre .1; few = c .before .before .before .pre .3; high = c .before .before .before .pre .4 }),
+)
+
+commit-round-requires : tie.Need-commit-round-requires Inv-loop μ-loop
+commit-round-requires c κs = let o = c .before .before .loop .inv .2 in
+    let m = c .before .before .before .before .before .before .pre .2 ∙ sym (o .alike .members) in
+    let r = onward-ready _ _ _ o (c .before .before .loop .inv .0) (c .before .loop-test .taken) in
+    (o .going .standing, o .going .room, m, o .going .few, r .low, r .high, rw m (r .there))
+
+lowest-committable-requires-2 : tie.Need-lowest-committable-requires-2 Inv-loop μ-loop
+lowest-committable-requires-2 c κs = let o = onward-next _ _ _ _ (c .before .before .before .before .before .before .loop .inv .2) (c .before .before .before .before .before .before .loop .inv .0) (c .before .before .before .before .before .loop-test .taken) (c .before .before .before .commit-round .ensures) in
+    (o .going .standing, c .before .before .before .before .before .before .before .before .before .before .pre .2 ∙ sym (o .alike .members), o .going .high)
+
+loop-less : tie.Need-loop-less Inv-loop μ-loop
+loop-less c = omega (arith, c .lowest-committable2 .ensures, c .before .before .before .before .before .before .before .loop .inv .1, onward-rises _ _ _ _ (c .before .before .before .before .before .before .before .loop .inv .2) (c .before .before .before .before .before .before .before .loop .inv .0) (c .before .before .before .before .before .before .loop-test .taken) (c .before .before .before .before .commit-round .ensures))
+
+loop-again : tie.Need-loop-again Inv-loop μ-loop
+loop-again c = (
+  c .lowest-committable2 .ensures,
+  omega (arith, c .lowest-committable2 .ensures, lowest-le (c .before .before .before .before .commit-round .last .0)),
+  onward-next _ _ _ _ (c .before .before .before .before .before .before .before .loop .inv .2) (c .before .before .before .before .before .before .before .loop .inv .0) (c .before .before .before .before .before .before .loop-test .taken) (c .before .before .before .before .commit-round .ensures),
+)
+
+same-length : tie.Need-same-length Inv-loop μ-loop
+same-length c = c .before .loop .inv .2 .alike .size
+
+returns : tie.Need-returns Inv-loop μ-loop
+returns c = onward-end _ _ (c .before .loop .inv .2) (omega (arith, c .before .loop .inv .0))
+
+pub commit-all-spec : {M : Type 1} → statement M
+commit-all-spec =
+    tie.close
+    (tie.spec
+    Inv-loop
+    μ-loop
+    lowest-committable-requires
+    loop-holds
+    commit-round-requires
+    lowest-committable-requires-2
+    loop-less
+    loop-again
+    same-length
+    returns)

@@ -1,0 +1,70 @@
+use Rattle.commits.proofs.Steps.{committable-at, committable-low}
+use Rattle.commits.specs.Commit.{committable, lowest}
+use Rattle.replica.specs.State.{committedRound}
+use Rattle.record.specs.Below.{any, least}
+use Rattle.record.proofs.Below.{any-false, any-less, least-none, least-at}
+use mathlib.Core.Bool.{false}
+use mathlib.Core.Path.{_≡_, refl, sym, ap, _∙_}
+use Prim.Native.Nat.{ℕ, _+_, _≤_, _<_, _-_}
+use native.Mathlib.Omega.{arith}
+use borrow.Author.Needs.{needs}
+use Rattle.commits.proofs.commit.lowest_committable.Statement.{statement}
+use Rattle.commits.proofs.commit.lowest_committable.Tie as tie
+use Rattle.commits.proofs.commit.lowest_committable.Reads as reads
+use Rattle.commits.proofs.commit.lowest_committable.Lts as lts
+use Rattle.commits.proofs.commit.is_committed.Reads as is-committed-reads
+
+abbrev Inv-loop : tie.InvT-loop
+Inv-loop state n q₀ q = (committedRound state < q) × (q ≤ 32) × (any q (committable state) ≡ false)
+
+abbrev μ-loop : tie.MeasureT-loop
+μ-loop state n q₀ q = 32 - q
+
+shared-slice-read-q : tie.Need-shared-slice-read-q Inv-loop μ-loop
+shared-slice-read-q c = search needs
+
+add-q : tie.Need-add-q Inv-loop μ-loop
+add-q c = search needs
+
+loop-holds : tie.Need-loop-holds Inv-loop μ-loop
+loop-holds c = (omega arith, omega (arith, c .before .before .pre .2), any-false _ _ (λ i l. committable-low _ i (omega arith)))
+
+is-committed-requires : tie.Need-is-committed-requires Inv-loop μ-loop
+is-committed-requires c κs = search needs
+
+returns : tie.Need-returns Inv-loop μ-loop
+returns c = sym (least-at 32 (committable (c .before .before .before .before .before .before .args .state .now)) (c .before .before .before .loop .q) (c .before .before .loop-test .taken) (c .before .before .before .loop .inv .2)
+    (sym (committable-at _ _ (c .before .before .before .loop .q) (c .before .before .before .before .before .before .pre .1) (c .before .before .before .loop .inv .0) (omega arith)) ∙ (sym (c .before .is-committed .ensures) ∙ c .if1 .taken)))
+
+add-q-2 : tie.Need-add-q-2 Inv-loop μ-loop
+add-q-2 c = search needs
+
+loop-less : tie.Need-loop-less Inv-loop μ-loop
+loop-less c = search needs
+
+loop-again : tie.Need-loop-again Inv-loop μ-loop
+loop-again c = (
+  omega arith,
+  omega arith,
+  any-less _ _ (c .before .before .before .loop .inv .2)
+      (sym (committable-at _ _ (c .before .before .before .loop .q) (c .before .before .before .before .before .before .pre .1) (c .before .before .before .loop .inv .0) (omega arith)) ∙ (sym (c .before .is-committed .ensures) ∙ c .if1 .left)),
+)
+
+returns-2 : tie.Need-returns-2 Inv-loop μ-loop
+returns-2 c = let e : c .before .loop .q ≡ 32 = omega arith in sym (least-none 32 (committable (c .before .before .before .before .args .state .now)) (rw e at (c .before .loop .inv .2)))
+
+pub lowest-committable-spec : {M : Type 1} → statement M
+lowest-committable-spec =
+    tie.close
+    (tie.spec
+    Inv-loop
+    μ-loop
+    shared-slice-read-q
+    add-q
+    loop-holds
+    is-committed-requires
+    returns
+    add-q-2
+    loop-less
+    loop-again
+    returns-2)

@@ -1,0 +1,95 @@
+use Rattle.commits.proofs.Entering.{soFarIn, start, round-step, last-round, so-far-alike, so-far-room}
+use Rattle.record.proofs.Masks.{leader-lt}
+use mathlib.Core.Path.{_≡_, ap, ap₂, _∙_}
+use mathlib.Core.List.{List}
+use Prim.Native.Nat.{ℕ, _+_, _*_, _-_, _≤_}
+use native.Mathlib.Omega.{arith}
+use lib.ListN.{length, getD}
+use borrow.Author.Needs.{needs}
+use Rattle.commits.proofs.commit.order_leader.Statement.{statement}
+use Rattle.commits.proofs.commit.order_leader.Tie as tie
+
+abbrev Inv-loop : tie.InvT-loop
+Inv-loop state₀ n round masks r₀ state r = (r ≤ round) × (state ≡ soFarIn n state₀ round (16 * (r + 1)))
+
+abbrev μ-loop : tie.MeasureT-loop
+μ-loop state₀ n round masks r₀ state r = round - r
+
+leader-of-requires : tie.Need-leader-of-requires Inv-loop μ-loop
+leader-of-requires c κs = (omega (arith, c .before .before .pre .0 .low), c .before .before .pre .3)
+
+history-of-requires : tie.Need-history-of-requires Inv-loop μ-loop
+history-of-requires c κs = let s = c .before .before .before in (
+  s .pre .0,
+  s .pre .2,
+  s .pre .3,
+  omega arith,
+  omega (arith, c .leader-of .ensures, leader-lt (s .args .n) (s .args .round) (omega (arith, s .pre .0 .low)), s .pre .0 .high),
+)
+
+loop-holds : tie.Need-loop-holds Inv-loop μ-loop
+loop-holds c = let s = c .before .before .before .before in (omega arith, start (s .args .n) (s .args .state .now) (s .pre .0) (s .pre .1) (s .pre .2) (s .args .round) (s .pre .5))
+
+wide-requires : tie.Need-wide-requires Inv-loop μ-loop
+wide-requires c κs = search needs
+
+mul-order-round : tie.Need-mul-order-round Inv-loop μ-loop
+mul-order-round c = search needs
+
+array-read-order-round : tie.Need-array-read-order-round Inv-loop μ-loop
+array-read-order-round c = search needs
+
+add-order-round : tie.Need-add-order-round Inv-loop μ-loop
+add-order-round c = search needs
+
+order-round-requires : tie.Need-order-round-requires Inv-loop μ-loop
+order-round-requires c κs = let s = c .before .before .before .before .before .before .before .before in
+    let y = 16 * (c .before .before .before .loop .r + 1) in (
+      ap length (c .before .before .before .loop .inv .1) ∙ so-far-alike (s .args .n) (s .args .state .now) (s .pre .0) (s .pre .1) (s .pre .2) (s .args .round) (s .pre .5) y .size ∙ s .pre .0 .size,
+      omega arith,
+      omega arith,
+      rw (c .before .before .before .loop .inv .1) (so-far-room (s .args .n) (s .args .state .now) (s .pre .0) (s .pre .1) (s .pre .2) (s .args .round) (s .pre .5) y),
+    )
+
+add-r : tie.Need-add-r Inv-loop μ-loop
+add-r c = search needs
+
+loop-less : tie.Need-loop-less Inv-loop μ-loop
+loop-less c = search needs
+
+loop-again : tie.Need-loop-again Inv-loop μ-loop
+loop-again c = let s = c .before .before .before .before .before .before .before .before .before .before .before in
+    let masks = rw (c .before .before .before .before .before .before .before .before .leader-of .ensures) at (c .before .before .before .before .before .before .before .history-of .ensures) in
+    let mask = ap₂ (λ (x : List ℕ) (k : ℕ). getD x k 0) masks (c .before .before .before .wide .ensures) in (
+      omega arith,
+      c .before .before .order-round .ensures
+          ∙ round-step (s .args .n) (s .args .state .now) (s .pre .0) (s .pre .1) (s .pre .2) (s .args .round) (s .pre .5) (c .before .before .before .before .before .before .loop .r) _ _ (omega arith) (c .before .before .before .before .before .before .loop .inv .1) mask,
+    )
+
+same-length : tie.Need-same-length Inv-loop μ-loop
+same-length c = let s = c .before .before .before .before .before .before in ap length (c .before .loop .inv .1) ∙ so-far-alike (s .args .n) (s .args .state .now) (s .pre .0) (s .pre .1) (s .pre .2) (s .args .round) (s .pre .5) (16 * (c .before .loop .r + 1)) .size
+
+returns : tie.Need-returns Inv-loop μ-loop
+returns c = let s = c .before .before .before .before .before .before in
+    let e : c .before .loop .r ≡ s .args .round = omega arith in
+    c .before .loop .inv .1 ∙ ap (λ (x : ℕ). soFarIn (s .args .n) (s .args .state .now) (s .args .round) (16 * (x + 1))) e ∙ last-round (s .args .n) (s .args .state .now) (s .pre .0) (s .pre .1) (s .pre .2) (s .args .round) (s .pre .5) (omega arith)
+
+pub order-leader-spec : {M : Type 1} → statement M
+order-leader-spec =
+    tie.close
+    (tie.spec
+    Inv-loop
+    μ-loop
+    leader-of-requires
+    history-of-requires
+    loop-holds
+    wide-requires
+    mul-order-round
+    array-read-order-round
+    add-order-round
+    order-round-requires
+    add-r
+    loop-less
+    loop-again
+    same-length
+    returns)

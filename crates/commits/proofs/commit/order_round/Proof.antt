@@ -1,0 +1,81 @@
+use Rattle.commits.specs.Standing.{orderId, orderRound}
+use Rattle.commits.proofs.Steps.{round-none, round-more, round-old}
+use Rattle.commits.proofs.Entering.{round-keeps}
+use mathlib.Core.Path.{_≡_, sym, ap, _∙_}
+use mathlib.Core.List.{List}
+use Prim.Native.Nat.{ℕ, _+_, _*_, _-_, _≤_}
+use native.Mathlib.Omega.{arith}
+use lib.ListN.{length}
+use borrow.Author.Needs.{needs}
+use borrow.Author.Tests.{eq-eqb}
+use Rattle.commits.proofs.commit.order_round.Statement.{statement}
+use Rattle.commits.proofs.commit.order_round.Tie as tie
+
+abbrev Inv-loop : tie.InvT-loop
+Inv-loop state₀ n mask round p₀ state p = (p ≤ 16) × (state ≡ orderRound state₀ mask round p)
+
+abbrev μ-loop : tie.MeasureT-loop
+μ-loop state₀ n mask round p₀ state p = 16 - p
+
+ordered-mask-requires : tie.Need-ordered-mask-requires Inv-loop μ-loop
+ordered-mask-requires c κs = search needs
+
+same-length : tie.Need-same-length Inv-loop μ-loop
+same-length c = search needs
+
+returns : tie.Need-returns Inv-loop μ-loop
+returns c = round-old _ _ _ 16 (c .before .before .before .before .pre .1) (c .before .before .before .before .pre .2) (omega arith) (eq-eqb _ _ (rw (c .before .ordered-mask .ensures) at (c .if1 .taken)))
+
+loop-holds : tie.Need-loop-holds Inv-loop μ-loop
+loop-holds c = (omega arith, round-none _ _ _)
+
+mul-order-id : tie.Need-mul-order-id Inv-loop μ-loop
+mul-order-id c = search needs
+
+add-order-id : tie.Need-add-order-id Inv-loop μ-loop
+add-order-id c = search needs
+
+order-id-requires : tie.Need-order-id-requires Inv-loop μ-loop
+order-id-requires c κs = let k = round-keeps (c .before .before .before .before .before .before .before .args .state .now) (c .before .before .before .before .before .before .before .args .mask) (c .before .before .before .before .before .before .before .args .round) (c .before .before .loop .p) (c .before .before .before .before .before .before .before .pre .1) (c .before .before .before .before .before .before .before .pre .2) (c .before .before .loop .inv .0) (c .before .before .before .before .before .before .before .pre .0, c .before .before .before .before .before .before .before .pre .3) in (
+  ap length (c .before .before .loop .inv .1) ∙ k .0,
+  omega arith,
+  omega arith,
+  rw (c .before .before .loop .inv .1) (k .1),
+)
+
+add-p : tie.Need-add-p Inv-loop μ-loop
+add-p c = search needs
+
+loop-less : tie.Need-loop-less Inv-loop μ-loop
+loop-less c = search needs
+
+loop-again : tie.Need-loop-again Inv-loop μ-loop
+loop-again c = (
+  omega arith,
+  c .before .before .order-id .ensures ∙ ap (λ (x : List ℕ). orderId x (c .before .before .before .before .before .before .before .before .before .before .args .mask) (16 * c .before .before .before .before .before .before .before .before .before .before .args .round + c .before .before .before .before .before .loop .p)) (c .before .before .before .before .before .loop .inv .1) ∙ round-more _ _ _ _,
+)
+
+same-length-2 : tie.Need-same-length-2 Inv-loop μ-loop
+same-length-2 c = ap length (c .before .loop .inv .1) ∙ round-keeps (c .before .before .before .before .before .before .args .state .now) (c .before .before .before .before .before .before .args .mask) (c .before .before .before .before .before .before .args .round) (c .before .loop .p) (c .before .before .before .before .before .before .pre .1) (c .before .before .before .before .before .before .pre .2) (c .before .loop .inv .0) (c .before .before .before .before .before .before .pre .0, c .before .before .before .before .before .before .pre .3) .0 ∙ sym (c .before .before .before .before .before .before .pre .0)
+
+returns-2 : tie.Need-returns-2 Inv-loop μ-loop
+returns-2 c = let e : c .before .loop .p ≡ 16 = omega arith in c .before .loop .inv .1 ∙ ap (orderRound (c .before .before .before .before .before .before .args .state .now) (c .before .before .before .before .before .before .args .mask) (c .before .before .before .before .before .before .args .round)) e
+
+pub order-round-spec : {M : Type 1} → statement M
+order-round-spec =
+    tie.close
+    (tie.spec
+    Inv-loop
+    μ-loop
+    ordered-mask-requires
+    same-length
+    returns
+    loop-holds
+    mul-order-id
+    add-order-id
+    order-id-requires
+    add-p
+    loop-less
+    loop-again
+    same-length-2
+    returns-2)

@@ -1,0 +1,88 @@
+use mathlib.Core.Bool.{Bool}
+use Rattle.commits.proofs.Steps.{vertex-vote}
+use Rattle.commits.proofs.Laws.{strong-word}
+use Rattle.protocol.specs.Dag.{votes}
+use Rattle.replica.specs.State.{vertices}
+use Rattle.record.specs.Below.{count}
+use Rattle.record.specs.Members.{has, leader}
+use Rattle.record.specs.Layout.{strongOf}
+use Rattle.record.proofs.Below.{count-none, count-more, count-same, count-le}
+use Rattle.record.proofs.Masks.{leader-small}
+use native.Mathlib.Numerals.{add-one}
+use mathlib.Core.Path.{_≡_, refl, sym, ap, ap₂, _∙_}
+use mathlib.Core.Logic.{⊎-elim}
+use Prim.Native.Nat.{ℕ, suc, _+_, _≤_, _-_}
+use native.Mathlib.Omega.{arith}
+use lib.ListN.{getD}
+use borrow.Author.Needs.{needs}
+use Rattle.commits.proofs.commit.vertex_votes.Statement.{statement}
+use Rattle.commits.proofs.commit.vertex_votes.Tie as tie
+use Rattle.commits.proofs.commit.vertex_votes.Reads as reads
+use Rattle.commits.proofs.commit.vertex_votes.Lts as lts
+use Rattle.record.proofs.members.Members.has.Reads as has-reads
+use Rattle.replica.proofs.layout.cell_at.Reads as cell-at-reads
+
+abbrev Inv-loop : tie.InvT-loop
+Inv-loop state n q voted count₀ p₀ count p = (p ≤ n) × (count ≡ Rattle.record.specs.Below.count p (λ m. votes n q (vertices state (suc q) m)))
+
+abbrev μ-loop : tie.MeasureT-loop
+μ-loop state n q voted count₀ p₀ count p = n - p
+
+loop-holds : tie.Need-loop-holds Inv-loop μ-loop
+loop-holds c = (omega arith, sym (count-none _))
+
+add-cell-at : tie.Need-add-cell-at Inv-loop μ-loop
+add-cell-at c = search needs
+
+cell-at-requires : tie.Need-cell-at-requires Inv-loop μ-loop
+cell-at-requires c κs = (omega arith, omega arith, omega (arith, c .before .before .before .pre .0 .high))
+
+mul-t11 : tie.Need-mul-t11 Inv-loop μ-loop
+mul-t11 c = search needs
+
+shared-slice-read-t10 : tie.Need-shared-slice-read-t10 Inv-loop μ-loop
+shared-slice-read-t10 c = search needs
+
+has-requires : tie.Need-has-requires Inv-loop μ-loop
+has-requires c κs = omega (arith, c .before .before .before .before .before .pre .3, leader-small (c .before .before .before .before .before .args .n) (c .before .before .before .before .before .args .q) (omega arith))
+
+add-count : tie.Need-add-count Inv-loop μ-loop
+add-count c = omega (arith, c .before .before .before .before .before .loop .inv .1, count-le (c .before .before .before .before .before .loop .p) (λ m. votes (c .before .before .before .before .before .before .before .args .n) (c .before .before .before .before .before .before .before .args .q) (vertices (c .before .before .before .before .before .before .before .args .state .now) (suc (c .before .before .before .before .before .before .before .args .q)) m)), c .before .before .before .before .before .before .before .pre .0 .high)
+
+add-p : tie.Need-add-p Inv-loop μ-loop
+add-p c = search needs
+
+loop-less : tie.Need-loop-less Inv-loop μ-loop
+loop-less c = search needs
+
+loop-again : tie.Need-loop-again Inv-loop μ-loop
+loop-again c = let t : ℕ → Bool = λ m. votes (c .before .before .before .before .before .before .before .args .n) (c .before .before .before .before .before .before .before .args .q) (vertices (c .before .before .before .before .before .before .before .args .state .now) (suc (c .before .before .before .before .before .before .before .args .q)) m) in
+    let e = sym (rw (c .before .before .before .before .before .before .before .pre .3) at (c .before .has .ensures)) in
+    let d = vertex-vote _ (c .before .before .before .before .before .before .before .pre .0) (c .before .before .before .before .before .before .before .args .n) (c .before .before .before .before .before .before .before .args .q) (c .before .before .before .before .before .loop .p) (c .before .before .before .cell-at .result) (c .before .before .before .before .before .before .before .pre .2) (omega (arith, c .before .before .before .before .before .before .before .pre .0 .high)) (c .before .before .before .cell-at .ensures) in (
+      omega arith,
+      ⊎-elim
+          (λ v. v .1 ∙ ap (λ (x : ℕ). x + 1) (c .before .before .before .before .before .loop .inv .1) ∙ sym (count-more (c .before .before .before .before .before .loop .p) t (sym d ∙ (e ∙ v .0 .taken))))
+          (λ v. v .1 ∙ c .before .before .before .before .before .loop .inv .1 ∙ sym (count-same (c .before .before .before .before .before .loop .p) t (sym d ∙ (e ∙ v .0 .left))))
+          (c .if1 .came),
+    )
+
+returns : tie.Need-returns Inv-loop μ-loop
+returns c = let e : c .before .loop .p ≡ c .before .before .before .args .n = omega arith in rw e at (c .before .loop .inv .1)
+
+pub vertex-votes-spec : {M : Type 1} → statement M
+vertex-votes-spec =
+    tie.close
+    (tie.spec
+    Inv-loop
+    μ-loop
+    loop-holds
+    add-cell-at
+    cell-at-requires
+    mul-t11
+    shared-slice-read-t10
+    has-requires
+    add-count
+    add-p
+    loop-less
+    loop-again
+    returns)

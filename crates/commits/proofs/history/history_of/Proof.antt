@@ -1,0 +1,94 @@
+use Rattle.commits.proofs.Laws.{history-start}
+use Rattle.protocol.specs.Masks.{fill, join, historyMasks}
+use Rattle.replica.specs.State.{vertices}
+use Rattle.commits.proofs.Laws.{fill-none, fill-step}
+use mathlib.Core.Path.{_≡_, refl, sym, ap, _∙_}
+use mathlib.Core.List.{List}
+use Prim.Native.Nat.{ℕ, _+_, _≤_, _-_}
+use native.Mathlib.Omega.{arith}
+use borrow.Author.Needs.{needs}
+use Rattle.commits.proofs.history.history_of.Statement.{statement}
+use Rattle.commits.proofs.history.history_of.Tie as tie
+use Rattle.commits.proofs.history.history_of.Reads as reads
+use Rattle.commits.proofs.history.history_of.Lts as lts
+use Rattle.commits.proofs.history.join_round.Reads as join-round-reads
+use Rattle.record.proofs.members.power.Reads as power-reads
+use Rattle.replica.proofs.layout.wide.Reads as wide-reads
+
+abbrev Inv-loop : tie.InvT-loop
+Inv-loop state n round member masks₀ at k₀ masks k = (k ≤ 31) × (historyMasks n (vertices state) round member ≡ fill n (vertices state) masks k)
+
+abbrev μ-loop : tie.MeasureT-loop
+μ-loop state n round member masks₀ at k₀ masks k = k
+
+sub-wide : tie.Need-sub-wide Inv-loop μ-loop
+sub-wide c = search needs
+
+wide-requires : tie.Need-wide-requires Inv-loop μ-loop
+wide-requires c κs = search needs
+
+mul-masks : tie.Need-mul-masks Inv-loop μ-loop
+mul-masks c = search needs
+
+array-read-masks : tie.Need-array-read-masks Inv-loop μ-loop
+array-read-masks c = search needs
+
+power-requires : tie.Need-power-requires Inv-loop μ-loop
+power-requires c κs = search needs
+
+mul-masks-2 : tie.Need-mul-masks-2 Inv-loop μ-loop
+mul-masks-2 c = search needs
+
+array-write-masks : tie.Need-array-write-masks Inv-loop μ-loop
+array-write-masks c = search needs
+
+sub-k : tie.Need-sub-k Inv-loop μ-loop
+sub-k c = search needs
+
+loop-holds : tie.Need-loop-holds Inv-loop μ-loop
+loop-holds c = (omega arith, history-start _ _ _ _ _ _ (c .before .wide .ensures ∙ omega arith) (c .power .ensures))
+
+add-join-round : tie.Need-add-join-round Inv-loop μ-loop
+add-join-round c = search needs
+
+join-round-requires : tie.Need-join-round-requires Inv-loop μ-loop
+join-round-requires c κs = search needs
+
+sub-k-2 : tie.Need-sub-k-2 Inv-loop μ-loop
+sub-k-2 c = search needs
+
+loop-less : tie.Need-loop-less Inv-loop μ-loop
+loop-less c = search needs
+
+loop-again : tie.Need-loop-again Inv-loop μ-loop
+loop-again c = (
+  omega arith,
+  c .before .before .before .loop .inv .1 ∙ fill-step _ _ _ _ (c .before .before .loop-test .taken)
+      ∙ ap (λ (h : List ℕ). fill (c .before .before .before .before .before .before .before .args .n) (vertices (c .before .before .before .before .before .before .before .args .state .now)) h (c .before .before .before .loop .k - 1)) (sym (c .join-round .ensures)),
+)
+
+returns : tie.Need-returns Inv-loop μ-loop
+returns c = let e : c .before .loop .k ≡ 0 = omega arith in
+    sym (c .before .loop .inv .1 ∙ ap (fill (c .before .before .before .before .before .args .n) (vertices (c .before .before .before .before .before .args .state .now)) (c .before .loop .masks)) e ∙ fill-none _ _ _)
+
+pub history-of-spec : {M : Type 1} → statement M
+history-of-spec =
+    tie.close
+    (tie.spec
+    Inv-loop
+    μ-loop
+    sub-wide
+    wide-requires
+    mul-masks
+    array-read-masks
+    power-requires
+    mul-masks-2
+    array-write-masks
+    sub-k
+    loop-holds
+    add-join-round
+    join-round-requires
+    sub-k-2
+    loop-less
+    loop-again
+    returns)

@@ -1,0 +1,86 @@
+use Rattle.protocol.specs.Masks.{joinParents}
+use Rattle.record.specs.Members.{has}
+use mathlib.Core.List.{List}
+use mathlib.Core.Path.{ap₂}
+use lib.ListN.{getD}
+use Prim.Native.Nat.{_+_}
+use Rattle.protocol.specs.Masks.{joinRound}
+use Rattle.replica.specs.State.{vertices}
+use Rattle.commits.proofs.Laws.{join-round-none, join-round-in, join-round-out}
+use mathlib.Core.Path.{_≡_, refl, sym, ap, _∙_}
+use mathlib.Core.Logic.{⊎-elim}
+use Prim.Native.Nat.{ℕ, _≤_, _-_}
+use native.Mathlib.Omega.{arith}
+use borrow.Author.Needs.{needs}
+use Rattle.commits.proofs.history.join_round.Statement.{statement}
+use Rattle.commits.proofs.history.join_round.Tie as tie
+use Rattle.commits.proofs.history.join_round.Reads as reads
+use Rattle.commits.proofs.history.join_round.Lts as lts
+use Rattle.commits.proofs.history.join_parents.Reads as join-parents-reads
+use Rattle.record.proofs.members.Members.has.Reads as has-reads
+use Rattle.replica.proofs.layout.wide.Reads as wide-reads
+
+abbrev Inv-loop : tie.InvT-loop
+Inv-loop state n masks₀ round at p₀ masks p = (p ≤ n) × (masks ≡ joinRound (vertices state) masks₀ round p)
+
+abbrev μ-loop : tie.MeasureT-loop
+μ-loop state n masks₀ round at p₀ masks p = n - p
+
+sub-wide : tie.Need-sub-wide Inv-loop μ-loop
+sub-wide c = search needs
+
+wide-requires : tie.Need-wide-requires Inv-loop μ-loop
+wide-requires c κs = search needs
+
+loop-holds : tie.Need-loop-holds Inv-loop μ-loop
+loop-holds c = (omega arith, join-round-none _ _ _)
+
+mul-t10 : tie.Need-mul-t10 Inv-loop μ-loop
+mul-t10 c = search needs
+
+element-copy-out-t13 : tie.Need-element-copy-out-t13 Inv-loop μ-loop
+element-copy-out-t13 c = search needs
+
+has-requires : tie.Need-has-requires Inv-loop μ-loop
+has-requires c κs = omega (arith, c .before .before .before .before .before .pre .0 .high)
+
+join-parents-requires : tie.Need-join-parents-requires Inv-loop μ-loop
+join-parents-requires c κs = (c .before .before .before .before .before .before .before .before .pre .0, search needs, search needs, omega (arith, c .before .before .before .before .before .before .before .before .pre .0 .high))
+
+add-p : tie.Need-add-p Inv-loop μ-loop
+add-p c = search needs
+
+loop-less : tie.Need-loop-less Inv-loop μ-loop
+loop-less c = search needs
+
+loop-again : tie.Need-loop-again Inv-loop μ-loop
+loop-again c = let v = vertices (c .before .before .before .before .before .before .before .args .state .now) in
+    let e = sym (c .before .has .ensures ∙ ap₂ (λ (h : List ℕ) (k : ℕ). has (getD h k 0) (c .before .before .before .before .loop .p)) (c .before .before .before .before .loop .inv .1) (c .before .before .before .before .before .wide .ensures)) in (
+      omega arith,
+      ⊎-elim
+          (λ t. t .3 ∙ t .2 .ensures ∙ ap (λ (h : List ℕ). joinParents v h (c .before .before .before .before .before .before .before .args .round) (c .before .before .before .before .loop .p)) (c .before .before .before .before .loop .inv .1)
+          ∙ join-round-in v (c .before .before .before .before .before .before .before .args .masks .now) (c .before .before .before .before .before .before .before .args .round) (c .before .before .before .before .loop .p) (e ∙ t .0 .taken))
+          (λ t. t .1 ∙ c .before .before .before .before .loop .inv .1 ∙ join-round-out v (c .before .before .before .before .before .before .before .args .masks .now) (c .before .before .before .before .before .before .before .args .round) (c .before .before .before .before .loop .p) (e ∙ t .0 .left))
+          (c .if1 .came),
+    )
+
+returns : tie.Need-returns Inv-loop μ-loop
+returns c = let e : c .before .loop .p ≡ c .before .before .before .before .args .n = omega arith in rw e at (c .before .loop .inv .1)
+
+pub join-round-spec : {M : Type 1} → statement M
+join-round-spec =
+    tie.close
+    (tie.spec
+    Inv-loop
+    μ-loop
+    sub-wide
+    wide-requires
+    loop-holds
+    mul-t10
+    element-copy-out-t13
+    has-requires
+    join-parents-requires
+    add-p
+    loop-less
+    loop-again
+    returns)

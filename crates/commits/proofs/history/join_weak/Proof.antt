@@ -1,0 +1,108 @@
+use Rattle.commits.proofs.Laws.{weak-few}
+use Rattle.record.specs.Layout.{weakOf}
+use Rattle.replica.specs.Layout.{cellAt}
+use Rattle.protocol.specs.Masks.{join}
+use Prim.Native.Nat.{_+_, _/_, _%_, _^_}
+use mathlib.Core.List.{List}
+use mathlib.Core.Path.{ap₂}
+use lib.ListN.{getD}
+use Rattle.protocol.specs.Masks.{joinWeak}
+use Rattle.record.specs.Layout.{weakCountOf}
+use Rattle.replica.specs.State.{vertices}
+use Rattle.commits.proofs.Laws.{weak-count-word, weak-word, weak-range, join-weak-none, join-weak-more}
+use mathlib.Core.Path.{_≡_, refl, sym, ap, _∙_}
+use Prim.Native.Nat.{ℕ, _≤_, _-_}
+use native.Mathlib.Omega.{arith}
+use borrow.Author.Needs.{needs}
+use Rattle.commits.proofs.history.join_weak.Statement.{statement}
+use Rattle.commits.proofs.history.join_weak.Tie as tie
+use Rattle.commits.proofs.history.join_weak.Reads as reads
+use Rattle.commits.proofs.history.join_weak.Lts as lts
+use Rattle.commits.proofs.history.join_id.Reads as join-id-reads
+use Rattle.replica.proofs.layout.cell_at.Reads as cell-at-reads
+use Rattle.replica.proofs.layout.wide.Reads as wide-reads
+
+abbrev Inv-loop : tie.InvT-loop
+Inv-loop state masks₀ round member at count i₀ masks i = (i ≤ count) × (count ≡ weakCountOf (vertices state round member)) × (count ≤ 5) × (masks ≡ joinWeak masks₀ (vertices state round member) i)
+
+abbrev μ-loop : tie.MeasureT-loop
+μ-loop state masks₀ round member at count i₀ masks i = count - i
+
+cell-at-requires : tie.Need-cell-at-requires Inv-loop μ-loop
+cell-at-requires c κs = search needs
+
+add-wide : tie.Need-add-wide Inv-loop μ-loop
+add-wide c = search needs
+
+mul-wide : tie.Need-mul-wide Inv-loop μ-loop
+mul-wide c = search needs
+
+shared-slice-read-wide : tie.Need-shared-slice-read-wide Inv-loop μ-loop
+shared-slice-read-wide c = search needs
+
+wide-requires : tie.Need-wide-requires Inv-loop μ-loop
+wide-requires c κs = search needs
+
+loop-holds : tie.Need-loop-holds Inv-loop μ-loop
+loop-holds c = let e = c .wide .ensures ∙ ap (λ (x : ℕ). getD (c .before .before .before .before .args .state .now) (x + 4) 0) (c .before .before .cell-at .ensures)
+    ∙ sym (weak-count-word _ (c .before .before .before .before .pre .0) _ _ (c .before .before .before .before .pre .1) (c .before .before .before .before .pre .2) (c .before .before .before .before .pre .3)) in
+    (omega arith, e, omega (arith, e, weak-few _ (c .before .before .before .before .pre .0) (c .before .before .before .before .args .round) (c .before .before .before .before .args .member)), join-weak-none _ _)
+
+add-join-id : tie.Need-add-join-id Inv-loop μ-loop
+add-join-id c = search needs
+
+add-join-id-2 : tie.Need-add-join-id-2 Inv-loop μ-loop
+add-join-id-2 c = search needs
+
+mul-join-id : tie.Need-mul-join-id Inv-loop μ-loop
+mul-join-id c = search needs
+
+shared-slice-read-join-id : tie.Need-shared-slice-read-join-id Inv-loop μ-loop
+shared-slice-read-join-id c = omega (arith, c .before .before .before .before .before .before .cell-at .ensures, c .before .before .before .before .before .before .before .before .pre .0 .size)
+
+join-id-requires : tie.Need-join-id-requires Inv-loop μ-loop
+join-id-requires c κs = let w = weak-range _ (c .before .before .before .before .before .before .before .before .pre .0) (c .before .before .before .before .before .before .before .before .args .round) (c .before .before .before .before .before .before .before .before .args .member) (c .before .before .before .loop .i) (omega (arith, c .before .before .before .loop .inv .1)) in
+    let e = ap (λ (x : ℕ). getD (c .before .before .before .before .before .before .before .before .args .state .now) (x + (5 + c .before .before .before .loop .i)) 0) (c .before .before .before .before .before .before .cell-at .ensures)
+    ∙ sym (weak-word _ (c .before .before .before .before .before .before .before .before .pre .0) _ _ (c .before .before .before .before .before .before .before .before .pre .1) (c .before .before .before .before .before .before .before .before .pre .2) (c .before .before .before .before .before .before .before .before .pre .3) (c .before .before .before .loop .i) (w .0)) in
+    (omega (arith, e, w .1), omega (arith, e, w .2))
+
+add-i : tie.Need-add-i Inv-loop μ-loop
+add-i c = search needs
+
+loop-less : tie.Need-loop-less Inv-loop μ-loop
+loop-less c = search needs
+
+loop-again : tie.Need-loop-again Inv-loop μ-loop
+loop-again c = let w = weak-range _ (c .before .before .before .before .before .before .before .before .before .pre .0) (c .before .before .before .before .before .before .before .before .before .args .round) (c .before .before .before .before .before .before .before .before .before .args .member) (c .before .before .before .before .loop .i) (omega (arith, c .before .before .before .before .loop .inv .1)) in
+    let e = ap (λ (x : ℕ). getD (c .before .before .before .before .before .before .before .before .before .args .state .now) (x + (5 + c .before .before .before .before .loop .i)) 0) (c .before .before .before .before .before .before .before .cell-at .ensures)
+    ∙ sym (weak-word _ (c .before .before .before .before .before .before .before .before .before .pre .0) _ _ (c .before .before .before .before .before .before .before .before .before .pre .1) (c .before .before .before .before .before .before .before .before .before .pre .2) (c .before .before .before .before .before .before .before .before .before .pre .3) (c .before .before .before .before .loop .i) (w .0)) in (
+      omega arith,
+      c .before .before .before .before .loop .inv .1,
+      c .before .before .before .before .loop .inv .2,
+      c .join-id .ensures ∙ ap₂ (λ (h : List ℕ) (y : ℕ). join h (y / 16) (2 ^ (y % 16))) (c .before .before .before .before .loop .inv .3) e ∙ join-weak-more _ _ _,
+    )
+
+returns : tie.Need-returns Inv-loop μ-loop
+returns c = let e : c .before .loop .i ≡ weakCountOf (vertices (c .before .before .before .before .before .before .args .state .now) (c .before .before .before .before .before .before .args .round) (c .before .before .before .before .before .before .args .member)) = omega (arith, c .before .loop .inv .1) in rw e at (c .before .loop .inv .3)
+
+pub join-weak-spec : {M : Type 1} → statement M
+join-weak-spec =
+    tie.close
+    (tie.spec
+    Inv-loop
+    μ-loop
+    cell-at-requires
+    add-wide
+    mul-wide
+    shared-slice-read-wide
+    wide-requires
+    loop-holds
+    add-join-id
+    add-join-id-2
+    mul-join-id
+    shared-slice-read-join-id
+    join-id-requires
+    add-i
+    loop-less
+    loop-again
+    returns)

@@ -1,0 +1,76 @@
+use mathlib.Core.Path.{ap₂}
+use lib.ListN.{getD}
+use Prim.Native.Nat.{ℕ}
+use Rattle.commits.proofs.Laws.{strong-word}
+use mathlib.Core.Logic.{⊎-elim}
+use lib.Bits.{bitOr}
+use Rattle.commits.proofs.Laws.{parents-none, parents-in, parents-out}
+use Rattle.protocol.specs.Masks.{parents}
+use Rattle.replica.specs.State.{vertices}
+use mathlib.Core.Path.{_≡_, refl, _∙_, sym, ap}
+use native.Mathlib.Omega.{arith}
+use Prim.Native.Nat.{_≤_, _-_}
+use borrow.Author.Needs.{needs}
+use Rattle.commits.proofs.walk.parents_of.Statement.{statement}
+use Rattle.commits.proofs.walk.parents_of.Tie as tie
+use Rattle.commits.proofs.walk.parents_of.Reads as reads
+use Rattle.commits.proofs.walk.parents_of.Lts as lts
+use Rattle.record.proofs.members.Members.has.Reads as has-reads
+use Rattle.replica.proofs.layout.cell_at.Reads as cell-at-reads
+
+abbrev Inv-loop : tie.InvT-loop
+Inv-loop state n round mask members joined₀ p₀ joined p = (p ≤ n) × (joined ≡ parents (vertices state) round mask p)
+
+abbrev μ-loop : tie.MeasureT-loop
+μ-loop state n round mask members joined₀ p₀ joined p = n - p
+
+loop-holds : tie.Need-loop-holds Inv-loop μ-loop
+loop-holds c = (omega arith, sym (parents-none _ _ _))
+
+has-requires : tie.Need-has-requires Inv-loop μ-loop
+has-requires c κs = omega (arith, c .before .before .before .pre .0 .high)
+
+cell-at-requires : tie.Need-cell-at-requires Inv-loop μ-loop
+cell-at-requires c κs = (search needs, search needs, omega (arith, c .before .before .before .before .before .pre .0 .high))
+
+mul-joined : tie.Need-mul-joined Inv-loop μ-loop
+mul-joined c = search needs
+
+shared-slice-read-joined : tie.Need-shared-slice-read-joined Inv-loop μ-loop
+shared-slice-read-joined c = omega (arith, c .before .cell-at .ensures, c .before .before .before .before .before .before .before .pre .0 .high, c .before .before .before .before .before .before .before .pre .0 .size)
+
+add-p : tie.Need-add-p Inv-loop μ-loop
+add-p c = search needs
+
+loop-less : tie.Need-loop-less Inv-loop μ-loop
+loop-less c = search needs
+
+loop-again : tie.Need-loop-again Inv-loop μ-loop
+loop-again c = let inv = c .before .before .before .loop .inv .1 in (
+  omega arith,
+  ⊎-elim
+      (λ v. v .3 ∙ ap₂ bitOr inv (ap (λ (x : ℕ). getD (c .before .before .before .before .before .args .state .now) x 0) (v .1 .ensures)
+      ∙ sym (strong-word _ (c .before .before .before .before .before .pre .0) (c .before .before .before .before .before .args .round) (c .before .before .before .loop .p) (c .before .before .before .before .before .pre .2) (c .before .before .before .before .before .pre .3) (omega (arith, c .before .before .before .before .before .pre .0 .high))))
+      ∙ sym (parents-in (vertices (c .before .before .before .before .before .args .state .now)) (c .before .before .before .before .before .args .round) (c .before .before .before .before .before .args .mask) (c .before .before .before .loop .p) (sym (c .before .has .ensures) ∙ v .0 .taken)))
+      (λ v. v .1 ∙ inv ∙ sym (parents-out (vertices (c .before .before .before .before .before .args .state .now)) (c .before .before .before .before .before .args .round) (c .before .before .before .before .before .args .mask) (c .before .before .before .loop .p) (sym (c .before .has .ensures) ∙ v .0 .left)))
+      (c .if1 .came),
+)
+
+returns : tie.Need-returns Inv-loop μ-loop
+returns c = let e : c .before .loop .p ≡ c .before .before .before .args .n = omega arith in rw e at (c .before .loop .inv .1)
+
+pub parents-of-spec : {M : Type 1} → statement M
+parents-of-spec =
+    tie.close
+    (tie.spec
+    Inv-loop
+    μ-loop
+    loop-holds
+    has-requires
+    cell-at-requires
+    mul-joined
+    shared-slice-read-joined
+    add-p
+    loop-less
+    loop-again
+    returns)

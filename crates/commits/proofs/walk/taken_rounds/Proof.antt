@@ -1,0 +1,110 @@
+use Rattle.commits.proofs.Walking.{walked-as}
+use Rattle.record.specs.Members.{has}
+use lib.Bits.{bitOr}
+use Prim.Native.Nat.{_^_}
+use Rattle.record.specs.Members.{leader}
+use Rattle.commits.proofs.Walking.{Walked, start, take-leader, pass-leader, finish}
+use Rattle.replica.specs.State.{vertices}
+use Rattle.record.proofs.Masks.{leader-small}
+use mathlib.Core.Path.{_≡_, refl, sym, ap, _∙_}
+use mathlib.Core.Logic.{⊎-elim}
+use Prim.Native.Nat.{ℕ, _+_, _≤_, _<_, _-_}
+use native.Mathlib.Omega.{arith}
+use borrow.Author.Needs.{needs}
+use Rattle.commits.proofs.walk.taken_rounds.Statement.{statement}
+use Rattle.commits.proofs.walk.taken_rounds.Tie as tie
+use Rattle.commits.proofs.walk.taken_rounds.Reads as reads
+use Rattle.commits.proofs.walk.taken_rounds.Lts as lts
+use Rattle.commits.proofs.walk.parents_of.Reads as parents-of-reads
+use Rattle.record.proofs.members.Members.has.Reads as has-reads
+use Rattle.record.proofs.members.leader_of.Reads as leader-of-reads
+use Rattle.record.proofs.members.power.Reads as power-reads
+
+abbrev Inv-loop : tie.InvT-loop
+Inv-loop state n low q taken₀ reached₀ t₀ taken reached t = (t < q) × Walked n (vertices state) low q t taken reached
+
+abbrev μ-loop : tie.MeasureT-loop
+μ-loop state n low q taken₀ reached₀ t₀ taken reached t = t
+
+power-requires : tie.Need-power-requires Inv-loop μ-loop
+power-requires c κs = search needs
+
+leader-of-requires : tie.Need-leader-of-requires Inv-loop μ-loop
+leader-of-requires c κs = search needs
+
+power-requires-2 : tie.Need-power-requires-2 Inv-loop μ-loop
+power-requires-2 c κs = omega (arith, c .leader-of .ensures, leader-small (c .before .before .before .args .n) (c .before .before .before .args .q) (omega arith))
+
+sub-t : tie.Need-sub-t Inv-loop μ-loop
+sub-t c = search needs
+
+loop-holds : tie.Need-loop-holds Inv-loop μ-loop
+loop-holds c = (
+  omega arith,
+  rw (c .before .before .power .ensures, c .power2 .ensures, c .before .leader-of .ensures)
+      (start (c .before .before .before .before .args .n) (omega (arith, c .before .before .before .before .pre .0 .low)) (vertices (c .before .before .before .before .args .state .now)) (rw (c .before .before .before .before .pre .1) (c .before .before .before .before .pre .0 .formed)) (c .before .before .before .before .args .low) (c .before .before .before .before .args .q) (c .before .before .before .before .pre .3) (c .before .before .before .before .pre .2) (c .before .before .before .before .pre .4)),
+)
+
+add-parents-of : tie.Need-add-parents-of Inv-loop μ-loop
+add-parents-of c = search needs
+
+parents-of-requires : tie.Need-parents-of-requires Inv-loop μ-loop
+parents-of-requires c κs = search needs
+
+leader-of-requires-2 : tie.Need-leader-of-requires-2 Inv-loop μ-loop
+leader-of-requires-2 c κs = search needs
+
+has-requires : tie.Need-has-requires Inv-loop μ-loop
+has-requires c κs = omega (arith, c .leader-of2 .ensures, leader-small (c .before .before .before .before .before .before .before .before .args .n) (c .before .before .before .loop .t) (omega arith))
+
+power-requires-3 : tie.Need-power-requires-3 Inv-loop μ-loop
+power-requires-3 c κs = search needs
+
+power-requires-4 : tie.Need-power-requires-4 Inv-loop μ-loop
+power-requires-4 c κs = omega (arith, c .before .before .before .leader-of2 .ensures, leader-small (c .before .before .before .before .before .before .before .before .before .before .before .args .n) (c .before .before .before .before .before .before .loop .t) (omega arith))
+
+sub-t-2 : tie.Need-sub-t-2 Inv-loop μ-loop
+sub-t-2 c = search needs
+
+loop-less : tie.Need-loop-less Inv-loop μ-loop
+loop-less c = search needs
+
+loop-again : tie.Need-loop-again Inv-loop μ-loop
+loop-again c = let v = vertices (c .before .before .before .before .before .before .before .before .before .before .args .state .now) in
+    let h = sym (rw (c .before .before .leader-of2 .ensures) at (c .before .has .ensures)) in (
+      omega arith,
+      ⊎-elim
+          (λ b. walked-as _ v _ _ _ _ _ _ _ (b .3 ∙ ap (bitOr (c .before .before .before .before .before .loop .taken)) (b .1 .ensures)) (b .4 ∙ b .2 .ensures ∙ ap (λ (x : ℕ). 2 ^ x) (c .before .before .leader-of2 .ensures))
+          (take-leader (c .before .before .before .before .before .before .before .before .before .before .args .n) (omega (arith, c .before .before .before .before .before .before .before .before .before .before .pre .0 .low)) v (rw (c .before .before .before .before .before .before .before .before .before .before .pre .1) (c .before .before .before .before .before .before .before .before .before .before .pre .0 .formed)) (c .before .before .before .before .before .before .before .before .before .before .args .low) (c .before .before .before .before .before .before .before .before .before .before .args .q) (c .before .before .before .before .before .before .before .before .before .before .pre .3)
+          (c .before .before .before .before .before .loop .t) (c .before .before .before .before .before .loop .taken) (c .before .before .before .before .before .loop .reached) (c .before .before .before .parents-of .result) (c .before .before .before .before .loop-test .taken) (c .before .before .before .before .before .loop .inv .1) (c .before .before .before .parents-of .ensures) (h ∙ b .0 .taken)))
+          (λ b. walked-as _ v _ _ _ _ _ _ _ (b .1) (b .2)
+          (pass-leader (c .before .before .before .before .before .before .before .before .before .before .args .n) (omega (arith, c .before .before .before .before .before .before .before .before .before .before .pre .0 .low)) v (rw (c .before .before .before .before .before .before .before .before .before .before .pre .1) (c .before .before .before .before .before .before .before .before .before .before .pre .0 .formed)) (c .before .before .before .before .before .before .before .before .before .before .args .low) (c .before .before .before .before .before .before .before .before .before .before .args .q) (c .before .before .before .before .before .before .before .before .before .before .pre .3)
+          (c .before .before .before .before .before .loop .t) (c .before .before .before .before .before .loop .taken) (c .before .before .before .before .before .loop .reached) (c .before .before .before .parents-of .result) (c .before .before .before .before .loop-test .taken) (c .before .before .before .before .before .loop .inv .1) (c .before .before .before .parents-of .ensures) (h ∙ b .0 .left)))
+          (c .if1 .came),
+    )
+
+returns : tie.Need-returns Inv-loop μ-loop
+returns c = finish (c .before .before .before .before .before .before .args .n) (omega (arith, c .before .before .before .before .before .before .pre .0 .low)) (vertices (c .before .before .before .before .before .before .args .state .now)) (rw (c .before .before .before .before .before .before .pre .1) (c .before .before .before .before .before .before .pre .0 .formed)) (c .before .before .before .before .before .before .args .low) (c .before .before .before .before .before .before .args .q) (c .before .before .before .before .before .before .pre .3)
+    (c .before .loop .t) (c .before .loop .taken) (c .before .loop .reached) (omega arith) (c .before .loop .inv .1)
+
+pub taken-rounds-spec : {M : Type 1} → statement M
+taken-rounds-spec =
+    tie.close
+    (tie.spec
+    Inv-loop
+    μ-loop
+    power-requires
+    leader-of-requires
+    power-requires-2
+    sub-t
+    loop-holds
+    add-parents-of
+    parents-of-requires
+    leader-of-requires-2
+    has-requires
+    power-requires-3
+    power-requires-4
+    sub-t-2
+    loop-less
+    loop-again
+    returns)

@@ -1,0 +1,38 @@
+-- What the commits rely on in a state while they change its lists: every well-formed state has it, and no change of a list takes it away.
+use mathlib.Core.Path.{_≡_}
+use mathlib.Core.Bool.{true, cond, not, _&&_}
+use mathlib.Core.List.{List}
+use Prim.Native.Nat.{ℕ, zero, suc, _+_, _^_, _≤_, _<_}
+use lib.ListN.{length, getD}
+use Rattle.record.specs.Below.{count}
+use Rattle.record.specs.Members.{legal, has, idOf, idMember}
+use Rattle.protocol.specs.Journal.{idLimit}
+use Rattle.protocol.specs.Premises.{WellFormed}
+use Rattle.replica.specs.Layout.{stateSize, cellAt}
+use Rattle.replica.specs.State.{memberCount, heldMask, heardMask, votesMask, journalCount, vertices, orderedId}
+use Rattle.commits.specs.Commit.{enter}
+
+pub record Standing (l : List ℕ) : Type 0 where
+  pub size : length l ≡ stateSize
+  pub members : legal (memberCount l) ≡ true
+  pub low : 4 ≤ memberCount l
+  pub high : memberCount l ≤ 16
+  -- the vertices are well formed, and their words are those of the cells
+  pub formed : WellFormed (memberCount l) (vertices l)
+  pub words : (r p i : ℕ) → 1 ≤ r → r ≤ 32 → p < 16 → i < 10 → getD (vertices l r p) i 0 ≡ getD l (cellAt r p + i) 0
+  pub held-low : (r : ℕ) → 1 ≤ r → r ≤ 32 → heldMask l r < 2 ^ memberCount l
+  pub votes-low : (r : ℕ) → 1 ≤ r → r ≤ 32 → votesMask l r < 2 ^ memberCount l
+  pub votes-heard : (r p : ℕ) → 1 ≤ r → r ≤ 32 → has (votesMask l r) p ≡ true → has (heardMask l r) p ≡ true
+
+-- there is room in the journal for every vertex that is not yet ordered
+abbrev pub Room : List ℕ → Type 0
+Room l = journalCount l ≤ count idLimit (orderedId l)
+
+-- the vertex with the id y joins the journal if the mask has its member and it is not yet ordered
+unfoldable pub orderId : List ℕ → ℕ → ℕ → List ℕ
+orderId l mask y = cond (has mask (idMember y) && not (orderedId l y)) (enter l y) l
+
+-- so for the vertices of round r and the members below k, by rising member
+unfoldable pub orderRound : List ℕ → ℕ → ℕ → ℕ → List ℕ
+orderRound l mask r zero = l
+orderRound l mask r (suc k) = orderId (orderRound l mask r k) mask (idOf r k)

@@ -1,0 +1,207 @@
+// The commits: which rounds are committable, and what committing one writes.
+ghost use mathlib.Core.Path.{_≡_};
+ghost use mathlib.Core.Bool.{true, false};
+ghost use Prim.Native.Nat.{ℕ, suc, _<_, _≤_};
+ghost use lib.ListN.{length};
+ghost use Rattle.record.specs.Below.{count, select};
+ghost use Rattle.record.specs.Members.{leader, has};
+ghost use Rattle.protocol.specs.Dag.{held, votes, committed};
+ghost use Rattle.replica.specs.Layout.{stateSize};
+ghost use Rattle.replica.specs.State.{memberCount, committedRound, leaderCount, journalCount, vertices, dag, orderedId};
+ghost use Rattle.commits.specs.Commit.{appendLeader, appendLeaders, enter, orderLeader, orderLeaders, commit, committable, lowest, commitAll};
+ghost use Rattle.commits.specs.Standing.{Standing, Room, orderId, orderRound};
+use super::history::history_of;
+use super::walk::taken_rounds;
+use record::members::Members;
+use record::members::leader_of;
+use record::members::power;
+use record::members::quorum_of;
+use replica::layout::COMMITTED_ROUND;
+use replica::layout::JOURNAL;
+use replica::layout::JOURNAL_COUNT;
+use replica::layout::LEADER_COUNT;
+use replica::layout::LEADERS;
+use replica::layout::ORDERED;
+use replica::layout::SLOTS;
+use replica::layout::cell_at;
+use replica::layout::held_mask;
+use replica::layout::is_ordered;
+use replica::layout::masks_at;
+use replica::layout::ordered_mask;
+use replica::layout::votes_mask;
+use replica::layout::wide;
+
+// How many vertices of round q + 1 vote for the leader of round q.
+fn vertex_votes(state: &[u32], n: u32, q: u32, voted: u32) -> u32
+    requires { ⌜ Standing (now state) × (n ≡ memberCount (now state)) × (q ≤ 31) × (voted ≡ leader n q) ⌝ }
+    ensures { λ r. ⌜ r ≡ count n (λ p. votes n q (vertices (now (state .entry)) (suc q) p)) ⌝ }
+{
+    let mut count: u32 = 0;
+    let mut p: u32 = 0;
+    while p < n {
+        let at = cell_at(q + 1, p);
+        let strong = Members { bits: state[at], n };
+        if strong.has(voted) {
+            count += 1;
+        }
+        p += 1;
+    }
+    count
+}
+
+// Round q is committed directly: its leader's vertex is held, and a quorum of first messages or of vertices votes for it.
+fn is_committed(state: &[u32], n: u32, q: u32) -> bool
+    requires { ⌜ Standing (now state) × (n ≡ memberCount (now state)) × (1 ≤ q) × (q ≤ 31) ⌝ }
+    ensures { λ r. ⌜ r ≡ committed n (dag (now (state .entry))) q ⌝ }
+{
+    let leader = leader_of(n, q);
+    let held = Members {
+        bits: held_mask(state, q),
+        n,
+    };
+    if !held.has(leader) {
+        return false;
+    }
+    let votes = Members {
+        bits: votes_mask(state, q + 1),
+        n,
+    };
+    if votes.meets_quorum() {
+        return true;
+    }
+    quorum_of(n) <= vertex_votes(state, n, q, leader)
+}
+
+// The lowest committable round, 32 if there is none.
+fn lowest_committable(state: &[u32], n: u32) -> u32
+    requires { ⌜ Standing (now state) × (n ≡ memberCount (now state)) × (committedRound (now state) ≤ 31) ⌝ }
+    ensures { λ r. ⌜ r ≡ lowest (now (state .entry)) ⌝ }
+{
+    let mut q: u32 = state[COMMITTED_ROUND] + 1;
+    while q < 32 {
+        if is_committed(state, n, q) {
+            return q;
+        }
+        q += 1;
+    }
+    32
+}
+
+// The leader of the round joins the leader list.
+fn append_leader(state: &mut [u32], n: u32, round: u32)
+    requires { ⌜ (length (now state) ≡ stateSize) × (n ≡ memberCount (now state)) × (0 < n) × (1 ≤ round) × (round ≤ 31) × (leaderCount (now state) < 100) ⌝ }
+    ensures { λ _. ⌜ now (state .exit) ≡ appendLeader (now (state .entry)) round ⌝ }
+{
+    let count = state[LEADER_COUNT];
+    let id = 16 * round + leader_of(n, round);
+    state[LEADERS + wide(count)] = id;
+    state[LEADER_COUNT] = count + 1;
+}
+
+// The leaders of the rounds taken, bit r for round r, join the leader list.
+fn append_leaders(state: &mut [u32], n: u32, taken: u32)
+    requires { ⌜ (length (now state) ≡ stateSize) × (n ≡ memberCount (now state)) × (0 < n) × (has taken 0 ≡ false) × (leaderCount (now state) ≤ 32) ⌝ }
+    ensures { λ _. ⌜ now (state .exit) ≡ appendLeaders (now (state .entry)) (select 32 (has taken)) ⌝ }
+{
+    let rounds = Members { bits: taken, n };
+    let mut r: u32 = 1;
+    while r < 32 {
+        if rounds.has(r) {
+            append_leader(state, n, r);
+        }
+        r += 1;
+    }
+}
+
+// The vertex with the id is ordered, and joins the journal.
+fn enter_id(state: &mut [u32], id: u32)
+    requires { ⌜ (length (now state) ≡ stateSize) × (16 ≤ id) × (id < 528) × (journalCount (now state) < 512) ⌝ }
+    ensures { λ _. ⌜ now (state .exit) ≡ enter (now (state .entry)) id ⌝ }
+{
+    let count = state[JOURNAL_COUNT];
+    let at = masks_at(id / 16) + ORDERED;
+    state[at] = state[at] | power(id % 16);
+    state[JOURNAL + wide(count)] = id;
+    state[JOURNAL_COUNT] = count + 1;
+}
+
+// The vertex with the id joins the journal if the mask, of its round, has its member and it is not yet ordered.
+fn order_id(state: &mut [u32], n: u32, mask: u32, id: u32)
+    requires { ⌜ (length (now state) ≡ stateSize) × (16 ≤ id) × (id < 528) × Room (now state) ⌝ }
+    ensures { λ _. ⌜ now (state .exit) ≡ orderId (now (state .entry)) mask id ⌝ }
+{
+    let members = Members { bits: mask, n };
+    if !members.has(id % 16) {
+        return;
+    }
+    if is_ordered(state, n, id) {
+        return;
+    }
+    enter_id(state, id);
+}
+
+// The vertices of the round in the mask that are not yet ordered join the journal, by rising member.
+fn order_round(state: &mut [u32], n: u32, mask: u32, round: u32)
+    requires { ⌜ (length (now state) ≡ stateSize) × (1 ≤ round) × (round ≤ 32) × Room (now state) ⌝ }
+    ensures { λ _. ⌜ now (state .exit) ≡ orderRound (now (state .entry)) mask round 16 ⌝ }
+{
+    if mask & ordered_mask(state, round) == mask {
+        return;
+    }
+    let mut p: u32 = 0;
+    while p < SLOTS {
+        order_id(state, n, mask, 16 * round + p);
+        p += 1;
+    }
+}
+
+// The history of the round's leader that is not yet ordered joins the journal, by rising id. It has nothing above that round.
+fn order_leader(state: &mut [u32], n: u32, round: u32)
+    requires { ⌜ Standing (now state) × Room (now state) × (n ≡ memberCount (now state)) × (1 ≤ round) × (round ≤ 31) × (held (vertices (now state)) round (leader n round) ≡ true) ⌝ }
+    ensures { λ _. ⌜ now (state .exit) ≡ orderLeader (vertices (now (state .entry))) (now (state .entry)) round ⌝ }
+{
+    let masks = history_of(state, n, round, leader_of(n, round));
+    let mut r: u32 = 0;
+    while r < round {
+        order_round(state, n, masks[wide(r)], r + 1);
+        r += 1;
+    }
+}
+
+// So for the leaders of the rounds taken, bit r for round r.
+fn order_leaders(state: &mut [u32], n: u32, taken: u32)
+    requires { ⌜ Standing (now state) × Room (now state) × (n ≡ memberCount (now state)) × (has taken 0 ≡ false) × ((r : ℕ) → r < 32 → has taken r ≡ true → held (vertices (now state)) r (leader n r) ≡ true) ⌝ }
+    ensures { λ _. ⌜ now (state .exit) ≡ orderLeaders (vertices (now (state .entry))) (now (state .entry)) (select 32 (has taken)) ⌝ }
+{
+    let rounds = Members { bits: taken, n };
+    let mut r: u32 = 1;
+    while r < 32 {
+        if rounds.has(r) {
+            order_leader(state, n, r);
+        }
+        r += 1;
+    }
+}
+
+// Commits round q.
+fn commit_round(state: &mut [u32], n: u32, q: u32)
+    requires { ⌜ Standing (now state) × Room (now state) × (n ≡ memberCount (now state)) × (leaderCount (now state) ≤ committedRound (now state)) × (committedRound (now state) < q) × (q ≤ 31) × (held (vertices (now state)) q (leader n q) ≡ true) ⌝ }
+    ensures { λ _. ⌜ now (state .exit) ≡ commit (now (state .entry)) q ⌝ }
+{
+    let taken = taken_rounds(state, n, state[COMMITTED_ROUND], q);
+    append_leaders(state, n, taken);
+    state[COMMITTED_ROUND] = q;
+    order_leaders(state, n, taken);
+}
+
+// The lowest committable round is committed, and again until none is.
+pub fn commit_all(state: &mut [u32], n: u32)
+    requires { ⌜ Standing (now state) × Room (now state) × (n ≡ memberCount (now state)) × (leaderCount (now state) ≤ committedRound (now state)) × (committedRound (now state) ≤ 31) ⌝ }
+    ensures { λ _. ⌜ now (state .exit) ≡ commitAll (now (state .entry)) ⌝ }
+{
+    let mut q: u32 = lowest_committable(state, n);
+    while q < 32 {
+        commit_round(state, n, q);
+        q = lowest_committable(state, n);
+    }
+}

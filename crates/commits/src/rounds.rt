@@ -1,0 +1,60 @@
+// The round rule.
+ghost use mathlib.Core.Path.{_≡_};
+ghost use Prim.Native.Nat.{_<_, _≤_};
+ghost use lib.ListN.{length};
+ghost use Rattle.replica.specs.Layout.{stateSize};
+ghost use Rattle.replica.specs.State.{memberCount};
+ghost use Rattle.commits.specs.Commit.{passable, highestPassable, raiseRound};
+use record::members::Members;
+use record::members::leader_of;
+use replica::layout::CURRENT_ROUND;
+use replica::layout::ROUNDS;
+use replica::layout::held_mask;
+use replica::layout::timeouts_mask;
+
+// The round holds a quorum of vertices, and its leader's vertex or a quorum of timeouts.
+fn is_passable(state: &[u32], n: u32, round: u32) -> bool
+    requires { ⌜ (length (now state) ≡ stateSize) × (n ≡ memberCount (now state)) × (0 < n) × (1 ≤ round) × (round ≤ 32) ⌝ }
+    ensures { λ r. ⌜ r ≡ passable (now (state .entry)) round ⌝ }
+{
+    let held = Members {
+        bits: held_mask(state, round),
+        n,
+    };
+    if !held.meets_quorum() {
+        return false;
+    }
+    if held.has(leader_of(n, round)) {
+        return true;
+    }
+    let timeouts = Members {
+        bits: timeouts_mask(state, round),
+        n,
+    };
+    timeouts.meets_quorum()
+}
+
+fn highest_passable(state: &[u32], n: u32) -> u32
+    requires { ⌜ (length (now state) ≡ stateSize) × (n ≡ memberCount (now state)) × (0 < n) ⌝ }
+    ensures { λ r. ⌜ (r ≡ highestPassable (now (state .entry)) 32) × (r ≤ 32) ⌝ }
+{
+    let mut round: u32 = ROUNDS;
+    while 0 < round {
+        if is_passable(state, n, round) {
+            return round;
+        }
+        round -= 1;
+    }
+    0
+}
+
+// Raises the current round to one above the highest passable round.
+pub fn raise_round(state: &mut [u32], n: u32)
+    requires { ⌜ (length (now state) ≡ stateSize) × (n ≡ memberCount (now state)) × (0 < n) ⌝ }
+    ensures { λ _. ⌜ now (state .exit) ≡ raiseRound (now (state .entry)) ⌝ }
+{
+    let next = 1 + highest_passable(state, n);
+    if state[CURRENT_ROUND] < next {
+        state[CURRENT_ROUND] = next;
+    }
+}

@@ -1,9 +1,10 @@
 -- Laws of the weak ids of a record, asked and looked up one after the other. Assumes nothing.
 use mathlib.Core.Path.{_≡_, refl, sym, ap, _∙_}
-use mathlib.Core.Bool.{Bool, true, false, _&&_, _||_}
+use mathlib.Core.Bool.{Bool, true, false, _&&_, _||_, and-true, and-false}
 use mathlib.Core.List.{List}
 use Prim.Native.Nat.{ℕ, zero, suc, _-_, _*_, _≤_, _<_}
 use native.Mathlib.Omega.{arith}
+use lib.Bits.{bitOr}
 use lib.Dec.{eqb, ltb}
 use borrow.Author.Tests.{le-leb, lt-ltb, ltb-true}
 use Rattle.record.specs.Members.{faulty, has, idRound, idMember}
@@ -12,7 +13,7 @@ use Rattle.record.specs.Questions.{roundOk, weakIdOk, rises, weakOk}
 use Rattle.record.proofs.Booleans.{and-left, and-right, and-both, and-fails-left, and-fails-right, bool-ext}
 use Rattle.record.specs.Below.{all}
 use Rattle.record.proofs.Below.{all-and}
-use Rattle.record.proofs.Masks.{has-bound}
+use Rattle.record.proofs.Masks.{or-zero, has-bound}
 use Rattle.record.proofs.Turn.{weak-id}
 use Rattle.record.proofs.Parts.{weak-parts, weak-id-in, weak-id-high, rises-first, rises-later}
 use Rattle.replica.specs.State.{memberCount, heldMask, heldId}
@@ -64,3 +65,28 @@ weak-all l n r body few h =
     swap true false true = refl
     swap true false false = refl
     swap false b c = refl
+
+-- ---- slots that are not used, where no weak id is or one
+
+five : (t : ℕ → Bool) → all 5 t ≡ ((((t 0 && t 1) && t 2) && t 3) && t 4)
+unfolding all
+five t = refl
+
+rest-zero : (b c d e : ℕ) → eqb (bitOr (bitOr (bitOr b c) d) e) 0 ≡ (((eqb b 0 && eqb c 0) && eqb d 0) && eqb e 0)
+rest-zero b c d e =
+    or-zero (bitOr (bitOr b c) d) e
+    ∙ ap (λ (x : Bool). x && eqb e 0) (or-zero (bitOr b c) d ∙ ap (λ (x : Bool). x && eqb d 0) (or-zero b c))
+
+pub none-used : (body : List ℕ) → eqb (bitOr (bitOr (bitOr (bitOr (weakOf body 1) (weakOf body 2)) (weakOf body 3)) (weakOf body 4)) (weakOf body 0)) 0
+    ≡ all 5 (λ i. ltb i 0 || eqb (weakOf body i) 0)
+none-used body =
+    or-zero (bitOr (bitOr (bitOr (weakOf body 1) (weakOf body 2)) (weakOf body 3)) (weakOf body 4)) (weakOf body 0) ∙ ap (λ (x : Bool). x && eqb (weakOf body 0) 0) (rest-zero (weakOf body 1) (weakOf body 2) (weakOf body 3) (weakOf body 4))
+    ∙ first (eqb (weakOf body 0) 0) (eqb (weakOf body 1) 0) (eqb (weakOf body 2) 0) (eqb (weakOf body 3) 0) (eqb (weakOf body 4) 0) ∙ sym (five (λ i. ltb i 0 || eqb (weakOf body i) 0))
+  where
+    first : (a b c d e : Bool) → ((((b && c) && d) && e) && a) ≡ ((((a && b) && c) && d) && e)
+    first true b c d e = and-true (((b && c) && d) && e)
+    first false b c d e = and-false (((b && c) && d) && e)
+
+pub one-used : (body : List ℕ) → eqb (bitOr (bitOr (bitOr (weakOf body 1) (weakOf body 2)) (weakOf body 3)) (weakOf body 4)) 0
+    ≡ all 5 (λ i. ltb i 1 || eqb (weakOf body i) 0)
+one-used body = rest-zero (weakOf body 1) (weakOf body 2) (weakOf body 3) (weakOf body 4) ∙ sym (five (λ i. ltb i 1 || eqb (weakOf body i) 0))

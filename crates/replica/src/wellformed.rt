@@ -1,7 +1,7 @@
 // The test of question 3: a function for each clause of well-formedness.
 ghost use mathlib.Core.Path.{_≡_};
 ghost use mathlib.Core.Bool.{true, _&&_, _||_};
-ghost use Prim.Native.Nat.{ℕ, _+_, _-_, _<_, _≤_};
+ghost use Prim.Native.Nat.{ℕ, _+_, _-_, _*_, _<_, _≤_};
 ghost use lib.Dec.{eqb, ltb};
 ghost use lib.ListN.{length, getD, take, drop};
 ghost use Rattle.record.specs.Below.{all};
@@ -195,7 +195,7 @@ fn weak_ids_ok(state: &[u32], n: u32, round: u32, body: &[u32], count: usize) ->
 }
 
 // The slots of weak ids from so many on are 0.
-fn unused_zero(body: &[u32], count: usize) -> bool
+fn slots_zero(body: &[u32], count: usize) -> bool
     requires { ⌜ (length (now body) ≡ 10) × (count ≤ 5) ⌝ }
     ensures { λ r. ⌜ r ≡ all 5 (λ i. ltb i count || eqb (weakOf (now (body .entry)) i) 0) ⌝ }
 {
@@ -207,6 +207,21 @@ fn unused_zero(body: &[u32], count: usize) -> bool
         i += 1;
     }
     true
+}
+
+// The same. Most records have no weak id or one: for them the words are joined before they are tested.
+fn unused_zero(body: &[u32], count: usize) -> bool
+    requires { ⌜ (length (now body) ≡ 10) × (count ≤ 5) ⌝ }
+    ensures { λ r. ⌜ r ≡ all 5 (λ i. ltb i count || eqb (weakOf (now (body .entry)) i) 0) ⌝ }
+{
+    let joined = body[WEAK + 1] | body[WEAK + 2] | body[WEAK + 3] | body[WEAK + 4];
+    if count == 0 {
+        return joined | body[WEAK] == 0;
+    }
+    if count == 1 {
+        return joined == 0;
+    }
+    slots_zero(body, count)
 }
 
 // Questions 11 and 14, of the weak ids: at most f are used and pass, and the words beyond them are 0.
@@ -271,6 +286,31 @@ fn members_ok(state: &[u32], n: u32, round: u32) -> bool
     true
 }
 
+// The cells of a round from member n on are zero. Their number is written out for each n, so that the test of so many words needs no loop.
+fn rest_cells_zero(state: &[u32], n: u32, start: usize) -> bool
+    requires { ⌜ (legal n ≡ true) × (start + 160 ≤ length (now state)) × (start ≤ 5704) ⌝ }
+    ensures { λ r. ⌜ r ≡ all (10 * (16 - n)) (λ i. eqb (getD (now (state .entry)) (start + 10 * n + i) 0) 0) ⌝ }
+{
+    let end = start + ROUND_SIZE;
+    if n == 4 {
+        let rest = start + BODY_SIZE * 4;
+        return is_zero(&state[rest..end]);
+    }
+    if n == 7 {
+        let rest = start + BODY_SIZE * 7;
+        return is_zero(&state[rest..end]);
+    }
+    if n == 10 {
+        let rest = start + BODY_SIZE * 10;
+        return is_zero(&state[rest..end]);
+    }
+    if n == 13 {
+        let rest = start + BODY_SIZE * 13;
+        return is_zero(&state[rest..end]);
+    }
+    true
+}
+
 // Cells that nobody holds are tested together: all of a round that holds none, and those from n on.
 fn round_cells_ok(state: &[u32], round: u32) -> bool
     requires { ⌜ (length (now state) ≡ stateSize) × (legal (memberCount (now state)) ≡ true) × (eachRound (masksWithin (now state)) ≡ true) × (1 ≤ round) × (round ≤ 32) ⌝ }
@@ -285,8 +325,7 @@ fn round_cells_ok(state: &[u32], round: u32) -> bool
     if !members_ok(state, n, round) {
         return false;
     }
-    let rest = start + BODY_SIZE * wide(n);
-    is_zero(&state[rest..end])
+    rest_cells_zero(state, n, start)
 }
 
 fn cells_ok(state: &[u32]) -> bool

@@ -1,7 +1,10 @@
 -- `round-empty` and `round-rest` of `Cells`.
-use mathlib.Core.Path.{sym, _∙_}
-use Prim.Native.Nat.{_+_, _*_, _-_}
+use mathlib.Core.Path.{_≡_, sym, ap, _∙_}
+use Prim.Native.Nat.{ℕ, _+_, _*_, _-_}
 use native.Mathlib.Omega.{arith}
+use lib.Dec.{eqb}
+use lib.ListN.{getD}
+use Rattle.record.specs.Below.{all}
 use Rattle.record.proofs.Booleans.{passed, failed, and-fails-left}
 use Rattle.record.proofs.Masks.{legal-range}
 use Rattle.replica.specs.Layout.{cellAt}
@@ -50,34 +53,15 @@ returns-2 : tie.Need-returns-2
 returns-2 c = let g = legal-range _ (c .before .before .before .before .before .before .before .pre .1) in
     sym (sym (round-rest (c .before .before .before .before .before .before .before .args .state .now) (c .before .before .before .before .before .before .before .args .round) (memberCount (c .before .before .before .before .before .before .before .args .state .now)) (g .high) (masks-small (c .before .before .before .before .before .before .before .args .state .now) (c .before .before .before .before .before .before .before .args .round) (round-elim (masksWithin (c .before .before .before .before .before .before .before .args .state .now)) (c .before .before .before .before .before .before .before .pre .2) (c .before .before .before .before .before .before .before .args .round) (c .before .before .before .before .before .before .before .pre .3) (c .before .before .before .before .before .before .before .pre .4)) .held)) ∙ and-fails-left _ (failed (c .before .members-ok .ensures) (c .if2 .taken)))
 
-wide-requires : tie.Need-wide-requires
-wide-requires c κs = search needs
-
-mul-rest : tie.Need-mul-rest
-mul-rest c = let g = legal-range _ (c .before .before .before .before .before .before .before .before .pre .1) in omega (arith, g .high, c .wide .ensures)
-
-add-rest : tie.Need-add-rest
-add-rest c = let g = legal-range _ (c .before .before .before .before .before .before .before .before .pre .1) in omega (arith, g .high, c .wide .ensures, c .before .before .before .before .before .cell-at .ensures)
-
-mul-is-zero-2 : tie.Need-mul-is-zero-2
-mul-is-zero-2 c = let g = legal-range _ (c .before .before .before .before .before .before .before .before .pre .1) in omega (arith, g .high, c .wide .ensures, c .before .before .before .before .before .cell-at .ensures)
-
-sub-is-zero-2 : tie.Need-sub-is-zero-2
-sub-is-zero-2 c = let g = legal-range _ (c .before .before .before .before .before .before .before .before .pre .1) in omega (arith, g .high, c .wide .ensures, c .before .before .before .before .before .cell-at .ensures)
-
-part-is-zero-start-2 : tie.Need-part-is-zero-start-2
-part-is-zero-start-2 c = let g = legal-range _ (c .before .before .before .before .before .before .before .before .pre .1) in omega (arith, g .high, c .wide .ensures, c .before .before .before .before .before .cell-at .ensures)
-
-part-is-zero-end-2 : tie.Need-part-is-zero-end-2
-part-is-zero-end-2 c = search needs
-
-is-zero-requires-2 : tie.Need-is-zero-requires-2
-is-zero-requires-2 c κs = search needs
+rest-cells-zero-requires : tie.Need-rest-cells-zero-requires
+rest-cells-zero-requires c κs = (c .before .before .before .before .before .before .before .pre .1, omega (arith, c .before .before .before .before .cell-at .ensures), omega (arith, c .before .before .before .before .cell-at .ensures))
 
 returns-3 : tie.Need-returns-3
-returns-3 c = let g = legal-range _ (c .before .before .before .before .before .before .before .before .before .before .pre .1) in
-    c .is-zero2 .ensures ∙ words-part (c .before .before .before .before .before .before .before .before .before .before .args .state .now) (c .before .before .before .before .before .before .before .cell-at .result + 10 * c .before .before .wide .result) (c .before .before .before .before .before .before .before .cell-at .result + 160) (cellAt (c .before .before .before .before .before .before .before .before .before .before .args .round) (memberCount (c .before .before .before .before .before .before .before .before .before .before .args .state .now))) (10 * (16 - memberCount (c .before .before .before .before .before .before .before .before .before .before .args .state .now))) (omega (arith, c .before .before .before .before .before .before .before .cell-at .ensures, c .before .before .wide .ensures)) (omega (arith, g .high, c .before .before .before .before .before .before .before .cell-at .ensures)) (omega (arith, g .high))
-    ∙ rw (passed (c .before .before .before .before .members-ok .ensures) (c .before .before .before .if2 .left)) at (round-rest (c .before .before .before .before .before .before .before .before .before .before .args .state .now) (c .before .before .before .before .before .before .before .before .before .before .args .round) (memberCount (c .before .before .before .before .before .before .before .before .before .before .args .state .now)) (g .high) (masks-small (c .before .before .before .before .before .before .before .before .before .before .args .state .now) (c .before .before .before .before .before .before .before .before .before .before .args .round) (round-elim (masksWithin (c .before .before .before .before .before .before .before .before .before .before .args .state .now)) (c .before .before .before .before .before .before .before .before .before .before .pre .2) (c .before .before .before .before .before .before .before .before .before .before .args .round) (c .before .before .before .before .before .before .before .before .before .before .pre .3) (c .before .before .before .before .before .before .before .before .before .before .pre .4)) .held))
+returns-3 c = let g = legal-range _ (c .before .before .before .before .before .before .before .before .pre .1) in
+    let n = memberCount (c .before .before .before .before .before .before .before .before .args .state .now) in
+    let place : c .before .before .before .before .before .cell-at .result + 10 * n ≡ cellAt (c .before .before .before .before .before .before .before .before .args .round) n = omega (arith, c .before .before .before .before .before .cell-at .ensures) in
+    c .rest-cells-zero .ensures ∙ ap (λ (a : ℕ). all (10 * (16 - n)) (λ i. eqb (getD (c .before .before .before .before .before .before .before .before .args .state .now) (a + i) 0) 0)) place
+    ∙ rw (passed (c .before .before .members-ok .ensures) (c .before .if2 .left)) at (round-rest (c .before .before .before .before .before .before .before .before .args .state .now) (c .before .before .before .before .before .before .before .before .args .round) n (g .high) (masks-small (c .before .before .before .before .before .before .before .before .args .state .now) (c .before .before .before .before .before .before .before .before .args .round) (round-elim (masksWithin (c .before .before .before .before .before .before .before .before .args .state .now)) (c .before .before .before .before .before .before .before .before .pre .2) (c .before .before .before .before .before .before .before .before .args .round) (c .before .before .before .before .before .before .before .before .pre .3) (c .before .before .before .before .before .before .before .before .pre .4)) .held))
 
 pub round-cells-ok-spec : {M : Type 1} → statement M
 round-cells-ok-spec =
@@ -95,12 +79,5 @@ round-cells-ok-spec =
     returns
     members-ok-requires
     returns-2
-    wide-requires
-    mul-rest
-    add-rest
-    mul-is-zero-2
-    sub-is-zero-2
-    part-is-zero-start-2
-    part-is-zero-end-2
-    is-zero-requires-2
+    rest-cells-zero-requires
     returns-3)

@@ -1,65 +1,81 @@
--- Invariant: the slots below i are used or 0.
-use borrow.Author.Needs.{needs}
-use mathlib.Core.Path.{_≡_, sym}
-use mathlib.Core.Bool.{true, _||_}
-use Prim.Native.Nat.{_-_, _≤_}
-use native.Mathlib.Omega.{arith}
-use lib.Dec.{eqb, ltb}
-use borrow.Author.Tests.{eq-eqb, ne-eqb, lt-ltb, le-ltb}
-use Rattle.record.specs.Below.{all}
+-- `none-used` and `one-used` of `Weak`.
 use Rattle.record.specs.Layout.{weakOf}
-use Rattle.record.proofs.Booleans.{or-left, or-right}
-use Rattle.record.proofs.Below.{all-intro, all-more, all-stop}
+use Rattle.replica.proofs.Weak.{none-used, one-used}
+use borrow.Author.Needs.{needs}
 use Rattle.replica.proofs.wellformed.unused_zero.Statement.{statement}
 use Rattle.replica.proofs.wellformed.unused_zero.Tie as tie
 
-abbrev Inv-loop : tie.InvT-loop
-Inv-loop body count i₀ i = (count ≤ i) × (i ≤ 5) × (all i (λ k. ltb k count || eqb (weakOf body k) 0) ≡ true)
+add-joined : tie.Need-add-joined
+add-joined c = search needs
 
-abbrev μ-loop : tie.MeasureT-loop
-μ-loop body count i₀ i = 5 - i
+mul-joined : tie.Need-mul-joined
+mul-joined c = search needs
 
-loop-holds : tie.Need-loop-holds Inv-loop μ-loop
-loop-holds c = (omega arith, omega arith, all-intro _ (λ k. ltb k (c .args .count) || eqb (weakOf (c .args .body .now) k) 0) (λ k b. or-left _ (lt-ltb _ _ b)))
+shared-slice-read-joined : tie.Need-shared-slice-read-joined
+shared-slice-read-joined c = search needs
 
-add-if1 : tie.Need-add-if1 Inv-loop μ-loop
-add-if1 c = search needs
+add-joined-2 : tie.Need-add-joined-2
+add-joined-2 c = search needs
 
-mul-if1 : tie.Need-mul-if1 Inv-loop μ-loop
-mul-if1 c = search needs
+mul-joined-2 : tie.Need-mul-joined-2
+mul-joined-2 c = search needs
 
-shared-slice-read-if1 : tie.Need-shared-slice-read-if1 Inv-loop μ-loop
-shared-slice-read-if1 c = search needs
+shared-slice-read-joined-2 : tie.Need-shared-slice-read-joined-2
+shared-slice-read-joined-2 c = search needs
 
-returns : tie.Need-returns Inv-loop μ-loop
+add-joined-3 : tie.Need-add-joined-3
+add-joined-3 c = search needs
+
+mul-joined-3 : tie.Need-mul-joined-3
+mul-joined-3 c = search needs
+
+shared-slice-read-joined-3 : tie.Need-shared-slice-read-joined-3
+shared-slice-read-joined-3 c = search needs
+
+add-joined-4 : tie.Need-add-joined-4
+add-joined-4 c = search needs
+
+mul-joined-4 : tie.Need-mul-joined-4
+mul-joined-4 c = search needs
+
+shared-slice-read-joined-4 : tie.Need-shared-slice-read-joined-4
+shared-slice-read-joined-4 c = search needs
+
+shared-slice-read-result : tie.Need-shared-slice-read-result
+shared-slice-read-result c = search needs
+
+returns : tie.Need-returns
 unfolding weakOf
-returns c = sym (all-stop 5 (λ k. ltb k (c .before .before .before .before .args .count) || eqb (weakOf (c .before .before .before .before .args .body .now) k) 0) (c .before .before .before .loop .i) (omega arith) (rw (le-ltb (c .before .before .before .loop .i) (c .before .before .before .before .args .count) (omega arith)) (ne-eqb _ _ (c .if1 .taken))))
+returns c = rw (c .before .if1 .taken) (none-used (c .before .before .before .before .before .before .before .args .body .now))
 
-add-i : tie.Need-add-i Inv-loop μ-loop
-add-i c = search needs
-
-loop-less : tie.Need-loop-less Inv-loop μ-loop
-loop-less c = search needs
-
-loop-again : tie.Need-loop-again Inv-loop μ-loop
+returns-2 : tie.Need-returns-2
 unfolding weakOf
-loop-again c = (omega arith, omega arith, all-more _ _ (c .before .before .before .loop .inv .2) (or-right (ltb (c .before .before .before .loop .i) (c .before .before .before .before .args .count)) (eq-eqb _ _ (c .if1 .left))))
+returns-2 c = rw (c .if2 .taken) (one-used (c .before .before .before .before .before .before .before .args .body .now))
 
-returns-2 : tie.Need-returns-2 Inv-loop μ-loop
-returns-2 c = let e : c .before .loop .i ≡ 5 = omega arith in sym (rw e at (c .before .loop .inv .2))
+slots-zero-requires : tie.Need-slots-zero-requires
+slots-zero-requires c κs = search needs
+
+returns-3 : tie.Need-returns-3
+returns-3 c = search needs
 
 pub unused-zero-spec : {M : Type 1} → statement M
 unused-zero-spec =
     tie.close
     (tie.spec
-    Inv-loop
-    μ-loop
-    loop-holds
-    add-if1
-    mul-if1
-    shared-slice-read-if1
+    add-joined
+    mul-joined
+    shared-slice-read-joined
+    add-joined-2
+    mul-joined-2
+    shared-slice-read-joined-2
+    add-joined-3
+    mul-joined-3
+    shared-slice-read-joined-3
+    add-joined-4
+    mul-joined-4
+    shared-slice-read-joined-4
+    shared-slice-read-result
     returns
-    add-i
-    loop-less
-    loop-again
-    returns-2)
+    returns-2
+    slots-zero-requires
+    returns-3)

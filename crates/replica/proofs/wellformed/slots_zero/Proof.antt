@@ -1,0 +1,65 @@
+-- Invariant: the slots below i are used or 0.
+use borrow.Author.Needs.{needs}
+use mathlib.Core.Path.{_≡_, sym}
+use mathlib.Core.Bool.{true, _||_}
+use Prim.Native.Nat.{_-_, _≤_}
+use native.Mathlib.Omega.{arith}
+use lib.Dec.{eqb, ltb}
+use borrow.Author.Tests.{eq-eqb, ne-eqb, lt-ltb, le-ltb}
+use Rattle.record.specs.Below.{all}
+use Rattle.record.specs.Layout.{weakOf}
+use Rattle.record.proofs.Booleans.{or-left, or-right}
+use Rattle.record.proofs.Below.{all-intro, all-more, all-stop}
+use Rattle.replica.proofs.wellformed.slots_zero.Statement.{statement}
+use Rattle.replica.proofs.wellformed.slots_zero.Tie as tie
+
+abbrev Inv-loop : tie.InvT-loop
+Inv-loop body count i₀ i = (count ≤ i) × (i ≤ 5) × (all i (λ k. ltb k count || eqb (weakOf body k) 0) ≡ true)
+
+abbrev μ-loop : tie.MeasureT-loop
+μ-loop body count i₀ i = 5 - i
+
+loop-holds : tie.Need-loop-holds Inv-loop μ-loop
+loop-holds c = (omega arith, omega arith, all-intro _ (λ k. ltb k (c .args .count) || eqb (weakOf (c .args .body .now) k) 0) (λ k b. or-left _ (lt-ltb _ _ b)))
+
+add-if1 : tie.Need-add-if1 Inv-loop μ-loop
+add-if1 c = search needs
+
+mul-if1 : tie.Need-mul-if1 Inv-loop μ-loop
+mul-if1 c = search needs
+
+shared-slice-read-if1 : tie.Need-shared-slice-read-if1 Inv-loop μ-loop
+shared-slice-read-if1 c = search needs
+
+returns : tie.Need-returns Inv-loop μ-loop
+unfolding weakOf
+returns c = sym (all-stop 5 (λ k. ltb k (c .before .before .before .before .args .count) || eqb (weakOf (c .before .before .before .before .args .body .now) k) 0) (c .before .before .before .loop .i) (omega arith) (rw (le-ltb (c .before .before .before .loop .i) (c .before .before .before .before .args .count) (omega arith)) (ne-eqb _ _ (c .if1 .taken))))
+
+add-i : tie.Need-add-i Inv-loop μ-loop
+add-i c = search needs
+
+loop-less : tie.Need-loop-less Inv-loop μ-loop
+loop-less c = search needs
+
+loop-again : tie.Need-loop-again Inv-loop μ-loop
+unfolding weakOf
+loop-again c = (omega arith, omega arith, all-more _ _ (c .before .before .before .loop .inv .2) (or-right (ltb (c .before .before .before .loop .i) (c .before .before .before .before .args .count)) (eq-eqb _ _ (c .if1 .left))))
+
+returns-2 : tie.Need-returns-2 Inv-loop μ-loop
+returns-2 c = let e : c .before .loop .i ≡ 5 = omega arith in sym (rw e at (c .before .loop .inv .2))
+
+pub slots-zero-spec : {M : Type 1} → statement M
+slots-zero-spec =
+    tie.close
+    (tie.spec
+    Inv-loop
+    μ-loop
+    loop-holds
+    add-if1
+    mul-if1
+    shared-slice-read-if1
+    returns
+    add-i
+    loop-less
+    loop-again
+    returns-2)

@@ -16,8 +16,10 @@ use ordering::calls::take_no_vote;
 use ordering::calls::take_timeout;
 use ordering::calls::take_vertex;
 use record::refusal::number;
+use replica::layout::JOURNAL;
 use replica::layout::JOURNAL_COUNT;
 use replica::layout::LEADER_COUNT;
+use replica::layout::LEADERS;
 use replica::lists::ask_journal;
 use replica::lists::ask_leaders;
 use replica::lists::open;
@@ -93,7 +95,7 @@ pub extern "C" fn yardbook_hand_leaders(state: &[u32], k: u32) -> Part
     }
     Part {
         number: 0,
-        start: 200 + k,
+        start: LEADERS as u32 + k,
         length: state[LEADER_COUNT] - k,
     }
 }
@@ -112,7 +114,7 @@ pub extern "C" fn yardbook_hand_journal(state: &[u32], k: u32) -> Part
     }
     Part {
         number: 0,
-        start: 232 + k,
+        start: JOURNAL as u32 + k,
         length: state[JOURNAL_COUNT] - k,
     }
 }

@@ -21,14 +21,17 @@ number-requires c κs = search needs
 returns : tie.Need-returns
 returns c = leaders-refused (c .before .before .before .before .args .state .now) (c .before .before .before .before .args .k) _ (c .before .number .ensures ∙ ap numberOf (c .before .before .ask-leaders .ensures)) (c .if1 .taken)
 
-add-t6 : tie.Need-add-t6
-add-t6 c = let a = leaders-asked (c .before .before .before .before .args .state .now) (c .before .before .before .before .args .k) (sym (c .before .number .ensures ∙ ap numberOf (c .before .before .ask-leaders .ensures)) ∙ c .if1 .left) in let n = counts (c .before .before .before .before .args .state .now) (a .1) in omega (arith, a .2, n .0, n .1)
+cast-t6 : tie.Need-cast-t6
+cast-t6 c = search needs
 
-shared-slice-read-t8 : tie.Need-shared-slice-read-t8
-shared-slice-read-t8 c = let a = leaders-asked (c .before .before .before .before .before .args .state .now) (c .before .before .before .before .before .args .k) (sym (c .before .before .number .ensures ∙ ap numberOf (c .before .before .before .ask-leaders .ensures)) ∙ c .before .if1 .left) in omega (arith, a .0)
+add-t7 : tie.Need-add-t7
+add-t7 c = let a = leaders-asked (c .before .before .before .before .args .state .now) (c .before .before .before .before .args .k) (sym (c .before .number .ensures ∙ ap numberOf (c .before .before .ask-leaders .ensures)) ∙ c .if1 .left) in let n = counts (c .before .before .before .before .args .state .now) (a .1) in omega (arith, a .2, n .0, n .1)
 
-sub-t9 : tie.Need-sub-t9
-sub-t9 c = let a = leaders-asked (c .before .before .before .before .before .args .state .now) (c .before .before .before .before .before .args .k) (sym (c .before .before .number .ensures ∙ ap numberOf (c .before .before .before .ask-leaders .ensures)) ∙ c .before .if1 .left) in omega (arith, a .2)
+shared-slice-read-t9 : tie.Need-shared-slice-read-t9
+shared-slice-read-t9 c = let a = leaders-asked (c .before .before .before .before .before .args .state .now) (c .before .before .before .before .before .args .k) (sym (c .before .before .number .ensures ∙ ap numberOf (c .before .before .before .ask-leaders .ensures)) ∙ c .before .if1 .left) in omega (arith, a .0)
+
+sub-t10 : tie.Need-sub-t10
+sub-t10 c = let a = leaders-asked (c .before .before .before .before .before .args .state .now) (c .before .before .before .before .before .args .k) (sym (c .before .before .number .ensures ∙ ap numberOf (c .before .before .before .ask-leaders .ensures)) ∙ c .before .if1 .left) in omega (arith, a .2)
 
 returns-2 : tie.Need-returns-2
 returns-2 c = leaders-given (c .before .before .before .before .before .args .state .now) (c .before .before .before .before .before .args .k) (sym (c .before .before .number .ensures ∙ ap numberOf (c .before .before .before .ask-leaders .ensures)) ∙ c .before .if1 .left)
@@ -40,7 +43,8 @@ yardbook-hand-leaders-spec =
     ask-leaders-requires
     number-requires
     returns
-    add-t6
-    shared-slice-read-t8
-    sub-t9
+    cast-t6
+    add-t7
+    shared-slice-read-t9
+    sub-t10
     returns-2)

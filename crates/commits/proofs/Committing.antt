@@ -166,27 +166,52 @@ quiet-room {l} {m} q R = omega (arith, R, q .journal, count-cong idLimit (ordere
 
 -- ---- one commit
 
+-- what the ordering asks of a state whose leaders were appended
+pub record Led (n mask : ℕ) (l : List ℕ) : Type 0 where
+  pub standing : Standing l
+  pub room : Room l
+  pub members : n ≡ memberCount l
+  pub there : (r : ℕ) → r < 32 → has mask r ≡ true → held (vertices l) r (leader n r) ≡ true
+
+-- what each later step may use of the rounds taken
+pub record Taken (l : List ℕ) (n q mask : ℕ) : Type 0 where
+  pub none : has mask 0 ≡ false
+  pub led : (m : List ℕ) → m ≡ appendLeaders l (select 32 (has mask)) → Led n mask (set m 2 q)
+  pub done : (m o : List ℕ) → m ≡ appendLeaders l (select 32 (has mask)) → o ≡ orderLeaders (vertices (set m 2 q)) (set m 2 q) (select 32 (has mask)) → o ≡ commit l q
+
 module _ (n : ℕ) (l : List ℕ) (S : Standing l) (R : Room l) (e : n ≡ memberCount l) (few : leaderCount l ≤ committedRound l) (q : ℕ) (low : committedRound l < q) (high : q ≤ 31)
     (there : held (vertices l) q (leader n q) ≡ true) (mask : ℕ) (is : select 32 (has mask) ≡ chain n (vertices l) (committedRound l) q) where
   -- a round that is taken is in the chain
   in-chain : (r : ℕ) → r < 32 → has mask r ≡ true → among (chain n (vertices l) (committedRound l) q) r ≡ true
   in-chain r h t = ap (λ (x : List ℕ). among x r) (sym is) ∙ among-select 32 (has mask) r ∙ rw (lt-ltb r 32 h, t)
 
-  pub taken-none : has mask 0 ≡ false
+  taken-none : has mask 0 ≡ false
   taken-none = ⊎-elim (λ t. absurd (omega (arith, chain-bounds n (vertices l) (committedRound l) q 0 (in-chain 0 (omega arith) t) .0))) (λ t. t) (which (has mask 0))
 
-  pub taken-held : (r : ℕ) → r < 32 → has mask r ≡ true → held (vertices l) r (leader n r) ≡ true
+  taken-held : (r : ℕ) → r < 32 → has mask r ≡ true → held (vertices l) r (leader n r) ≡ true
   taken-held r h t = chain-held n (vertices l) (committedRound l) q r there (in-chain r h t)
 
-  pub quiet-led : Quiet l (set (appendLeaders l (select 32 (has mask))) 2 q) × (leaderCount (appendLeaders l (select 32 (has mask))) ≤ q)
+  quiet-led : Quiet l (set (appendLeaders l (select 32 (has mask))) 2 q) × (leaderCount (appendLeaders l (select 32 (has mask))) ≤ q)
   quiet-led =
       let size = chain-length n (vertices l) (committedRound l) q (omega arith) in
       let same : length (select 32 (has mask)) ≡ length (chain n (vertices l) (committedRound l) q) = ap length is in
       let w = quiet-leaders (select 32 (has mask)) l (S .size) (omega arith) in
       (quiet-then (w .0) (quiet-head (appendLeaders l (select 32 (has mask))) 2 q (omega arith) (omega arith)), omega (arith, w .1))
 
-  pub committed-is : (m : List ℕ) → m ≡ orderLeaders (vertices (set (appendLeaders l (select 32 (has mask))) 2 q)) (set (appendLeaders l (select 32 (has mask))) 2 q) (select 32 (has mask)) → m ≡ commit l q
+  committed-is : (m : List ℕ) → m ≡ orderLeaders (vertices (set (appendLeaders l (select 32 (has mask))) 2 q)) (set (appendLeaders l (select 32 (has mask))) 2 q) (select 32 (has mask)) → m ≡ commit l q
   unfolding commit
   committed-is m d =
       d ∙ ap (λ (v : Records). orderLeaders v (set (appendLeaders l (select 32 (has mask))) 2 q) (select 32 (has mask))) (vertices-same (quiet-led .0 .alike))
       ∙ ap (λ (rs : List ℕ). orderLeaders (vertices l) (set (appendLeaders l rs) 2 q) rs) (is ∙ ap (λ (x : ℕ). chain x (vertices l) (committedRound l) q) e)
+
+  pub taken : Taken l n q mask
+  taken = record {
+    none = taken-none;
+    led = λ m d. rw d (let Q = quiet-led .0 in record {
+      standing = standing-kept (Q .alike) S;
+      room = quiet-room Q R;
+      members = e ∙ sym (Q .alike .members);
+      there = λ r h t. rw (vertices-same (Q .alike)) (taken-held r h t);
+    });
+    done = λ m o d f. committed-is o (rw d at f);
+  }

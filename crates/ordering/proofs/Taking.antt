@@ -1,12 +1,13 @@
 -- The calls put together: refused with the words as they were, or admitted step by step. Assumes nothing.
 use mathlib.Core.Path.{_≡_, refl, sym, ap, _∙_, subst}
 use mathlib.Core.Bool.{true}
-use mathlib.Core.List.{List}
+use mathlib.Core.List.{List, [], _∷_}
 use Prim.Native.Nat.{ℕ, _+_, _≤_, _<_}
 use native.Mathlib.Omega.{arith}
-use lib.ListN.{length, length-drop}
+use lib.ListN.{length, take, drop, getD, length-drop}
+use lib.Seq.{take-all, getD-drop}
 use Rattle.record.specs.Refusals.{numberOf, firstNo}
-use Rattle.record.specs.Layout.{roundOf, sourceOf, bodyOf}
+use Rattle.record.specs.Layout.{roundOf, sourceOf, bodyOf, strongOf}
 use Rattle.record.specs.Questions.{bodyRefusal}
 use Rattle.record.specs.Admitted.{Admitted}
 use Rattle.record.specs.declared.refusal.Refusal.{Refusal}
@@ -19,6 +20,7 @@ use Rattle.replica.proofs.Sound.{Sound, well-formed}
 use Rattle.commits.specs.Commit.{raiseRound, commitAll}
 use Rattle.ordering.specs.Calls.{addMember, placeQuestions, vertexQuestions, putVertex, takeBody, takeVertex, firstQuestions, hear, takeFirstBody, takeFirstMessage, noteQuestions, takeTimeout, takeNoVote}
 use Rattle.ordering.proofs.Turns.{outcome-refused, outcome-admitted, record-passed, parents-passed, note-passed}
+use Rattle.ordering.proofs.Heard.{hear-body}
 use Rattle.ordering.proofs.Counts.{same-growth, no-growth}
 use Rattle.ordering.proofs.Writing.{Calm, calm-then, raise-calm, put-calm, hear-calm, note-calm}
 use Rattle.ordering.proofs.Marks.{sound-put, sound-raise, sound-hear}
@@ -51,6 +53,17 @@ ready n l S e = record { size = S .size; formed = well-formed l S; members = e; 
 
 -- ---- a vertex
 
+-- what each later step may use of a vertex that no question stopped
+pub record VertexTaken (l rec : List ℕ) : Type 0 where
+  pub sound : Sound l
+  pub admit : Admitted (memberCount l) (roundOf rec) (sourceOf rec) (bodyOf rec)
+  pub long : length rec ≡ 12
+  pub few : sourceOf rec < 16
+  pub part : length (take 10 (drop 2 rec)) ≡ 10
+  pub put : (m : List ℕ) → m ≡ putVertex l (roundOf rec) (sourceOf rec) (take 10 (drop 2 rec)) → Ready (memberCount l) m
+  pub raised : (m r : List ℕ) → m ≡ putVertex l (roundOf rec) (sourceOf rec) (take 10 (drop 2 rec)) → r ≡ raiseRound m → Ready (memberCount l) r
+  pub done : (m r : List ℕ) (o : Outcome) → m ≡ putVertex l (roundOf rec) (sourceOf rec) (take 10 (drop 2 rec)) → r ≡ raiseRound m → o ≡ admitted r (commitAll r) → o ≡ takeVertex l rec
+
 module _ (l rec : List ℕ) (why : Refusal) (e : why ≡ firstNo (vertexQuestions l (roundOf rec) (sourceOf rec) (bodyOf rec))) where
   pub vertex-refused : (numberOf why ≡ 0 → ⊥) → (a : Answer) → a ≡ refusedBy why → told a l ≡ takeVertex l rec
   unfolding takeBody
@@ -61,41 +74,47 @@ module _ (l rec : List ℕ) (why : Refusal) (e : why ≡ firstNo (vertexQuestion
         × (numberOf (firstNo (placeQuestions l (roundOf rec) (sourceOf rec) (bodyOf rec))) ≡ 0)
     passed = record-passed l (roundOf rec) (sourceOf rec) (bodyOf rec) (placeQuestions l (roundOf rec) (sourceOf rec) (bodyOf rec)) (sym (ap numberOf e) ∙ h)
 
-    pub vertex-sound : Sound l
-    vertex-sound = passed .0
+    few : sourceOf rec < 16
+    few = omega (arith, passed .1 .source-low, passed .0 .front .high)
 
-    pub vertex-admitted : Admitted (memberCount l) (roundOf rec) (sourceOf rec) (bodyOf rec)
-    vertex-admitted = passed .1
-
-    pub vertex-long : length rec ≡ 12
-    vertex-long = omega (arith, passed .1 .size, length-drop 2 rec)
-
-    pub vertex-few : sourceOf rec < 16
-    vertex-few = omega (arith, passed .1 .source-low, passed .0 .front .high)
+    whole : take 10 (drop 2 rec) ≡ bodyOf rec
+    whole = take-all 10 (drop 2 rec) (omega (arith, passed .1 .size))
 
     calm : Calm l (putVertex l (roundOf rec) (sourceOf rec) (bodyOf rec))
-    calm = put-calm l (roundOf rec) (sourceOf rec) (bodyOf rec) (passed .0 .size) (passed .1 .round-low) (passed .1 .round-high) vertex-few (passed .1 .size)
+    calm = put-calm l (roundOf rec) (sourceOf rec) (bodyOf rec) (passed .0 .size) (passed .1 .round-low) (passed .1 .round-high) few (passed .1 .size)
 
     put-sound : Sound (putVertex l (roundOf rec) (sourceOf rec) (bodyOf rec))
     put-sound = sound-put l (passed .0) (roundOf rec) (sourceOf rec) (bodyOf rec) (passed .2) (parents-passed l (roundOf rec) (sourceOf rec) (bodyOf rec) (passed .3))
 
-    pub vertex-put : Ready (memberCount l) (putVertex l (roundOf rec) (sourceOf rec) (bodyOf rec))
-    vertex-put = ready _ _ put-sound (calm-count calm)
+    calm-raised : Calm l (raiseRound (putVertex l (roundOf rec) (sourceOf rec) (bodyOf rec)))
+    calm-raised = calm-then calm (raise-calm _)
 
-    raised : List ℕ
-    raised = raiseRound (putVertex l (roundOf rec) (sourceOf rec) (bodyOf rec))
-
-    pub vertex-raised : Ready (memberCount l) (raiseRound (putVertex l (roundOf rec) (sourceOf rec) (bodyOf rec)))
-    vertex-raised = ready _ _ (sound-raise _ put-sound) (calm-count calm ∙ calm-count (raise-calm (putVertex l (roundOf rec) (sourceOf rec) (bodyOf rec))))
-
-    pub vertex-done : (o : Outcome) (m : List ℕ) → m ≡ raiseRound (putVertex l (roundOf rec) (sourceOf rec) (bodyOf rec)) → o ≡ admitted m (commitAll m) → o ≡ takeVertex l rec
+    done : takeVertex l rec ≡ admitted (raiseRound (putVertex l (roundOf rec) (sourceOf rec) (bodyOf rec))) (commitAll (raiseRound (putVertex l (roundOf rec) (sourceOf rec) (bodyOf rec))))
     unfolding takeBody
-    vertex-done o m d f =
-        f ∙ ap (λ (x : List ℕ). admitted x (commitAll x)) d
-        ∙ calm-growth (calm-then calm (raise-calm (putVertex l (roundOf rec) (sourceOf rec) (bodyOf rec)))) _
-        ∙ outcome-admitted why _ l _ e h
+    done = sym (calm-growth calm-raised _ ∙ outcome-admitted why _ l _ e h)
+
+    pub vertex-taken : VertexTaken l rec
+    vertex-taken = record {
+      sound = passed .0;
+      admit = passed .1;
+      long = omega (arith, passed .1 .size, length-drop 2 rec);
+      few = few;
+      part = rw whole (passed .1 .size);
+      put = λ m d. rw (d, whole) (ready _ _ put-sound (calm-count calm));
+      raised = λ m r d f. rw (f, d, whole) (ready _ _ (sound-raise _ put-sound) (calm-count calm-raised));
+      done = λ m r o d f g. g ∙ rw (f, d, whole) (sym done);
+    }
 
 -- ---- a first message
+
+-- what each later step may use of a first message that no question stopped
+pub record FirstTaken (l rec : List ℕ) : Type 0 where
+  pub sound : Sound l
+  pub admit : Admitted (memberCount l) (roundOf rec) (sourceOf rec) (bodyOf rec)
+  pub long : length rec ≡ 12
+  pub strong : roundOf rec ≡ 1 → getD rec 2 0 ≡ 0
+  pub heard : (m : List ℕ) → m ≡ hear l (roundOf rec) (sourceOf rec) (getD rec 2 0 ∷ []) → Ready (memberCount l) m
+  pub done : (m : List ℕ) (o : Outcome) → m ≡ hear l (roundOf rec) (sourceOf rec) (getD rec 2 0 ∷ []) → o ≡ admitted m (commitAll m) → o ≡ takeFirstMessage l rec
 
 module _ (l rec : List ℕ) (why : Refusal) (e : why ≡ firstNo (firstQuestions l (roundOf rec) (sourceOf rec) (bodyOf rec))) where
   pub first-refused : (numberOf why ≡ 0 → ⊥) → (a : Answer) → a ≡ refusedBy why → told a l ≡ takeFirstMessage l rec
@@ -103,23 +122,26 @@ module _ (l rec : List ℕ) (why : Refusal) (e : why ≡ firstNo (firstQuestions
   first-refused h a d = told-refused l a why d ∙ outcome-refused why _ l _ e h
 
   module _ (h : numberOf why ≡ 0) where
-    pub first-sound : Sound l × Admitted (memberCount l) (roundOf rec) (sourceOf rec) (bodyOf rec)
-    first-sound = let w = record-passed l (roundOf rec) (sourceOf rec) (bodyOf rec) _ (sym (ap numberOf e) ∙ h) in (w .0, w .1)
-
-    pub first-long : length rec ≡ 12
-    first-long = omega (arith, first-sound .1 .size, length-drop 2 rec)
+    first-passed : Sound l × Admitted (memberCount l) (roundOf rec) (sourceOf rec) (bodyOf rec)
+    first-passed = let w = record-passed l (roundOf rec) (sourceOf rec) (bodyOf rec) _ (sym (ap numberOf e) ∙ h) in (w .0, w .1)
 
     calm-heard : Calm l (hear l (roundOf rec) (sourceOf rec) (bodyOf rec))
-    calm-heard = hear-calm l (roundOf rec) (sourceOf rec) (bodyOf rec) (first-sound .0 .size) (first-sound .1 .round-low) (first-sound .1 .round-high)
+    calm-heard = hear-calm l (roundOf rec) (sourceOf rec) (bodyOf rec) (first-passed .0 .size) (first-passed .1 .round-low) (first-passed .1 .round-high)
 
-    pub first-heard : Ready (memberCount l) (hear l (roundOf rec) (sourceOf rec) (bodyOf rec))
-    first-heard = ready _ _ (sound-hear l (first-sound .0) (roundOf rec) (sourceOf rec) (bodyOf rec) (first-sound .1)) (calm-count calm-heard)
-
-    pub first-done : (o : Outcome) (m : List ℕ) → m ≡ hear l (roundOf rec) (sourceOf rec) (bodyOf rec) → o ≡ admitted m (commitAll m) → o ≡ takeFirstMessage l rec
+    first-done : admitted (hear l (roundOf rec) (sourceOf rec) (bodyOf rec)) (commitAll (hear l (roundOf rec) (sourceOf rec) (bodyOf rec))) ≡ takeFirstMessage l rec
     unfolding takeFirstBody
-    first-done o m d f =
-        f ∙ ap (λ (x : List ℕ). admitted x (commitAll x)) d ∙ calm-growth calm-heard _
-        ∙ outcome-admitted why _ l _ e h
+    first-done = calm-growth calm-heard _ ∙ outcome-admitted why _ l _ e h
+
+    pub first-taken : FirstTaken l rec
+    unfolding strongOf
+    first-taken = record {
+      sound = first-passed .0;
+      admit = first-passed .1;
+      long = omega (arith, first-passed .1 .size, length-drop 2 rec);
+      strong = λ z. sym (getD-drop 2 rec 0 0) ∙ first-passed .1 .strong-first z;
+      heard = λ m d. rw (d, hear-body l (roundOf rec) (sourceOf rec) rec) (ready _ _ (sound-hear l (first-passed .0) (roundOf rec) (sourceOf rec) (bodyOf rec) (first-passed .1)) (calm-count calm-heard));
+      done = λ m o d f. f ∙ rw (d, hear-body l (roundOf rec) (sourceOf rec) rec) first-done;
+    }
 
 -- ---- a timeout and a no-vote
 

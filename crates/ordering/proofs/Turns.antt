@@ -5,7 +5,8 @@ use mathlib.Core.List.{List, [], _∷_, _++_}
 use Prim.Native.Nat.{ℕ, _+_, _-_, _≤_, _<_}
 use native.Mathlib.Omega.{arith}
 use lib.Dec.{eqb, leb, ltb}
-use lib.ListN.{length, drop, getD, length-drop}
+use lib.ListN.{length, take, drop, getD, length-drop}
+use lib.Seq.{take-all}
 use borrow.Author.Tests.{eqb-false, eq-eqb, ne-eqb, lt-ltb, le-ltb, lt-leb, ltb-true}
 use Rattle.record.specs.Below.{any, least}
 use Rattle.record.specs.Members.{has}
@@ -76,11 +77,11 @@ module _ (l rec : List ℕ) (rest : List Question) where
       → r ≡ firstNo (recordQuestions (memberCount l) (roundOf rec) (sourceOf rec) (bodyOf rec) ++ rest) → r ≡ firstNo asked
   past-state why r e h d = d ∙ front-yes (stateQuestions l) _ (state-numbered l) (sym (ap numberOf e) ∙ h)
 
-  pub at-record : (why r : Refusal) → why ≡ firstNo (stateQuestions l) → numberOf why ≡ 0 → r ≡ recordRefusal (memberCount l) rec → (numberOf r ≡ 0 → ⊥) → r ≡ firstNo asked
+  at-record : (why r : Refusal) → why ≡ firstNo (stateQuestions l) → numberOf why ≡ 0 → r ≡ recordRefusal (memberCount l) rec → (numberOf r ≡ 0 → ⊥) → r ≡ firstNo asked
   unfolding bodyRefusal
   at-record why r e h d k = past-state why r e h (d ∙ front-no (recordQuestions (memberCount l) (roundOf rec) (sourceOf rec) (bodyOf rec)) rest (λ x. k (ap numberOf d ∙ x)))
 
-  pub past-record : (why r s : Refusal) → why ≡ firstNo (stateQuestions l) → numberOf why ≡ 0 → r ≡ recordRefusal (memberCount l) rec → numberOf r ≡ 0
+  past-record : (why r s : Refusal) → why ≡ firstNo (stateQuestions l) → numberOf why ≡ 0 → r ≡ recordRefusal (memberCount l) rec → numberOf r ≡ 0
       → s ≡ firstNo rest → s ≡ firstNo asked
   unfolding bodyRefusal
   past-record why r s e h d k f =
@@ -88,14 +89,39 @@ module _ (l rec : List ℕ) (rest : List Question) where
       (f ∙ front-yes (recordQuestions (memberCount l) (roundOf rec) (sourceOf rec) (bodyOf rec)) rest
       (record-numbered (memberCount l) (roundOf rec) (sourceOf rec) (bodyOf rec)) (sym (ap numberOf d) ∙ k))
 
--- what is known of a record that its questions admit, before the last ones are asked
-pub known-record : (l rec : List ℕ) (why r : Refusal) → why ≡ firstNo (stateQuestions l) → numberOf why ≡ 0 → r ≡ recordRefusal (memberCount l) rec → numberOf r ≡ 0
-    → Sound l × Admitted (memberCount l) (roundOf rec) (sourceOf rec) (bodyOf rec) × (numberOf (bodyRefusal (memberCount l) (roundOf rec) (sourceOf rec) (bodyOf rec)) ≡ 0) × (length rec ≡ 12)
-known-record l rec why r e h d k =
-    let s = state-ok l (sym (ap numberOf e) ∙ h) in
-    let n = sym (ap numberOf d) ∙ k in
-    let a = turn.admitted (memberCount l) (roundOf rec) (sourceOf rec) (bodyOf rec) n in
-    (sound l (s .0) (s .1), a, n, omega (arith, a .size, length-drop 2 rec))
+-- what is known where the state's questions are passed; rest are the questions after the record's
+pub record StateKnown (l rec : List ℕ) (rest : List Question) : Type 0 where
+  pub size : length l ≡ stateSize
+  pub stopped : (r : Refusal) → r ≡ recordRefusal (memberCount l) rec → (numberOf r ≡ 0 → ⊥)
+      → r ≡ firstNo (stateQuestions l ++ (recordQuestions (memberCount l) (roundOf rec) (sourceOf rec) (bodyOf rec) ++ rest))
+
+-- and where the record's are
+pub record RecordKnown (l rec : List ℕ) (rest : List Question) : Type 0 where
+  pub sound : Sound l
+  pub admit : Admitted (memberCount l) (roundOf rec) (sourceOf rec) (bodyOf rec)
+  pub long : length rec ≡ 12
+  pub whole : take 10 (drop 2 rec) ≡ bodyOf rec
+  pub body : numberOf (bodyRefusal (memberCount l) (roundOf rec) (sourceOf rec) (take 10 (drop 2 rec))) ≡ 0
+  pub last : (s : Refusal) → s ≡ firstNo rest → s ≡ firstNo (stateQuestions l ++ (recordQuestions (memberCount l) (roundOf rec) (sourceOf rec) (bodyOf rec) ++ rest))
+
+module _ (l rec : List ℕ) (rest : List Question) (why : Refusal) (e : why ≡ firstNo (stateQuestions l)) (h : numberOf why ≡ 0) where
+  pub state-known : StateKnown l rec rest
+  state-known = record { size = state-ok l (sym (ap numberOf e) ∙ h) .0; stopped = λ r d k. at-record l rec rest why r e h d k }
+
+  pub record-known : (r : Refusal) → r ≡ recordRefusal (memberCount l) rec → numberOf r ≡ 0 → RecordKnown l rec rest
+  record-known r d k =
+      let s = state-ok l (sym (ap numberOf e) ∙ h) in
+      let n = sym (ap numberOf d) ∙ k in
+      let a = turn.admitted (memberCount l) (roundOf rec) (sourceOf rec) (bodyOf rec) n in
+      let w = take-all 10 (drop 2 rec) (omega (arith, a .size)) in
+      record {
+        sound = sound l (s .0) (s .1);
+        admit = a;
+        long = omega (arith, a .size, length-drop 2 rec);
+        whole = w;
+        body = rw w n;
+        last = λ t f. past-record l rec rest why r t e h d k f;
+      }
 
 -- ---- the smallest missing parent
 

@@ -19,7 +19,9 @@ leader-of-requires : tie.Need-leader-of-requires
 leader-of-requires c κs = search needs
 
 add-id : tie.Need-add-id
-add-id c = omega (arith, c .leader-of .ensures, leader-small (c .before .before .before .args .n) (c .before .before .before .args .round) (omega arith))
+add-id c =
+    let start : tie.Start = search in
+    omega (arith, c .leader-of .ensures, leader-small (start .args .n) (start .args .round) (omega arith))
 
 wide-requires : tie.Need-wide-requires
 wide-requires c κs = search needs
@@ -44,7 +46,10 @@ same-length c = search needs
 
 returns : tie.Need-returns
 unfolding appendLeader
-returns c = rw (c .wide .ensures, c .before .leader-of .ensures, c .before .before .before .before .pre .1)
+returns c =
+    let after-leader-of : tie.After-leader-of = search in
+    let start : tie.Start = search in
+    rw (c .wide .ensures, after-leader-of .leader-of .ensures, start .pre .1)
 
 pub append-leader-spec : {M : Type 1} → statement M
 append-leader-spec =

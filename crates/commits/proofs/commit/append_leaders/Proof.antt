@@ -26,13 +26,18 @@ abbrev μ-loop : tie.MeasureT-loop
 μ-loop state₀ n taken rounds r₀ state r = 32 - r
 
 loop-holds : tie.Need-loop-holds Inv-loop μ-loop
-loop-holds c = (omega arith, omega arith, appending-start _ _ _ (c .before .pre .0) (c .before .pre .1) (c .before .pre .4) (c .before .pre .3))
+loop-holds c =
+    let start : tie.Start Inv-loop μ-loop = search in
+    (omega arith, omega arith, appending-start _ _ _ (start .pre .0) (start .pre .1) (start .pre .4) (start .pre .3))
 
 has-requires : tie.Need-has-requires Inv-loop μ-loop
 has-requires c κs = search needs
 
 append-leader-requires : tie.Need-append-leader-requires Inv-loop μ-loop
-append-leader-requires c κs = (c .before .before .before .before .loop .inv .2 .size, c .before .before .before .before .loop .inv .2 .members, c .before .before .before .before .before .before .pre .2, c .before .before .before .before .loop .inv .0, omega arith, omega (arith, c .before .before .before .before .loop .inv .2 .few))
+append-leader-requires c κs =
+    let at-loop : tie.At-loop Inv-loop μ-loop = search in
+    let start : tie.Start Inv-loop μ-loop = search in
+    (at-loop .loop .inv .2 .size, at-loop .loop .inv .2 .members, start .pre .2, at-loop .loop .inv .0, omega arith, omega (arith, at-loop .loop .inv .2 .few))
 
 add-r : tie.Need-add-r Inv-loop μ-loop
 add-r c = search needs
@@ -41,20 +46,25 @@ loop-less : tie.Need-loop-less Inv-loop μ-loop
 loop-less c = search needs
 
 loop-again : tie.Need-loop-again Inv-loop μ-loop
-loop-again c = (
-  omega arith,
-  omega arith,
-  ⊎-elim
-      (λ v. appending-in _ _ _ _ _ _ (c .before .before .before .loop .inv .2) (sym (c .before .has .ensures) ∙ v .0 .taken) (v .5 ∙ v .2 .ensures))
-      (λ v. appending-out _ _ _ _ _ _ (c .before .before .before .loop .inv .2) (sym (c .before .has .ensures) ∙ v .0 .left) (v .1))
-      (c .if1 .came),
-)
+loop-again c =
+    let after-has : tie.After-has Inv-loop μ-loop = search in
+    let at-loop : tie.At-loop Inv-loop μ-loop = search in (
+      omega arith,
+      omega arith,
+      ⊎-elim
+          (λ v. appending-in _ _ _ _ _ _ (at-loop .loop .inv .2) (sym (after-has .has .ensures) ∙ v .0 .taken) (v .5 ∙ v .2 .ensures))
+          (λ v. appending-out _ _ _ _ _ _ (at-loop .loop .inv .2) (sym (after-has .has .ensures) ∙ v .0 .left) (v .1))
+          (c .if1 .came),
+    )
 
 same-length : tie.Need-same-length Inv-loop μ-loop
 same-length c = search needs
 
 returns : tie.Need-returns Inv-loop μ-loop
-returns c = let e : c .before .loop .r ≡ 32 = omega arith in c .before .loop .inv .2 .is ∙ ap (λ (x : ℕ). appendLeaders (c .before .before .before .args .state .now) (select x (has (c .before .before .before .args .taken)))) e
+returns c =
+    let at-loop : tie.At-loop Inv-loop μ-loop = search in
+    let start : tie.Start Inv-loop μ-loop = search in
+    let e : at-loop .loop .r ≡ 32 = omega arith in at-loop .loop .inv .2 .is ∙ ap (λ (x : ℕ). appendLeaders (start .args .state .now) (select x (has (start .args .taken)))) e
 
 pub append-leaders-spec : {M : Type 1} → statement M
 append-leaders-spec =

@@ -28,37 +28,58 @@ lowest-committable-requires : tie.Need-lowest-committable-requires Inv-loop μ-l
 lowest-committable-requires c κs = search needs
 
 loop-holds : tie.Need-loop-holds Inv-loop μ-loop
-loop-holds c = (
-  c .lowest-committable .ensures,
-  omega (arith, c .lowest-committable .ensures, lowest-le (c .before .before .before .args .state .now)),
-  onward-start _ (record { standing = c .before .before .before .pre .0; room = c .before .before .before .pre .1; few = c .before .before .before .pre .3; high = c .before .before .before .pre .4 }),
-)
+loop-holds c =
+    let start : tie.Start Inv-loop μ-loop = search in (
+      c .lowest-committable .ensures,
+      omega (arith, c .lowest-committable .ensures, lowest-le (start .args .state .now)),
+      onward-start _ (record { standing = start .pre .0; room = start .pre .1; few = start .pre .3; high = start .pre .4 }),
+    )
 
 commit-round-requires : tie.Need-commit-round-requires Inv-loop μ-loop
-commit-round-requires c κs = let o = c .before .before .loop .inv .2 in
-    let m = c .before .before .before .before .before .before .pre .2 ∙ sym (o .alike .members) in
-    let r = onward-ready _ _ _ o (c .before .before .loop .inv .0) (c .before .loop-test .taken) in
+commit-round-requires c κs =
+    let in-loop : tie.In-loop Inv-loop μ-loop = search in
+    let at-loop : tie.At-loop Inv-loop μ-loop = search in
+    let start : tie.Start Inv-loop μ-loop = search in
+    let o = at-loop .loop .inv .2 in
+    let m = start .pre .2 ∙ sym (o .alike .members) in
+    let r = onward-ready _ _ _ o (at-loop .loop .inv .0) (in-loop .loop-test .taken) in
     (o .going .standing, o .going .room, m, o .going .few, r .low, r .high, rw m (r .there))
 
 lowest-committable-requires-2 : tie.Need-lowest-committable-requires-2 Inv-loop μ-loop
-lowest-committable-requires-2 c κs = let o = onward-next _ _ _ _ (c .before .before .before .before .before .before .loop .inv .2) (c .before .before .before .before .before .before .loop .inv .0) (c .before .before .before .before .before .loop-test .taken) (c .before .before .before .commit-round .ensures) in
-    (o .going .standing, c .before .before .before .before .before .before .before .before .before .before .pre .2 ∙ sym (o .alike .members), o .going .high)
+lowest-committable-requires-2 c κs =
+    let after-commit-round : tie.After-commit-round Inv-loop μ-loop = search in
+    let in-loop : tie.In-loop Inv-loop μ-loop = search in
+    let at-loop : tie.At-loop Inv-loop μ-loop = search in
+    let start : tie.Start Inv-loop μ-loop = search in
+    let o = onward-next _ _ _ _ (at-loop .loop .inv .2) (at-loop .loop .inv .0) (in-loop .loop-test .taken) (after-commit-round .commit-round .ensures) in
+    (o .going .standing, start .pre .2 ∙ sym (o .alike .members), o .going .high)
 
 loop-less : tie.Need-loop-less Inv-loop μ-loop
-loop-less c = omega (arith, c .lowest-committable2 .ensures, c .before .before .before .before .before .before .before .loop .inv .1, onward-rises _ _ _ _ (c .before .before .before .before .before .before .before .loop .inv .2) (c .before .before .before .before .before .before .before .loop .inv .0) (c .before .before .before .before .before .before .loop-test .taken) (c .before .before .before .before .commit-round .ensures))
+loop-less c =
+    let after-commit-round : tie.After-commit-round Inv-loop μ-loop = search in
+    let in-loop : tie.In-loop Inv-loop μ-loop = search in
+    let at-loop : tie.At-loop Inv-loop μ-loop = search in
+    omega (arith, c .lowest-committable2 .ensures, at-loop .loop .inv .1, onward-rises _ _ _ _ (at-loop .loop .inv .2) (at-loop .loop .inv .0) (in-loop .loop-test .taken) (after-commit-round .commit-round .ensures))
 
 loop-again : tie.Need-loop-again Inv-loop μ-loop
-loop-again c = (
-  c .lowest-committable2 .ensures,
-  omega (arith, c .lowest-committable2 .ensures, lowest-le (c .before .before .before .before .commit-round .last .0)),
-  onward-next _ _ _ _ (c .before .before .before .before .before .before .before .loop .inv .2) (c .before .before .before .before .before .before .before .loop .inv .0) (c .before .before .before .before .before .before .loop-test .taken) (c .before .before .before .before .commit-round .ensures),
-)
+loop-again c =
+    let after-commit-round : tie.After-commit-round Inv-loop μ-loop = search in
+    let in-loop : tie.In-loop Inv-loop μ-loop = search in
+    let at-loop : tie.At-loop Inv-loop μ-loop = search in (
+      c .lowest-committable2 .ensures,
+      omega (arith, c .lowest-committable2 .ensures, lowest-le (after-commit-round .commit-round .last .0)),
+      onward-next _ _ _ _ (at-loop .loop .inv .2) (at-loop .loop .inv .0) (in-loop .loop-test .taken) (after-commit-round .commit-round .ensures),
+    )
 
 same-length : tie.Need-same-length Inv-loop μ-loop
-same-length c = c .before .loop .inv .2 .alike .size
+same-length c =
+    let at-loop : tie.At-loop Inv-loop μ-loop = search in
+    at-loop .loop .inv .2 .alike .size
 
 returns : tie.Need-returns Inv-loop μ-loop
-returns c = onward-end _ _ (c .before .loop .inv .2) (omega (arith, c .before .loop .inv .0))
+returns c =
+    let at-loop : tie.At-loop Inv-loop μ-loop = search in
+    onward-end _ _ (at-loop .loop .inv .2) (omega (arith, at-loop .loop .inv .0))
 
 pub commit-all-spec : {M : Type 1} → statement M
 commit-all-spec =

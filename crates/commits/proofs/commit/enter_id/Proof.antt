@@ -44,7 +44,9 @@ mul-state-3 : tie.Need-mul-state-3
 mul-state-3 c = search needs
 
 slice-write-state-2 : tie.Need-slice-write-state-2
-slice-write-state-2 c = simp length-set (omega (arith, c .wide .ensures, c .before .before .before .before .before .before .pre .0, c .before .before .before .before .before .before .pre .3))
+slice-write-state-2 c =
+    let start : tie.Start = search in
+    simp length-set (omega (arith, c .wide .ensures, start .pre .0, start .pre .3))
 
 add-state-2 : tie.Need-add-state-2
 add-state-2 c = search needs
@@ -57,7 +59,10 @@ same-length c = search needs
 
 returns : tie.Need-returns
 unfolding enter
-returns c = rw (c .wide .ensures, c .before .before .before .masks-at .ensures, c .before .power .ensures)
+returns c =
+    let after-power : tie.After-power = search in
+    let after-masks-at : tie.After-masks-at = search in
+    rw (c .wide .ensures, after-masks-at .masks-at .ensures, after-power .power .ensures)
 
 pub enter-id-spec : {M : Type 1} → statement M
 enter-id-spec =

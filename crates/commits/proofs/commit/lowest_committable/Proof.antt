@@ -27,14 +27,21 @@ add-q : tie.Need-add-q Inv-loop μ-loop
 add-q c = search needs
 
 loop-holds : tie.Need-loop-holds Inv-loop μ-loop
-loop-holds c = (omega arith, omega (arith, c .before .before .pre .2), any-false _ _ (λ i l. committable-low _ i (omega arith)))
+loop-holds c =
+    let start : tie.Start Inv-loop μ-loop = search in
+    (omega arith, omega (arith, start .pre .2), any-false _ _ (λ i l. committable-low _ i (omega arith)))
 
 is-committed-requires : tie.Need-is-committed-requires Inv-loop μ-loop
 is-committed-requires c κs = search needs
 
 returns : tie.Need-returns Inv-loop μ-loop
-returns c = sym (least-at 32 (committable (c .before .before .before .before .before .before .args .state .now)) (c .before .before .before .loop .q) (c .before .before .loop-test .taken) (c .before .before .before .loop .inv .2)
-    (sym (committable-at _ _ (c .before .before .before .loop .q) (c .before .before .before .before .before .before .pre .1) (c .before .before .before .loop .inv .0) (omega arith)) ∙ (sym (c .before .is-committed .ensures) ∙ c .if1 .taken)))
+returns c =
+    let after-is-committed : tie.After-is-committed Inv-loop μ-loop = search in
+    let in-loop : tie.In-loop Inv-loop μ-loop = search in
+    let at-loop : tie.At-loop Inv-loop μ-loop = search in
+    let start : tie.Start Inv-loop μ-loop = search in
+    sym (least-at 32 (committable (start .args .state .now)) (at-loop .loop .q) (in-loop .loop-test .taken) (at-loop .loop .inv .2)
+    (sym (committable-at _ _ (at-loop .loop .q) (start .pre .1) (at-loop .loop .inv .0) (omega arith)) ∙ (sym (after-is-committed .is-committed .ensures) ∙ c .if1 .taken)))
 
 add-q-2 : tie.Need-add-q-2 Inv-loop μ-loop
 add-q-2 c = search needs
@@ -43,15 +50,21 @@ loop-less : tie.Need-loop-less Inv-loop μ-loop
 loop-less c = search needs
 
 loop-again : tie.Need-loop-again Inv-loop μ-loop
-loop-again c = (
-  omega arith,
-  omega arith,
-  any-less _ _ (c .before .before .before .loop .inv .2)
-      (sym (committable-at _ _ (c .before .before .before .loop .q) (c .before .before .before .before .before .before .pre .1) (c .before .before .before .loop .inv .0) (omega arith)) ∙ (sym (c .before .is-committed .ensures) ∙ c .if1 .left)),
-)
+loop-again c =
+    let after-is-committed : tie.After-is-committed Inv-loop μ-loop = search in
+    let at-loop : tie.At-loop Inv-loop μ-loop = search in
+    let start : tie.Start Inv-loop μ-loop = search in (
+      omega arith,
+      omega arith,
+      any-less _ _ (at-loop .loop .inv .2)
+          (sym (committable-at _ _ (at-loop .loop .q) (start .pre .1) (at-loop .loop .inv .0) (omega arith)) ∙ (sym (after-is-committed .is-committed .ensures) ∙ c .if1 .left)),
+    )
 
 returns-2 : tie.Need-returns-2 Inv-loop μ-loop
-returns-2 c = let e : c .before .loop .q ≡ 32 = omega arith in sym (least-none 32 (committable (c .before .before .before .before .args .state .now)) (rw e at (c .before .loop .inv .2)))
+returns-2 c =
+    let at-loop : tie.At-loop Inv-loop μ-loop = search in
+    let start : tie.Start Inv-loop μ-loop = search in
+    let e : at-loop .loop .q ≡ 32 = omega arith in sym (least-none 32 (committable (start .args .state .now)) (rw e at (at-loop .loop .inv .2)))
 
 pub lowest-committable-spec : {M : Type 1} → statement M
 lowest-committable-spec =

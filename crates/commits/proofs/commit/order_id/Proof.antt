@@ -14,7 +14,9 @@ has-requires : tie.Need-has-requires
 has-requires c κs = search needs
 
 returns : tie.Need-returns
-returns c = order-out _ _ _ (failed (c .before .has .ensures) (c .if1 .taken))
+returns c =
+    let after-has : tie.After-has = search in
+    order-out _ _ _ (failed (after-has .has .ensures) (c .if1 .taken))
 
 is-ordered-requires : tie.Need-is-ordered-requires
 is-ordered-requires c κs = search needs
@@ -23,16 +25,28 @@ same-length : tie.Need-same-length
 same-length c = search needs
 
 returns-2 : tie.Need-returns-2
-returns-2 c = order-old _ _ _ (sym (c .before .is-ordered .ensures) ∙ c .if2 .taken)
+returns-2 c =
+    let after-is-ordered : tie.After-is-ordered = search in
+    order-old _ _ _ (sym (after-is-ordered .is-ordered .ensures) ∙ c .if2 .taken)
 
 enter-id-requires : tie.Need-enter-id-requires
-enter-id-requires c κs = (c .before .before .before .before .before .before .before .pre .0, c .before .before .before .before .before .before .before .pre .1, c .before .before .before .before .before .before .before .pre .2, room-for (c .before .before .before .before .before .before .before .args .state .now) (c .before .before .before .before .before .before .before .args .id) (c .before .before .before .before .before .before .before .pre .3) (c .before .before .before .before .before .before .before .pre .1) (c .before .before .before .before .before .before .before .pre .2) (sym (c .before .before .is-ordered .ensures) ∙ c .before .if2 .left))
+enter-id-requires c κs =
+    let else2 : tie.Else2 = search in
+    let after-is-ordered : tie.After-is-ordered = search in
+    let start : tie.Start = search in
+    (start .pre .0, start .pre .1, start .pre .2, room-for (start .args .state .now) (start .args .id) (start .pre .3) (start .pre .1) (start .pre .2) (sym (after-is-ordered .is-ordered .ensures) ∙ else2 .if2 .left))
 
 same-length-2 : tie.Need-same-length-2
 same-length-2 c = search needs
 
 returns-3 : tie.Need-returns-3
-returns-3 c = c .before .before .enter-id .ensures ∙ order-new _ _ _ (passed (c .before .before .before .before .before .before .before .before .has .ensures) (c .before .before .before .before .before .before .before .if1 .left)) (sym (c .before .before .before .before .before .is-ordered .ensures) ∙ c .before .before .before .before .if2 .left)
+returns-3 c =
+    let after-enter-id : tie.After-enter-id = search in
+    let else2 : tie.Else2 = search in
+    let after-is-ordered : tie.After-is-ordered = search in
+    let else1 : tie.Else1 = search in
+    let after-has : tie.After-has = search in
+    after-enter-id .enter-id .ensures ∙ order-new _ _ _ (passed (after-has .has .ensures) (else1 .if1 .left)) (sym (after-is-ordered .is-ordered .ensures) ∙ else2 .if2 .left)
 
 pub order-id-spec : {M : Type 1} → statement M
 order-id-spec =

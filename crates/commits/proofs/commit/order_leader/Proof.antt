@@ -16,19 +16,25 @@ abbrev μ-loop : tie.MeasureT-loop
 μ-loop state₀ n round masks r₀ state r = round - r
 
 leader-of-requires : tie.Need-leader-of-requires Inv-loop μ-loop
-leader-of-requires c κs = (omega (arith, c .before .before .pre .0 .low), c .before .before .pre .3)
+leader-of-requires c κs =
+    let the-start : tie.Start Inv-loop μ-loop = search in
+    (omega (arith, the-start .pre .0 .low), the-start .pre .3)
 
 history-of-requires : tie.Need-history-of-requires Inv-loop μ-loop
-history-of-requires c κs = let s = c .before .before .before in (
-  s .pre .0,
-  s .pre .2,
-  s .pre .3,
-  omega arith,
-  omega (arith, c .leader-of .ensures, leader-lt (s .args .n) (s .args .round) (omega (arith, s .pre .0 .low)), s .pre .0 .high),
-)
+history-of-requires c κs =
+    let the-start : tie.Start Inv-loop μ-loop = search in
+    let s = the-start in (
+      s .pre .0,
+      s .pre .2,
+      s .pre .3,
+      omega arith,
+      omega (arith, c .leader-of .ensures, leader-lt (s .args .n) (s .args .round) (omega (arith, s .pre .0 .low)), s .pre .0 .high),
+    )
 
 loop-holds : tie.Need-loop-holds Inv-loop μ-loop
-loop-holds c = let s = c .before .before .before .before in (omega arith, start (s .args .n) (s .args .state .now) (s .pre .0) (s .pre .1) (s .pre .2) (s .args .round) (s .pre .5))
+loop-holds c =
+    let the-start : tie.Start Inv-loop μ-loop = search in
+    let s = the-start in (omega arith, start (s .args .n) (s .args .state .now) (s .pre .0) (s .pre .1) (s .pre .2) (s .args .round) (s .pre .5))
 
 wide-requires : tie.Need-wide-requires Inv-loop μ-loop
 wide-requires c κs = search needs
@@ -43,12 +49,15 @@ add-order-round : tie.Need-add-order-round Inv-loop μ-loop
 add-order-round c = search needs
 
 order-round-requires : tie.Need-order-round-requires Inv-loop μ-loop
-order-round-requires c κs = let s = c .before .before .before .before .before .before .before .before in
-    let y = 16 * (c .before .before .before .loop .r + 1) in (
-      ap length (c .before .before .before .loop .inv .1) ∙ so-far-alike (s .args .n) (s .args .state .now) (s .pre .0) (s .pre .1) (s .pre .2) (s .args .round) (s .pre .5) y .size ∙ s .pre .0 .size,
+order-round-requires c κs =
+    let at-loop : tie.At-loop Inv-loop μ-loop = search in
+    let the-start : tie.Start Inv-loop μ-loop = search in
+    let s = the-start in
+    let y = 16 * (at-loop .loop .r + 1) in (
+      ap length (at-loop .loop .inv .1) ∙ so-far-alike (s .args .n) (s .args .state .now) (s .pre .0) (s .pre .1) (s .pre .2) (s .args .round) (s .pre .5) y .size ∙ s .pre .0 .size,
       omega arith,
       omega arith,
-      rw (c .before .before .before .loop .inv .1) (so-far-room (s .args .n) (s .args .state .now) (s .pre .0) (s .pre .1) (s .pre .2) (s .args .round) (s .pre .5) y),
+      rw (at-loop .loop .inv .1) (so-far-room (s .args .n) (s .args .state .now) (s .pre .0) (s .pre .1) (s .pre .2) (s .args .round) (s .pre .5) y),
     )
 
 add-r : tie.Need-add-r Inv-loop μ-loop
@@ -58,21 +67,34 @@ loop-less : tie.Need-loop-less Inv-loop μ-loop
 loop-less c = search needs
 
 loop-again : tie.Need-loop-again Inv-loop μ-loop
-loop-again c = let s = c .before .before .before .before .before .before .before .before .before .before .before in
-    let masks = rw (c .before .before .before .before .before .before .before .before .leader-of .ensures) at (c .before .before .before .before .before .before .before .history-of .ensures) in
-    let mask = ap₂ (λ (x : List ℕ) (k : ℕ). getD x k 0) masks (c .before .before .before .wide .ensures) in (
+loop-again c =
+    let after-order-round : tie.After-order-round Inv-loop μ-loop = search in
+    let after-wide : tie.After-wide Inv-loop μ-loop = search in
+    let at-loop : tie.At-loop Inv-loop μ-loop = search in
+    let after-history-of : tie.After-history-of Inv-loop μ-loop = search in
+    let after-leader-of : tie.After-leader-of Inv-loop μ-loop = search in
+    let the-start : tie.Start Inv-loop μ-loop = search in
+    let s = the-start in
+    let masks = rw (after-leader-of .leader-of .ensures) at (after-history-of .history-of .ensures) in
+    let mask = ap₂ (λ (x : List ℕ) (k : ℕ). getD x k 0) masks (after-wide .wide .ensures) in (
       omega arith,
-      c .before .before .order-round .ensures
-          ∙ round-step (s .args .n) (s .args .state .now) (s .pre .0) (s .pre .1) (s .pre .2) (s .args .round) (s .pre .5) (c .before .before .before .before .before .before .loop .r) _ _ (omega arith) (c .before .before .before .before .before .before .loop .inv .1) mask,
+      after-order-round .order-round .ensures
+          ∙ round-step (s .args .n) (s .args .state .now) (s .pre .0) (s .pre .1) (s .pre .2) (s .args .round) (s .pre .5) (at-loop .loop .r) _ _ (omega arith) (at-loop .loop .inv .1) mask,
     )
 
 same-length : tie.Need-same-length Inv-loop μ-loop
-same-length c = let s = c .before .before .before .before .before .before in ap length (c .before .loop .inv .1) ∙ so-far-alike (s .args .n) (s .args .state .now) (s .pre .0) (s .pre .1) (s .pre .2) (s .args .round) (s .pre .5) (16 * (c .before .loop .r + 1)) .size
+same-length c =
+    let at-loop : tie.At-loop Inv-loop μ-loop = search in
+    let the-start : tie.Start Inv-loop μ-loop = search in
+    let s = the-start in ap length (at-loop .loop .inv .1) ∙ so-far-alike (s .args .n) (s .args .state .now) (s .pre .0) (s .pre .1) (s .pre .2) (s .args .round) (s .pre .5) (16 * (at-loop .loop .r + 1)) .size
 
 returns : tie.Need-returns Inv-loop μ-loop
-returns c = let s = c .before .before .before .before .before .before in
-    let e : c .before .loop .r ≡ s .args .round = omega arith in
-    c .before .loop .inv .1 ∙ ap (λ (x : ℕ). soFarIn (s .args .n) (s .args .state .now) (s .args .round) (16 * (x + 1))) e ∙ last-round (s .args .n) (s .args .state .now) (s .pre .0) (s .pre .1) (s .pre .2) (s .args .round) (s .pre .5) (omega arith)
+returns c =
+    let at-loop : tie.At-loop Inv-loop μ-loop = search in
+    let the-start : tie.Start Inv-loop μ-loop = search in
+    let s = the-start in
+    let e : at-loop .loop .r ≡ s .args .round = omega arith in
+    at-loop .loop .inv .1 ∙ ap (λ (x : ℕ). soFarIn (s .args .n) (s .args .state .now) (s .args .round) (16 * (x + 1))) e ∙ last-round (s .args .n) (s .args .state .now) (s .pre .0) (s .pre .1) (s .pre .2) (s .args .round) (s .pre .5) (omega arith)
 
 pub order-leader-spec : {M : Type 1} → statement M
 order-leader-spec =

@@ -22,20 +22,28 @@ abbrev μ-loop : tie.MeasureT-loop
 μ-loop state₀ n taken rounds r₀ state r = 32 - r
 
 loop-holds : tie.Need-loop-holds Inv-loop μ-loop
-loop-holds c = (omega arith, omega arith, ordering-start _ _ (c .before .pre .2) _ (c .before .pre .4) (c .before .pre .0) (c .before .pre .1) (c .before .pre .3))
+loop-holds c =
+    let start : tie.Start Inv-loop μ-loop = search in
+    (omega arith, omega arith, ordering-start _ _ (start .pre .2) _ (start .pre .4) (start .pre .0) (start .pre .1) (start .pre .3))
 
 has-requires : tie.Need-has-requires Inv-loop μ-loop
 has-requires c κs = search needs
 
 order-leader-requires : tie.Need-order-leader-requires Inv-loop μ-loop
-order-leader-requires c κs = let o = c .before .before .before .before .loop .inv .2 in (
-  o .standing,
-  o .room,
-  ordering-members _ _ (c .before .before .before .before .before .before .pre .2) _ (c .before .before .before .before .before .before .pre .4) _ _ o,
-  c .before .before .before .before .loop .inv .0,
-  omega arith,
-  ordering-held _ _ (c .before .before .before .before .before .before .pre .2) _ (c .before .before .before .before .before .before .pre .4) _ _ o (c .before .before .before .loop-test .taken) (sym (c .before .before .has .ensures) ∙ c .before .if1 .taken),
-)
+order-leader-requires c κs =
+    let then1 : tie.Then1 Inv-loop μ-loop = search in
+    let after-has : tie.After-has Inv-loop μ-loop = search in
+    let in-loop : tie.In-loop Inv-loop μ-loop = search in
+    let at-loop : tie.At-loop Inv-loop μ-loop = search in
+    let start : tie.Start Inv-loop μ-loop = search in
+    let o = at-loop .loop .inv .2 in (
+      o .standing,
+      o .room,
+      ordering-members _ _ (start .pre .2) _ (start .pre .4) _ _ o,
+      at-loop .loop .inv .0,
+      omega arith,
+      ordering-held _ _ (start .pre .2) _ (start .pre .4) _ _ o (in-loop .loop-test .taken) (sym (after-has .has .ensures) ∙ then1 .if1 .taken),
+    )
 
 add-r : tie.Need-add-r Inv-loop μ-loop
 add-r c = search needs
@@ -44,21 +52,30 @@ loop-less : tie.Need-loop-less Inv-loop μ-loop
 loop-less c = search needs
 
 loop-again : tie.Need-loop-again Inv-loop μ-loop
-loop-again c = (
-  omega arith,
-  omega arith,
-  ⊎-elim
-      (λ v. ordering-in _ _ (c .before .before .before .before .before .pre .2) _ (c .before .before .before .before .before .pre .4) _ _ _ (c .before .before .before .loop .inv .2) (c .before .before .loop-test .taken) (sym (c .before .has .ensures) ∙ v .0 .taken) (v .5 ∙ v .2 .ensures))
-      (λ v. ordering-out _ _ (c .before .before .before .before .before .pre .2) _ (c .before .before .before .before .before .pre .4) _ _ _ (c .before .before .before .loop .inv .2) (sym (c .before .has .ensures) ∙ v .0 .left) (v .1))
-      (c .if1 .came),
-)
+loop-again c =
+    let after-has : tie.After-has Inv-loop μ-loop = search in
+    let in-loop : tie.In-loop Inv-loop μ-loop = search in
+    let at-loop : tie.At-loop Inv-loop μ-loop = search in
+    let start : tie.Start Inv-loop μ-loop = search in (
+      omega arith,
+      omega arith,
+      ⊎-elim
+          (λ v. ordering-in _ _ (start .pre .2) _ (start .pre .4) _ _ _ (at-loop .loop .inv .2) (in-loop .loop-test .taken) (sym (after-has .has .ensures) ∙ v .0 .taken) (v .5 ∙ v .2 .ensures))
+          (λ v. ordering-out _ _ (start .pre .2) _ (start .pre .4) _ _ _ (at-loop .loop .inv .2) (sym (after-has .has .ensures) ∙ v .0 .left) (v .1))
+          (c .if1 .came),
+    )
 
 same-length : tie.Need-same-length Inv-loop μ-loop
-same-length c = c .before .loop .inv .2 .alike .size
+same-length c =
+    let at-loop : tie.At-loop Inv-loop μ-loop = search in
+    at-loop .loop .inv .2 .alike .size
 
 returns : tie.Need-returns Inv-loop μ-loop
-returns c = let e : c .before .loop .r ≡ 32 = omega arith in
-    c .before .loop .inv .2 .is ∙ ap (λ (x : ℕ). orderLeaders (vertices (c .before .before .before .args .state .now)) (c .before .before .before .args .state .now) (select x (has (c .before .before .before .args .taken)))) e
+returns c =
+    let at-loop : tie.At-loop Inv-loop μ-loop = search in
+    let start : tie.Start Inv-loop μ-loop = search in
+    let e : at-loop .loop .r ≡ 32 = omega arith in
+    at-loop .loop .inv .2 .is ∙ ap (λ (x : ℕ). orderLeaders (vertices (start .args .state .now)) (start .args .state .now) (select x (has (start .args .taken)))) e
 
 pub order-leaders-spec : {M : Type 1} → statement M
 order-leaders-spec =

@@ -24,7 +24,10 @@ same-length : tie.Need-same-length Inv-loop μ-loop
 same-length c = search needs
 
 returns : tie.Need-returns Inv-loop μ-loop
-returns c = round-old _ _ _ 16 (c .before .before .before .before .pre .1) (c .before .before .before .before .pre .2) (omega arith) (eq-eqb _ _ (rw (c .before .ordered-mask .ensures) at (c .if1 .taken)))
+returns c =
+    let after-ordered-mask : tie.After-ordered-mask Inv-loop μ-loop = search in
+    let start : tie.Start Inv-loop μ-loop = search in
+    round-old _ _ _ 16 (start .pre .1) (start .pre .2) (omega arith) (eq-eqb _ _ (rw (after-ordered-mask .ordered-mask .ensures) at (c .if1 .taken)))
 
 loop-holds : tie.Need-loop-holds Inv-loop μ-loop
 loop-holds c = (omega arith, round-none _ _ _)
@@ -36,12 +39,15 @@ add-order-id : tie.Need-add-order-id Inv-loop μ-loop
 add-order-id c = search needs
 
 order-id-requires : tie.Need-order-id-requires Inv-loop μ-loop
-order-id-requires c κs = let k = round-keeps (c .before .before .before .before .before .before .before .args .state .now) (c .before .before .before .before .before .before .before .args .mask) (c .before .before .before .before .before .before .before .args .round) (c .before .before .loop .p) (c .before .before .before .before .before .before .before .pre .1) (c .before .before .before .before .before .before .before .pre .2) (c .before .before .loop .inv .0) (c .before .before .before .before .before .before .before .pre .0, c .before .before .before .before .before .before .before .pre .3) in (
-  ap length (c .before .before .loop .inv .1) ∙ k .0,
-  omega arith,
-  omega arith,
-  rw (c .before .before .loop .inv .1) (k .1),
-)
+order-id-requires c κs =
+    let at-loop : tie.At-loop Inv-loop μ-loop = search in
+    let start : tie.Start Inv-loop μ-loop = search in
+    let k = round-keeps (start .args .state .now) (start .args .mask) (start .args .round) (at-loop .loop .p) (start .pre .1) (start .pre .2) (at-loop .loop .inv .0) (start .pre .0, start .pre .3) in (
+      ap length (at-loop .loop .inv .1) ∙ k .0,
+      omega arith,
+      omega arith,
+      rw (at-loop .loop .inv .1) (k .1),
+    )
 
 add-p : tie.Need-add-p Inv-loop μ-loop
 add-p c = search needs
@@ -50,16 +56,25 @@ loop-less : tie.Need-loop-less Inv-loop μ-loop
 loop-less c = search needs
 
 loop-again : tie.Need-loop-again Inv-loop μ-loop
-loop-again c = (
-  omega arith,
-  c .before .before .order-id .ensures ∙ ap (λ (x : List ℕ). orderId x (c .before .before .before .before .before .before .before .before .before .before .args .mask) (16 * c .before .before .before .before .before .before .before .before .before .before .args .round + c .before .before .before .before .before .loop .p)) (c .before .before .before .before .before .loop .inv .1) ∙ round-more _ _ _ _,
-)
+loop-again c =
+    let after-order-id : tie.After-order-id Inv-loop μ-loop = search in
+    let at-loop : tie.At-loop Inv-loop μ-loop = search in
+    let start : tie.Start Inv-loop μ-loop = search in (
+      omega arith,
+      after-order-id .order-id .ensures ∙ ap (λ (x : List ℕ). orderId x (start .args .mask) (16 * start .args .round + at-loop .loop .p)) (at-loop .loop .inv .1) ∙ round-more _ _ _ _,
+    )
 
 same-length-2 : tie.Need-same-length-2 Inv-loop μ-loop
-same-length-2 c = ap length (c .before .loop .inv .1) ∙ round-keeps (c .before .before .before .before .before .before .args .state .now) (c .before .before .before .before .before .before .args .mask) (c .before .before .before .before .before .before .args .round) (c .before .loop .p) (c .before .before .before .before .before .before .pre .1) (c .before .before .before .before .before .before .pre .2) (c .before .loop .inv .0) (c .before .before .before .before .before .before .pre .0, c .before .before .before .before .before .before .pre .3) .0 ∙ sym (c .before .before .before .before .before .before .pre .0)
+same-length-2 c =
+    let at-loop : tie.At-loop Inv-loop μ-loop = search in
+    let start : tie.Start Inv-loop μ-loop = search in
+    ap length (at-loop .loop .inv .1) ∙ round-keeps (start .args .state .now) (start .args .mask) (start .args .round) (at-loop .loop .p) (start .pre .1) (start .pre .2) (at-loop .loop .inv .0) (start .pre .0, start .pre .3) .0 ∙ sym (start .pre .0)
 
 returns-2 : tie.Need-returns-2 Inv-loop μ-loop
-returns-2 c = let e : c .before .loop .p ≡ 16 = omega arith in c .before .loop .inv .1 ∙ ap (orderRound (c .before .before .before .before .before .before .args .state .now) (c .before .before .before .before .before .before .args .mask) (c .before .before .before .before .before .before .args .round)) e
+returns-2 c =
+    let at-loop : tie.At-loop Inv-loop μ-loop = search in
+    let start : tie.Start Inv-loop μ-loop = search in
+    let e : at-loop .loop .p ≡ 16 = omega arith in at-loop .loop .inv .1 ∙ ap (orderRound (start .args .state .now) (start .args .mask) (start .args .round)) e
 
 pub order-round-spec : {M : Type 1} → statement M
 order-round-spec =

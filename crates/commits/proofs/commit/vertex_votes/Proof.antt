@@ -35,7 +35,9 @@ add-cell-at : tie.Need-add-cell-at Inv-loop μ-loop
 add-cell-at c = search needs
 
 cell-at-requires : tie.Need-cell-at-requires Inv-loop μ-loop
-cell-at-requires c κs = (omega arith, omega arith, omega (arith, c .before .before .before .pre .0 .high))
+cell-at-requires c κs =
+    let start : tie.Start Inv-loop μ-loop = search in
+    (omega arith, omega arith, omega (arith, start .pre .0 .high))
 
 mul-t11 : tie.Need-mul-t11 Inv-loop μ-loop
 mul-t11 c = search needs
@@ -44,10 +46,15 @@ shared-slice-read-t10 : tie.Need-shared-slice-read-t10 Inv-loop μ-loop
 shared-slice-read-t10 c = search needs
 
 has-requires : tie.Need-has-requires Inv-loop μ-loop
-has-requires c κs = omega (arith, c .before .before .before .before .before .pre .3, leader-small (c .before .before .before .before .before .args .n) (c .before .before .before .before .before .args .q) (omega arith))
+has-requires c κs =
+    let start : tie.Start Inv-loop μ-loop = search in
+    omega (arith, start .pre .3, leader-small (start .args .n) (start .args .q) (omega arith))
 
 add-count : tie.Need-add-count Inv-loop μ-loop
-add-count c = omega (arith, c .before .before .before .before .before .loop .inv .1, count-le (c .before .before .before .before .before .loop .p) (λ m. votes (c .before .before .before .before .before .before .before .args .n) (c .before .before .before .before .before .before .before .args .q) (vertices (c .before .before .before .before .before .before .before .args .state .now) (suc (c .before .before .before .before .before .before .before .args .q)) m)), c .before .before .before .before .before .before .before .pre .0 .high)
+add-count c =
+    let at-loop : tie.At-loop Inv-loop μ-loop = search in
+    let start : tie.Start Inv-loop μ-loop = search in
+    omega (arith, at-loop .loop .inv .1, count-le (at-loop .loop .p) (λ m. votes (start .args .n) (start .args .q) (vertices (start .args .state .now) (suc (start .args .q)) m)), start .pre .0 .high)
 
 add-p : tie.Need-add-p Inv-loop μ-loop
 add-p c = search needs
@@ -56,18 +63,26 @@ loop-less : tie.Need-loop-less Inv-loop μ-loop
 loop-less c = search needs
 
 loop-again : tie.Need-loop-again Inv-loop μ-loop
-loop-again c = let t : ℕ → Bool = λ m. votes (c .before .before .before .before .before .before .before .args .n) (c .before .before .before .before .before .before .before .args .q) (vertices (c .before .before .before .before .before .before .before .args .state .now) (suc (c .before .before .before .before .before .before .before .args .q)) m) in
-    let e = sym (rw (c .before .before .before .before .before .before .before .pre .3) at (c .before .has .ensures)) in
-    let d = vertex-vote _ (c .before .before .before .before .before .before .before .pre .0) (c .before .before .before .before .before .before .before .args .n) (c .before .before .before .before .before .before .before .args .q) (c .before .before .before .before .before .loop .p) (c .before .before .before .cell-at .result) (c .before .before .before .before .before .before .before .pre .2) (omega (arith, c .before .before .before .before .before .before .before .pre .0 .high)) (c .before .before .before .cell-at .ensures) in (
+loop-again c =
+    let after-has : tie.After-has Inv-loop μ-loop = search in
+    let after-cell-at : tie.After-cell-at Inv-loop μ-loop = search in
+    let at-loop : tie.At-loop Inv-loop μ-loop = search in
+    let start : tie.Start Inv-loop μ-loop = search in
+    let t : ℕ → Bool = λ m. votes (start .args .n) (start .args .q) (vertices (start .args .state .now) (suc (start .args .q)) m) in
+    let e = sym (rw (start .pre .3) at (after-has .has .ensures)) in
+    let d = vertex-vote _ (start .pre .0) (start .args .n) (start .args .q) (at-loop .loop .p) (after-cell-at .cell-at .result) (start .pre .2) (omega (arith, start .pre .0 .high)) (after-cell-at .cell-at .ensures) in (
       omega arith,
       ⊎-elim
-          (λ v. v .1 ∙ ap (λ (x : ℕ). x + 1) (c .before .before .before .before .before .loop .inv .1) ∙ sym (count-more (c .before .before .before .before .before .loop .p) t (sym d ∙ (e ∙ v .0 .taken))))
-          (λ v. v .1 ∙ c .before .before .before .before .before .loop .inv .1 ∙ sym (count-same (c .before .before .before .before .before .loop .p) t (sym d ∙ (e ∙ v .0 .left))))
+          (λ v. v .1 ∙ ap (λ (x : ℕ). x + 1) (at-loop .loop .inv .1) ∙ sym (count-more (at-loop .loop .p) t (sym d ∙ (e ∙ v .0 .taken))))
+          (λ v. v .1 ∙ at-loop .loop .inv .1 ∙ sym (count-same (at-loop .loop .p) t (sym d ∙ (e ∙ v .0 .left))))
           (c .if1 .came),
     )
 
 returns : tie.Need-returns Inv-loop μ-loop
-returns c = let e : c .before .loop .p ≡ c .before .before .before .args .n = omega arith in rw e at (c .before .loop .inv .1)
+returns c =
+    let at-loop : tie.At-loop Inv-loop μ-loop = search in
+    let start : tie.Start Inv-loop μ-loop = search in
+    let e : at-loop .loop .p ≡ start .args .n = omega arith in rw e at (at-loop .loop .inv .1)
 
 pub vertex-votes-spec : {M : Type 1} → statement M
 vertex-votes-spec =

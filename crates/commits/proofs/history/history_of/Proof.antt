@@ -46,7 +46,9 @@ sub-k : tie.Need-sub-k Inv-loop μ-loop
 sub-k c = search needs
 
 loop-holds : tie.Need-loop-holds Inv-loop μ-loop
-loop-holds c = (omega arith, history-start _ _ _ _ _ _ (c .before .wide .ensures ∙ omega arith) (c .power .ensures))
+loop-holds c =
+    let after-wide : tie.After-wide Inv-loop μ-loop = search in
+    (omega arith, history-start _ _ _ _ _ _ (after-wide .wide .ensures ∙ omega arith) (c .power .ensures))
 
 add-join-round : tie.Need-add-join-round Inv-loop μ-loop
 add-join-round c = search needs
@@ -61,15 +63,21 @@ loop-less : tie.Need-loop-less Inv-loop μ-loop
 loop-less c = search needs
 
 loop-again : tie.Need-loop-again Inv-loop μ-loop
-loop-again c = (
-  omega arith,
-  c .before .before .before .loop .inv .1 ∙ fill-step _ _ _ _ (c .before .before .loop-test .taken)
-      ∙ ap (λ (h : List ℕ). fill (c .before .before .before .before .before .before .before .args .n) (vertices (c .before .before .before .before .before .before .before .args .state .now)) h (c .before .before .before .loop .k - 1)) (sym (c .join-round .ensures)),
-)
+loop-again c =
+    let in-loop : tie.In-loop Inv-loop μ-loop = search in
+    let at-loop : tie.At-loop Inv-loop μ-loop = search in
+    let start : tie.Start Inv-loop μ-loop = search in (
+      omega arith,
+      at-loop .loop .inv .1 ∙ fill-step _ _ _ _ (in-loop .loop-test .taken)
+          ∙ ap (λ (h : List ℕ). fill (start .args .n) (vertices (start .args .state .now)) h (at-loop .loop .k - 1)) (sym (c .join-round .ensures)),
+    )
 
 returns : tie.Need-returns Inv-loop μ-loop
-returns c = let e : c .before .loop .k ≡ 0 = omega arith in
-    sym (c .before .loop .inv .1 ∙ ap (fill (c .before .before .before .before .before .args .n) (vertices (c .before .before .before .before .before .args .state .now)) (c .before .loop .masks)) e ∙ fill-none _ _ _)
+returns c =
+    let at-loop : tie.At-loop Inv-loop μ-loop = search in
+    let start : tie.Start Inv-loop μ-loop = search in
+    let e : at-loop .loop .k ≡ 0 = omega arith in
+    sym (at-loop .loop .inv .1 ∙ ap (fill (start .args .n) (vertices (start .args .state .now)) (at-loop .loop .masks)) e ∙ fill-none _ _ _)
 
 pub history-of-spec : {M : Type 1} → statement M
 history-of-spec =

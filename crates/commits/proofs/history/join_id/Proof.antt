@@ -30,7 +30,9 @@ element-write-masks c = search needs
 
 returns : tie.Need-returns
 unfolding join
-returns c = rw (c .before .before .wide .ensures, c .power .ensures)
+returns c =
+    let after-wide : tie.After-wide = search in
+    rw (after-wide .wide .ensures, c .power .ensures)
 
 pub join-id-spec : {M : Type 1} → statement M
 join-id-spec =

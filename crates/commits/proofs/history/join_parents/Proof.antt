@@ -48,9 +48,13 @@ join-weak-requires : tie.Need-join-weak-requires
 join-weak-requires c κs = search needs
 
 returns : tie.Need-returns
-returns c = c .join-weak .ensures ∙ join-strong (vertices (c .before .before .before .before .before .before .before .args .state .now)) (c .before .before .before .before .before .before .before .args .masks .now) (c .before .before .before .before .before .before .before .args .round) (c .before .before .before .before .before .before .before .args .member) (c .before .before .before .before .wide .result)
-    (getD (c .before .before .before .before .before .before .before .args .state .now) (c .before .before .before .before .before .cell-at .result) 0) (omega (arith, c .before .before .before .before .wide .ensures))
-    (ap (λ (x : ℕ). getD (c .before .before .before .before .before .before .before .args .state .now) x 0) (c .before .before .before .before .before .cell-at .ensures) ∙ sym (strong-word _ (c .before .before .before .before .before .before .before .pre .0) _ _ (omega arith) (c .before .before .before .before .before .before .before .pre .2) (c .before .before .before .before .before .before .before .pre .3)))
+returns c =
+    let after-wide : tie.After-wide = search in
+    let after-cell-at : tie.After-cell-at = search in
+    let start : tie.Start = search in
+    c .join-weak .ensures ∙ join-strong (vertices (start .args .state .now)) (start .args .masks .now) (start .args .round) (start .args .member) (after-wide .wide .result)
+    (getD (start .args .state .now) (after-cell-at .cell-at .result) 0) (omega (arith, after-wide .wide .ensures))
+    (ap (λ (x : ℕ). getD (start .args .state .now) x 0) (after-cell-at .cell-at .ensures) ∙ sym (strong-word _ (start .pre .0) _ _ (omega arith) (start .pre .2) (start .pre .3)))
 
 pub join-parents-spec : {M : Type 1} → statement M
 join-parents-spec =

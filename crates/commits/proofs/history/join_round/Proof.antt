@@ -42,10 +42,14 @@ element-copy-out-t13 : tie.Need-element-copy-out-t13 Inv-loop μ-loop
 element-copy-out-t13 c = search needs
 
 has-requires : tie.Need-has-requires Inv-loop μ-loop
-has-requires c κs = omega (arith, c .before .before .before .before .before .pre .0 .high)
+has-requires c κs =
+    let start : tie.Start Inv-loop μ-loop = search in
+    omega (arith, start .pre .0 .high)
 
 join-parents-requires : tie.Need-join-parents-requires Inv-loop μ-loop
-join-parents-requires c κs = (c .before .before .before .before .before .before .before .before .pre .0, search needs, search needs, omega (arith, c .before .before .before .before .before .before .before .before .pre .0 .high))
+join-parents-requires c κs =
+    let start : tie.Start Inv-loop μ-loop = search in
+    (start .pre .0, search needs, search needs, omega (arith, start .pre .0 .high))
 
 add-p : tie.Need-add-p Inv-loop μ-loop
 add-p c = search needs
@@ -54,18 +58,26 @@ loop-less : tie.Need-loop-less Inv-loop μ-loop
 loop-less c = search needs
 
 loop-again : tie.Need-loop-again Inv-loop μ-loop
-loop-again c = let v = vertices (c .before .before .before .before .before .before .before .args .state .now) in
-    let e = sym (c .before .has .ensures ∙ ap₂ (λ (h : List ℕ) (k : ℕ). has (getD h k 0) (c .before .before .before .before .loop .p)) (c .before .before .before .before .loop .inv .1) (c .before .before .before .before .before .wide .ensures)) in (
+loop-again c =
+    let after-has : tie.After-has Inv-loop μ-loop = search in
+    let at-loop : tie.At-loop Inv-loop μ-loop = search in
+    let after-wide : tie.After-wide Inv-loop μ-loop = search in
+    let start : tie.Start Inv-loop μ-loop = search in
+    let v = vertices (start .args .state .now) in
+    let e = sym (after-has .has .ensures ∙ ap₂ (λ (h : List ℕ) (k : ℕ). has (getD h k 0) (at-loop .loop .p)) (at-loop .loop .inv .1) (after-wide .wide .ensures)) in (
       omega arith,
       ⊎-elim
-          (λ t. t .3 ∙ t .2 .ensures ∙ ap (λ (h : List ℕ). joinParents v h (c .before .before .before .before .before .before .before .args .round) (c .before .before .before .before .loop .p)) (c .before .before .before .before .loop .inv .1)
-          ∙ join-round-in v (c .before .before .before .before .before .before .before .args .masks .now) (c .before .before .before .before .before .before .before .args .round) (c .before .before .before .before .loop .p) (e ∙ t .0 .taken))
-          (λ t. t .1 ∙ c .before .before .before .before .loop .inv .1 ∙ join-round-out v (c .before .before .before .before .before .before .before .args .masks .now) (c .before .before .before .before .before .before .before .args .round) (c .before .before .before .before .loop .p) (e ∙ t .0 .left))
+          (λ t. t .3 ∙ t .2 .ensures ∙ ap (λ (h : List ℕ). joinParents v h (start .args .round) (at-loop .loop .p)) (at-loop .loop .inv .1)
+          ∙ join-round-in v (start .args .masks .now) (start .args .round) (at-loop .loop .p) (e ∙ t .0 .taken))
+          (λ t. t .1 ∙ at-loop .loop .inv .1 ∙ join-round-out v (start .args .masks .now) (start .args .round) (at-loop .loop .p) (e ∙ t .0 .left))
           (c .if1 .came),
     )
 
 returns : tie.Need-returns Inv-loop μ-loop
-returns c = let e : c .before .loop .p ≡ c .before .before .before .before .args .n = omega arith in rw e at (c .before .loop .inv .1)
+returns c =
+    let at-loop : tie.At-loop Inv-loop μ-loop = search in
+    let start : tie.Start Inv-loop μ-loop = search in
+    let e : at-loop .loop .p ≡ start .args .n = omega arith in rw e at (at-loop .loop .inv .1)
 
 pub join-round-spec : {M : Type 1} → statement M
 join-round-spec =

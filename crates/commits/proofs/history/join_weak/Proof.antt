@@ -44,9 +44,12 @@ wide-requires : tie.Need-wide-requires Inv-loop μ-loop
 wide-requires c κs = search needs
 
 loop-holds : tie.Need-loop-holds Inv-loop μ-loop
-loop-holds c = let e = c .wide .ensures ∙ ap (λ (x : ℕ). getD (c .before .before .before .before .args .state .now) (x + 4) 0) (c .before .before .cell-at .ensures)
-    ∙ sym (weak-count-word _ (c .before .before .before .before .pre .0) _ _ (c .before .before .before .before .pre .1) (c .before .before .before .before .pre .2) (c .before .before .before .before .pre .3)) in
-    (omega arith, e, omega (arith, e, weak-few _ (c .before .before .before .before .pre .0) (c .before .before .before .before .args .round) (c .before .before .before .before .args .member)), join-weak-none _ _)
+loop-holds c =
+    let after-cell-at : tie.After-cell-at Inv-loop μ-loop = search in
+    let start : tie.Start Inv-loop μ-loop = search in
+    let e = c .wide .ensures ∙ ap (λ (x : ℕ). getD (start .args .state .now) (x + 4) 0) (after-cell-at .cell-at .ensures)
+    ∙ sym (weak-count-word _ (start .pre .0) _ _ (start .pre .1) (start .pre .2) (start .pre .3)) in
+    (omega arith, e, omega (arith, e, weak-few _ (start .pre .0) (start .args .round) (start .args .member)), join-weak-none _ _)
 
 add-join-id : tie.Need-add-join-id Inv-loop μ-loop
 add-join-id c = search needs
@@ -58,12 +61,19 @@ mul-join-id : tie.Need-mul-join-id Inv-loop μ-loop
 mul-join-id c = search needs
 
 shared-slice-read-join-id : tie.Need-shared-slice-read-join-id Inv-loop μ-loop
-shared-slice-read-join-id c = omega (arith, c .before .before .before .before .before .before .cell-at .ensures, c .before .before .before .before .before .before .before .before .pre .0 .size)
+shared-slice-read-join-id c =
+    let after-cell-at : tie.After-cell-at Inv-loop μ-loop = search in
+    let start : tie.Start Inv-loop μ-loop = search in
+    omega (arith, after-cell-at .cell-at .ensures, start .pre .0 .size)
 
 join-id-requires : tie.Need-join-id-requires Inv-loop μ-loop
-join-id-requires c κs = let w = weak-range _ (c .before .before .before .before .before .before .before .before .pre .0) (c .before .before .before .before .before .before .before .before .args .round) (c .before .before .before .before .before .before .before .before .args .member) (c .before .before .before .loop .i) (omega (arith, c .before .before .before .loop .inv .1)) in
-    let e = ap (λ (x : ℕ). getD (c .before .before .before .before .before .before .before .before .args .state .now) (x + (5 + c .before .before .before .loop .i)) 0) (c .before .before .before .before .before .before .cell-at .ensures)
-    ∙ sym (weak-word _ (c .before .before .before .before .before .before .before .before .pre .0) _ _ (c .before .before .before .before .before .before .before .before .pre .1) (c .before .before .before .before .before .before .before .before .pre .2) (c .before .before .before .before .before .before .before .before .pre .3) (c .before .before .before .loop .i) (w .0)) in
+join-id-requires c κs =
+    let at-loop : tie.At-loop Inv-loop μ-loop = search in
+    let after-cell-at : tie.After-cell-at Inv-loop μ-loop = search in
+    let start : tie.Start Inv-loop μ-loop = search in
+    let w = weak-range _ (start .pre .0) (start .args .round) (start .args .member) (at-loop .loop .i) (omega (arith, at-loop .loop .inv .1)) in
+    let e = ap (λ (x : ℕ). getD (start .args .state .now) (x + (5 + at-loop .loop .i)) 0) (after-cell-at .cell-at .ensures)
+    ∙ sym (weak-word _ (start .pre .0) _ _ (start .pre .1) (start .pre .2) (start .pre .3) (at-loop .loop .i) (w .0)) in
     (omega (arith, e, w .1), omega (arith, e, w .2))
 
 add-i : tie.Need-add-i Inv-loop μ-loop
@@ -73,17 +83,24 @@ loop-less : tie.Need-loop-less Inv-loop μ-loop
 loop-less c = search needs
 
 loop-again : tie.Need-loop-again Inv-loop μ-loop
-loop-again c = let w = weak-range _ (c .before .before .before .before .before .before .before .before .before .pre .0) (c .before .before .before .before .before .before .before .before .before .args .round) (c .before .before .before .before .before .before .before .before .before .args .member) (c .before .before .before .before .loop .i) (omega (arith, c .before .before .before .before .loop .inv .1)) in
-    let e = ap (λ (x : ℕ). getD (c .before .before .before .before .before .before .before .before .before .args .state .now) (x + (5 + c .before .before .before .before .loop .i)) 0) (c .before .before .before .before .before .before .before .cell-at .ensures)
-    ∙ sym (weak-word _ (c .before .before .before .before .before .before .before .before .before .pre .0) _ _ (c .before .before .before .before .before .before .before .before .before .pre .1) (c .before .before .before .before .before .before .before .before .before .pre .2) (c .before .before .before .before .before .before .before .before .before .pre .3) (c .before .before .before .before .loop .i) (w .0)) in (
+loop-again c =
+    let at-loop : tie.At-loop Inv-loop μ-loop = search in
+    let after-cell-at : tie.After-cell-at Inv-loop μ-loop = search in
+    let start : tie.Start Inv-loop μ-loop = search in
+    let w = weak-range _ (start .pre .0) (start .args .round) (start .args .member) (at-loop .loop .i) (omega (arith, at-loop .loop .inv .1)) in
+    let e = ap (λ (x : ℕ). getD (start .args .state .now) (x + (5 + at-loop .loop .i)) 0) (after-cell-at .cell-at .ensures)
+    ∙ sym (weak-word _ (start .pre .0) _ _ (start .pre .1) (start .pre .2) (start .pre .3) (at-loop .loop .i) (w .0)) in (
       omega arith,
-      c .before .before .before .before .loop .inv .1,
-      c .before .before .before .before .loop .inv .2,
-      c .join-id .ensures ∙ ap₂ (λ (h : List ℕ) (y : ℕ). join h (y / 16) (2 ^ (y % 16))) (c .before .before .before .before .loop .inv .3) e ∙ join-weak-more _ _ _,
+      at-loop .loop .inv .1,
+      at-loop .loop .inv .2,
+      c .join-id .ensures ∙ ap₂ (λ (h : List ℕ) (y : ℕ). join h (y / 16) (2 ^ (y % 16))) (at-loop .loop .inv .3) e ∙ join-weak-more _ _ _,
     )
 
 returns : tie.Need-returns Inv-loop μ-loop
-returns c = let e : c .before .loop .i ≡ weakCountOf (vertices (c .before .before .before .before .before .before .args .state .now) (c .before .before .before .before .before .before .args .round) (c .before .before .before .before .before .before .args .member)) = omega (arith, c .before .loop .inv .1) in rw e at (c .before .loop .inv .3)
+returns c =
+    let at-loop : tie.At-loop Inv-loop μ-loop = search in
+    let start : tie.Start Inv-loop μ-loop = search in
+    let e : at-loop .loop .i ≡ weakCountOf (vertices (start .args .state .now) (start .args .round) (start .args .member)) = omega (arith, at-loop .loop .inv .1) in rw e at (at-loop .loop .inv .3)
 
 pub join-weak-spec : {M : Type 1} → statement M
 join-weak-spec =

@@ -23,7 +23,11 @@ is-passable-requires : tie.Need-is-passable-requires Inv-loop μ-loop
 is-passable-requires c κs = search needs
 
 returns : tie.Need-returns Inv-loop μ-loop
-returns c = (sym (c .before .before .before .loop .inv .1 ∙ highest-here _ _ (c .before .before .loop-test .taken) (sym (c .before .is-passable .ensures) ∙ c .if1 .taken)), c .before .before .before .loop .inv .0)
+returns c =
+    let after-is-passable : tie.After-is-passable Inv-loop μ-loop = search in
+    let in-loop : tie.In-loop Inv-loop μ-loop = search in
+    let at-loop : tie.At-loop Inv-loop μ-loop = search in
+    (sym (at-loop .loop .inv .1 ∙ highest-here _ _ (in-loop .loop-test .taken) (sym (after-is-passable .is-passable .ensures) ∙ c .if1 .taken)), at-loop .loop .inv .0)
 
 sub-round : tie.Need-sub-round Inv-loop μ-loop
 sub-round c = search needs
@@ -32,11 +36,18 @@ loop-less : tie.Need-loop-less Inv-loop μ-loop
 loop-less c = search needs
 
 loop-again : tie.Need-loop-again Inv-loop μ-loop
-loop-again c = (omega arith, c .before .before .before .loop .inv .1 ∙ highest-below _ _ (c .before .before .loop-test .taken) (sym (c .before .is-passable .ensures) ∙ c .if1 .left))
+loop-again c =
+    let after-is-passable : tie.After-is-passable Inv-loop μ-loop = search in
+    let in-loop : tie.In-loop Inv-loop μ-loop = search in
+    let at-loop : tie.At-loop Inv-loop μ-loop = search in
+    (omega arith, at-loop .loop .inv .1 ∙ highest-below _ _ (in-loop .loop-test .taken) (sym (after-is-passable .is-passable .ensures) ∙ c .if1 .left))
 
 returns-2 : tie.Need-returns-2 Inv-loop μ-loop
-returns-2 c = let e : c .before .loop .round ≡ 0 = omega arith in
-    (sym (c .before .loop .inv .1 ∙ ap (highestPassable (c .before .before .before .args .state .now)) e ∙ sym (highest-none _)), omega arith)
+returns-2 c =
+    let at-loop : tie.At-loop Inv-loop μ-loop = search in
+    let start : tie.Start Inv-loop μ-loop = search in
+    let e : at-loop .loop .round ≡ 0 = omega arith in
+    (sym (at-loop .loop .inv .1 ∙ ap (highestPassable (start .args .state .now)) e ∙ sym (highest-none _)), omega arith)
 
 pub highest-passable-spec : {M : Type 1} → statement M
 highest-passable-spec =

@@ -21,17 +21,30 @@ meets-quorum-requires : tie.Need-meets-quorum-requires
 meets-quorum-requires c κs = search needs
 
 returns : tie.Need-returns
-returns c = passable-few _ _ _ (c .before .before .before .before .pre .1) (failed (rw (c .before .before .held-mask .ensures) at (c .before .meets-quorum .ensures)) (c .if1 .taken))
+returns c =
+    let after-meets-quorum : tie.After-meets-quorum = search in
+    let after-held-mask : tie.After-held-mask = search in
+    let start : tie.Start = search in
+    passable-few _ _ _ (start .pre .1) (failed (rw (after-held-mask .held-mask .ensures) at (after-meets-quorum .meets-quorum .ensures)) (c .if1 .taken))
 
 leader-of-requires : tie.Need-leader-of-requires
 leader-of-requires c κs = search needs
 
 has-requires : tie.Need-has-requires
-has-requires c κs = omega (arith, c .leader-of .ensures, leader-small (c .before .before .before .before .before .args .n) (c .before .before .before .before .before .args .round) (omega arith))
+has-requires c κs =
+    let start : tie.Start = search in
+    omega (arith, c .leader-of .ensures, leader-small (start .args .n) (start .args .round) (omega arith))
 
 returns-2 : tie.Need-returns-2
-returns-2 c = passable-led _ _ _ (c .before .before .before .before .before .before .before .pre .1) (passed (rw (c .before .before .before .before .before .held-mask .ensures) at (c .before .before .before .before .meets-quorum .ensures)) (c .before .before .before .if1 .left))
-    (sym (rw (c .before .before .before .before .before .held-mask .ensures, c .before .before .leader-of .ensures) at (c .before .has .ensures)) ∙ c .if2 .taken)
+returns-2 c =
+    let after-has : tie.After-has = search in
+    let after-leader-of : tie.After-leader-of = search in
+    let else1 : tie.Else1 = search in
+    let after-meets-quorum : tie.After-meets-quorum = search in
+    let after-held-mask : tie.After-held-mask = search in
+    let start : tie.Start = search in
+    passable-led _ _ _ (start .pre .1) (passed (rw (after-held-mask .held-mask .ensures) at (after-meets-quorum .meets-quorum .ensures)) (else1 .if1 .left))
+    (sym (rw (after-held-mask .held-mask .ensures, after-leader-of .leader-of .ensures) at (after-has .has .ensures)) ∙ c .if2 .taken)
 
 timeouts-mask-requires : tie.Need-timeouts-mask-requires
 timeouts-mask-requires c κs = search needs
@@ -40,9 +53,18 @@ meets-quorum-requires-2 : tie.Need-meets-quorum-requires-2
 meets-quorum-requires-2 c κs = search needs
 
 returns-3 : tie.Need-returns-3
-returns-3 c = (rw (c .before .timeouts-mask .ensures) at (c .meets-quorum2 .ensures))
-    ∙ passable-late _ _ _ (c .before .before .before .before .before .before .before .before .before .pre .1) (passed (rw (c .before .before .before .before .before .before .before .held-mask .ensures) at (c .before .before .before .before .before .before .meets-quorum .ensures)) (c .before .before .before .before .before .if1 .left))
-    (sym (rw (c .before .before .before .before .before .before .before .held-mask .ensures, c .before .before .before .before .leader-of .ensures) at (c .before .before .before .has .ensures)) ∙ c .before .before .if2 .left)
+returns-3 c =
+    let after-timeouts-mask : tie.After-timeouts-mask = search in
+    let else2 : tie.Else2 = search in
+    let after-has : tie.After-has = search in
+    let after-leader-of : tie.After-leader-of = search in
+    let else1 : tie.Else1 = search in
+    let after-meets-quorum : tie.After-meets-quorum = search in
+    let after-held-mask : tie.After-held-mask = search in
+    let start : tie.Start = search in
+    (rw (after-timeouts-mask .timeouts-mask .ensures) at (c .meets-quorum2 .ensures))
+    ∙ passable-late _ _ _ (start .pre .1) (passed (rw (after-held-mask .held-mask .ensures) at (after-meets-quorum .meets-quorum .ensures)) (else1 .if1 .left))
+    (sym (rw (after-held-mask .held-mask .ensures, after-leader-of .leader-of .ensures) at (after-has .has .ensures)) ∙ else2 .if2 .left)
 
 pub is-passable-spec : {M : Type 1} → statement M
 is-passable-spec =

@@ -23,13 +23,17 @@ same-length : tie.Need-same-length
 same-length c = search needs
 
 returns : tie.Need-returns
-returns c = raised _ _ (c .before .before .highest-passable .ensures .0) (c .if1 .taken)
+returns c =
+    let after-highest-passable : tie.After-highest-passable = search in
+    raised _ _ (after-highest-passable .highest-passable .ensures .0) (c .if1 .taken)
 
 same-length-2 : tie.Need-same-length-2
 same-length-2 c = search needs
 
 returns-2 : tie.Need-returns-2
-returns-2 c = not-raised _ _ (c .before .before .highest-passable .ensures .0) (c .if1 .left)
+returns-2 c =
+    let after-highest-passable : tie.After-highest-passable = search in
+    not-raised _ _ (after-highest-passable .highest-passable .ensures .0) (c .if1 .left)
 
 pub raise-round-spec : {M : Type 1} → statement M
 raise-round-spec =

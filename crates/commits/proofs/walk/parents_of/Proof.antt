@@ -28,16 +28,23 @@ loop-holds : tie.Need-loop-holds Inv-loop μ-loop
 loop-holds c = (omega arith, sym (parents-none _ _ _))
 
 has-requires : tie.Need-has-requires Inv-loop μ-loop
-has-requires c κs = omega (arith, c .before .before .before .pre .0 .high)
+has-requires c κs =
+    let start : tie.Start Inv-loop μ-loop = search in
+    omega (arith, start .pre .0 .high)
 
 cell-at-requires : tie.Need-cell-at-requires Inv-loop μ-loop
-cell-at-requires c κs = (search needs, search needs, omega (arith, c .before .before .before .before .before .pre .0 .high))
+cell-at-requires c κs =
+    let start : tie.Start Inv-loop μ-loop = search in
+    (search needs, search needs, omega (arith, start .pre .0 .high))
 
 mul-joined : tie.Need-mul-joined Inv-loop μ-loop
 mul-joined c = search needs
 
 shared-slice-read-joined : tie.Need-shared-slice-read-joined Inv-loop μ-loop
-shared-slice-read-joined c = omega (arith, c .before .cell-at .ensures, c .before .before .before .before .before .before .before .pre .0 .high, c .before .before .before .before .before .before .before .pre .0 .size)
+shared-slice-read-joined c =
+    let after-cell-at : tie.After-cell-at Inv-loop μ-loop = search in
+    let start : tie.Start Inv-loop μ-loop = search in
+    omega (arith, after-cell-at .cell-at .ensures, start .pre .0 .high, start .pre .0 .size)
 
 add-p : tie.Need-add-p Inv-loop μ-loop
 add-p c = search needs
@@ -46,18 +53,25 @@ loop-less : tie.Need-loop-less Inv-loop μ-loop
 loop-less c = search needs
 
 loop-again : tie.Need-loop-again Inv-loop μ-loop
-loop-again c = let inv = c .before .before .before .loop .inv .1 in (
-  omega arith,
-  ⊎-elim
-      (λ v. v .3 ∙ ap₂ bitOr inv (ap (λ (x : ℕ). getD (c .before .before .before .before .before .args .state .now) x 0) (v .1 .ensures)
-      ∙ sym (strong-word _ (c .before .before .before .before .before .pre .0) (c .before .before .before .before .before .args .round) (c .before .before .before .loop .p) (c .before .before .before .before .before .pre .2) (c .before .before .before .before .before .pre .3) (omega (arith, c .before .before .before .before .before .pre .0 .high))))
-      ∙ sym (parents-in (vertices (c .before .before .before .before .before .args .state .now)) (c .before .before .before .before .before .args .round) (c .before .before .before .before .before .args .mask) (c .before .before .before .loop .p) (sym (c .before .has .ensures) ∙ v .0 .taken)))
-      (λ v. v .1 ∙ inv ∙ sym (parents-out (vertices (c .before .before .before .before .before .args .state .now)) (c .before .before .before .before .before .args .round) (c .before .before .before .before .before .args .mask) (c .before .before .before .loop .p) (sym (c .before .has .ensures) ∙ v .0 .left)))
-      (c .if1 .came),
-)
+loop-again c =
+    let after-has : tie.After-has Inv-loop μ-loop = search in
+    let at-loop : tie.At-loop Inv-loop μ-loop = search in
+    let start : tie.Start Inv-loop μ-loop = search in
+    let inv = at-loop .loop .inv .1 in (
+      omega arith,
+      ⊎-elim
+          (λ v. v .3 ∙ ap₂ bitOr inv (ap (λ (x : ℕ). getD (start .args .state .now) x 0) (v .1 .ensures)
+          ∙ sym (strong-word _ (start .pre .0) (start .args .round) (at-loop .loop .p) (start .pre .2) (start .pre .3) (omega (arith, start .pre .0 .high))))
+          ∙ sym (parents-in (vertices (start .args .state .now)) (start .args .round) (start .args .mask) (at-loop .loop .p) (sym (after-has .has .ensures) ∙ v .0 .taken)))
+          (λ v. v .1 ∙ inv ∙ sym (parents-out (vertices (start .args .state .now)) (start .args .round) (start .args .mask) (at-loop .loop .p) (sym (after-has .has .ensures) ∙ v .0 .left)))
+          (c .if1 .came),
+    )
 
 returns : tie.Need-returns Inv-loop μ-loop
-returns c = let e : c .before .loop .p ≡ c .before .before .before .args .n = omega arith in rw e at (c .before .loop .inv .1)
+returns c =
+    let at-loop : tie.At-loop Inv-loop μ-loop = search in
+    let start : tie.Start Inv-loop μ-loop = search in
+    let e : at-loop .loop .p ≡ start .args .n = omega arith in rw e at (at-loop .loop .inv .1)
 
 pub parents-of-spec : {M : Type 1} → statement M
 parents-of-spec =

@@ -33,17 +33,22 @@ leader-of-requires : tie.Need-leader-of-requires Inv-loop μ-loop
 leader-of-requires c κs = search needs
 
 power-requires-2 : tie.Need-power-requires-2 Inv-loop μ-loop
-power-requires-2 c κs = omega (arith, c .leader-of .ensures, leader-small (c .before .before .before .args .n) (c .before .before .before .args .q) (omega arith))
+power-requires-2 c κs =
+    let the-start : tie.Start Inv-loop μ-loop = search in
+    omega (arith, c .leader-of .ensures, leader-small (the-start .args .n) (the-start .args .q) (omega arith))
 
 sub-t : tie.Need-sub-t Inv-loop μ-loop
 sub-t c = search needs
 
 loop-holds : tie.Need-loop-holds Inv-loop μ-loop
-loop-holds c = (
-  omega arith,
-  rw (c .before .before .power .ensures, c .power2 .ensures, c .before .leader-of .ensures)
-      (start (c .before .before .before .before .args .n) (omega (arith, c .before .before .before .before .pre .0 .low)) (vertices (c .before .before .before .before .args .state .now)) (rw (c .before .before .before .before .pre .1) (c .before .before .before .before .pre .0 .formed)) (c .before .before .before .before .args .low) (c .before .before .before .before .args .q) (c .before .before .before .before .pre .3) (c .before .before .before .before .pre .2) (c .before .before .before .before .pre .4)),
-)
+loop-holds c =
+    let after-leader-of : tie.After-leader-of Inv-loop μ-loop = search in
+    let after-power : tie.After-power Inv-loop μ-loop = search in
+    let the-start : tie.Start Inv-loop μ-loop = search in (
+      omega arith,
+      rw (after-power .power .ensures, c .power2 .ensures, after-leader-of .leader-of .ensures)
+          (start (the-start .args .n) (omega (arith, the-start .pre .0 .low)) (vertices (the-start .args .state .now)) (rw (the-start .pre .1) (the-start .pre .0 .formed)) (the-start .args .low) (the-start .args .q) (the-start .pre .3) (the-start .pre .2) (the-start .pre .4)),
+    )
 
 add-parents-of : tie.Need-add-parents-of Inv-loop μ-loop
 add-parents-of c = search needs
@@ -55,13 +60,20 @@ leader-of-requires-2 : tie.Need-leader-of-requires-2 Inv-loop μ-loop
 leader-of-requires-2 c κs = search needs
 
 has-requires : tie.Need-has-requires Inv-loop μ-loop
-has-requires c κs = omega (arith, c .leader-of2 .ensures, leader-small (c .before .before .before .before .before .before .before .before .args .n) (c .before .before .before .loop .t) (omega arith))
+has-requires c κs =
+    let at-loop : tie.At-loop Inv-loop μ-loop = search in
+    let the-start : tie.Start Inv-loop μ-loop = search in
+    omega (arith, c .leader-of2 .ensures, leader-small (the-start .args .n) (at-loop .loop .t) (omega arith))
 
 power-requires-3 : tie.Need-power-requires-3 Inv-loop μ-loop
 power-requires-3 c κs = search needs
 
 power-requires-4 : tie.Need-power-requires-4 Inv-loop μ-loop
-power-requires-4 c κs = omega (arith, c .before .before .before .leader-of2 .ensures, leader-small (c .before .before .before .before .before .before .before .before .before .before .before .args .n) (c .before .before .before .before .before .before .loop .t) (omega arith))
+power-requires-4 c κs =
+    let after-leader-of2 : tie.After-leader-of2 Inv-loop μ-loop = search in
+    let at-loop : tie.At-loop Inv-loop μ-loop = search in
+    let the-start : tie.Start Inv-loop μ-loop = search in
+    omega (arith, after-leader-of2 .leader-of2 .ensures, leader-small (the-start .args .n) (at-loop .loop .t) (omega arith))
 
 sub-t-2 : tie.Need-sub-t-2 Inv-loop μ-loop
 sub-t-2 c = search needs
@@ -70,22 +82,32 @@ loop-less : tie.Need-loop-less Inv-loop μ-loop
 loop-less c = search needs
 
 loop-again : tie.Need-loop-again Inv-loop μ-loop
-loop-again c = let v = vertices (c .before .before .before .before .before .before .before .before .before .before .args .state .now) in
-    let h = sym (rw (c .before .before .leader-of2 .ensures) at (c .before .has .ensures)) in (
+loop-again c =
+    let after-has : tie.After-has Inv-loop μ-loop = search in
+    let after-leader-of2 : tie.After-leader-of2 Inv-loop μ-loop = search in
+    let after-parents-of : tie.After-parents-of Inv-loop μ-loop = search in
+    let in-loop : tie.In-loop Inv-loop μ-loop = search in
+    let at-loop : tie.At-loop Inv-loop μ-loop = search in
+    let the-start : tie.Start Inv-loop μ-loop = search in
+    let v = vertices (the-start .args .state .now) in
+    let h = sym (rw (after-leader-of2 .leader-of2 .ensures) at (after-has .has .ensures)) in (
       omega arith,
       ⊎-elim
-          (λ b. walked-as _ v _ _ _ _ _ _ _ (b .3 ∙ ap (bitOr (c .before .before .before .before .before .loop .taken)) (b .1 .ensures)) (b .4 ∙ b .2 .ensures ∙ ap (λ (x : ℕ). 2 ^ x) (c .before .before .leader-of2 .ensures))
-          (take-leader (c .before .before .before .before .before .before .before .before .before .before .args .n) (omega (arith, c .before .before .before .before .before .before .before .before .before .before .pre .0 .low)) v (rw (c .before .before .before .before .before .before .before .before .before .before .pre .1) (c .before .before .before .before .before .before .before .before .before .before .pre .0 .formed)) (c .before .before .before .before .before .before .before .before .before .before .args .low) (c .before .before .before .before .before .before .before .before .before .before .args .q) (c .before .before .before .before .before .before .before .before .before .before .pre .3)
-          (c .before .before .before .before .before .loop .t) (c .before .before .before .before .before .loop .taken) (c .before .before .before .before .before .loop .reached) (c .before .before .before .parents-of .result) (c .before .before .before .before .loop-test .taken) (c .before .before .before .before .before .loop .inv .1) (c .before .before .before .parents-of .ensures) (h ∙ b .0 .taken)))
+          (λ b. walked-as _ v _ _ _ _ _ _ _ (b .3 ∙ ap (bitOr (at-loop .loop .taken)) (b .1 .ensures)) (b .4 ∙ b .2 .ensures ∙ ap (λ (x : ℕ). 2 ^ x) (after-leader-of2 .leader-of2 .ensures))
+          (take-leader (the-start .args .n) (omega (arith, the-start .pre .0 .low)) v (rw (the-start .pre .1) (the-start .pre .0 .formed)) (the-start .args .low) (the-start .args .q) (the-start .pre .3)
+          (at-loop .loop .t) (at-loop .loop .taken) (at-loop .loop .reached) (after-parents-of .parents-of .result) (in-loop .loop-test .taken) (at-loop .loop .inv .1) (after-parents-of .parents-of .ensures) (h ∙ b .0 .taken)))
           (λ b. walked-as _ v _ _ _ _ _ _ _ (b .1) (b .2)
-          (pass-leader (c .before .before .before .before .before .before .before .before .before .before .args .n) (omega (arith, c .before .before .before .before .before .before .before .before .before .before .pre .0 .low)) v (rw (c .before .before .before .before .before .before .before .before .before .before .pre .1) (c .before .before .before .before .before .before .before .before .before .before .pre .0 .formed)) (c .before .before .before .before .before .before .before .before .before .before .args .low) (c .before .before .before .before .before .before .before .before .before .before .args .q) (c .before .before .before .before .before .before .before .before .before .before .pre .3)
-          (c .before .before .before .before .before .loop .t) (c .before .before .before .before .before .loop .taken) (c .before .before .before .before .before .loop .reached) (c .before .before .before .parents-of .result) (c .before .before .before .before .loop-test .taken) (c .before .before .before .before .before .loop .inv .1) (c .before .before .before .parents-of .ensures) (h ∙ b .0 .left)))
+          (pass-leader (the-start .args .n) (omega (arith, the-start .pre .0 .low)) v (rw (the-start .pre .1) (the-start .pre .0 .formed)) (the-start .args .low) (the-start .args .q) (the-start .pre .3)
+          (at-loop .loop .t) (at-loop .loop .taken) (at-loop .loop .reached) (after-parents-of .parents-of .result) (in-loop .loop-test .taken) (at-loop .loop .inv .1) (after-parents-of .parents-of .ensures) (h ∙ b .0 .left)))
           (c .if1 .came),
     )
 
 returns : tie.Need-returns Inv-loop μ-loop
-returns c = finish (c .before .before .before .before .before .before .args .n) (omega (arith, c .before .before .before .before .before .before .pre .0 .low)) (vertices (c .before .before .before .before .before .before .args .state .now)) (rw (c .before .before .before .before .before .before .pre .1) (c .before .before .before .before .before .before .pre .0 .formed)) (c .before .before .before .before .before .before .args .low) (c .before .before .before .before .before .before .args .q) (c .before .before .before .before .before .before .pre .3)
-    (c .before .loop .t) (c .before .loop .taken) (c .before .loop .reached) (omega arith) (c .before .loop .inv .1)
+returns c =
+    let at-loop : tie.At-loop Inv-loop μ-loop = search in
+    let the-start : tie.Start Inv-loop μ-loop = search in
+    finish (the-start .args .n) (omega (arith, the-start .pre .0 .low)) (vertices (the-start .args .state .now)) (rw (the-start .pre .1) (the-start .pre .0 .formed)) (the-start .args .low) (the-start .args .q) (the-start .pre .3)
+    (at-loop .loop .t) (at-loop .loop .taken) (at-loop .loop .reached) (omega arith) (at-loop .loop .inv .1)
 
 pub taken-rounds-spec : {M : Type 1} → statement M
 taken-rounds-spec =

@@ -29,19 +29,45 @@ number-requires : tie.Need-number-requires
 number-requires c κs = search needs
 
 returns : tie.Need-returns
-returns c = note-state (c .before .before .before .before .args .state .now) _ _ _ _ (c .before .before .check-state .ensures) (λ d. c .if1 .taken (c .before .number .ensures ∙ d))
+returns c =
+    let after-number : tie.After-number = search in
+    let after-check-state : tie.After-check-state = search in
+    let start : tie.Start = search in
+    note-state (start .args .state .now) _ _ _ _ (after-check-state .check-state .ensures) (λ d. c .if1 .taken (after-number .number .ensures ∙ d))
 
 shared-slice-read-n : tie.Need-shared-slice-read-n
-shared-slice-read-n c = omega (arith, state-ok (c .before .before .before .before .before .args .state .now) (sym (ap numberOf (c .before .before .before .check-state .ensures)) ∙ (sym (c .before .before .number .ensures) ∙ c .before .if1 .left)) .0)
+shared-slice-read-n c =
+    let else1 : tie.Else1 = search in
+    let after-number : tie.After-number = search in
+    let after-check-state : tie.After-check-state = search in
+    let start : tie.Start = search in
+    omega (arith, state-ok (start .args .state .now) (sym (ap numberOf (after-check-state .check-state .ensures)) ∙ (sym (after-number .number .ensures) ∙ else1 .if1 .left)) .0)
 
 returns-2 : tie.Need-returns-2
-returns-2 c = note-round (c .before .before .before .before .before .before .args .state .now) _ _ _ _ (c .before .before .before .before .check-state .ensures) (sym (c .before .before .before .number .ensures) ∙ c .before .before .if1 .left) (round-below _ (c .if2 .taken))
+returns-2 c =
+    let else1 : tie.Else1 = search in
+    let after-number : tie.After-number = search in
+    let after-check-state : tie.After-check-state = search in
+    let start : tie.Start = search in
+    note-round (start .args .state .now) _ _ _ _ (after-check-state .check-state .ensures) (sym (after-number .number .ensures) ∙ else1 .if1 .left) (round-below _ (c .if2 .taken))
 
 returns-3 : tie.Need-returns-3
-returns-3 c = note-round (c .before .before .before .before .before .before .before .args .state .now) _ _ _ _ (c .before .before .before .before .before .check-state .ensures) (sym (c .before .before .before .before .number .ensures) ∙ c .before .before .before .if1 .left) (round-above _ (c .if3 .taken))
+returns-3 c =
+    let else1 : tie.Else1 = search in
+    let after-number : tie.After-number = search in
+    let after-check-state : tie.After-check-state = search in
+    let start : tie.Start = search in
+    note-round (start .args .state .now) _ _ _ _ (after-check-state .check-state .ensures) (sym (after-number .number .ensures) ∙ else1 .if1 .left) (round-above _ (c .if3 .taken))
 
 returns-4 : tie.Need-returns-4
-returns-4 c = note-signer (c .before .before .before .before .before .before .before .before .args .state .now) _ _ _ _ (c .before .before .before .before .before .before .check-state .ensures) (sym (c .before .before .before .before .before .number .ensures) ∙ c .before .before .before .before .if1 .left) (round-in _ (c .before .before .if2 .left) (c .before .if3 .left)) (c .if4 .taken)
+returns-4 c =
+    let else3 : tie.Else3 = search in
+    let else2 : tie.Else2 = search in
+    let else1 : tie.Else1 = search in
+    let after-number : tie.After-number = search in
+    let after-check-state : tie.After-check-state = search in
+    let start : tie.Start = search in
+    note-signer (start .args .state .now) _ _ _ _ (after-check-state .check-state .ensures) (sym (after-number .number .ensures) ∙ else1 .if1 .left) (round-in _ (else2 .if2 .left) (else3 .if3 .left)) (c .if4 .taken)
 
 masks-at-requires : tie.Need-masks-at-requires
 masks-at-requires c κs = search needs
@@ -53,19 +79,50 @@ mul-t12 : tie.Need-mul-t12
 mul-t12 c = search needs
 
 shared-slice-read-t9 : tie.Need-shared-slice-read-t9
-shared-slice-read-t9 c = omega (arith, c .before .masks-at .ensures, state-ok (c .before .before .before .before .before .before .before .before .before .before .args .state .now) (sym (ap numberOf (c .before .before .before .before .before .before .before .before .check-state .ensures)) ∙ (sym (c .before .before .before .before .before .before .before .number .ensures) ∙ c .before .before .before .before .before .before .if1 .left)) .0)
+shared-slice-read-t9 c =
+    let after-masks-at : tie.After-masks-at = search in
+    let else1 : tie.Else1 = search in
+    let after-number : tie.After-number = search in
+    let after-check-state : tie.After-check-state = search in
+    let start : tie.Start = search in
+    omega (arith, after-masks-at .masks-at .ensures, state-ok (start .args .state .now) (sym (ap numberOf (after-check-state .check-state .ensures)) ∙ (sym (after-number .number .ensures) ∙ else1 .if1 .left)) .0)
 
 has-requires : tie.Need-has-requires
-has-requires c κs = let s = state-ok (c .before .before .before .before .before .before .before .before .before .before .args .state .now) (sym (ap numberOf (c .before .before .before .before .before .before .before .before .check-state .ensures)) ∙ (sym (c .before .before .before .before .before .before .before .number .ensures) ∙ c .before .before .before .before .before .before .if1 .left)) in
-    omega (arith, sound (c .before .before .before .before .before .before .before .before .before .before .args .state .now) (s .0) (s .1) .front .high)
+has-requires c κs =
+    let else1 : tie.Else1 = search in
+    let after-number : tie.After-number = search in
+    let after-check-state : tie.After-check-state = search in
+    let start : tie.Start = search in
+    let s = state-ok (start .args .state .now) (sym (ap numberOf (after-check-state .check-state .ensures)) ∙ (sym (after-number .number .ensures) ∙ else1 .if1 .left)) in
+    omega (arith, sound (start .args .state .now) (s .0) (s .1) .front .high)
 
 returns-5 : tie.Need-returns-5
-returns-5 c = note-before (c .before .before .before .before .before .before .before .before .before .before .before .before .args .state .now) _ _ _ _ (c .before .before .before .before .before .before .before .before .before .before .check-state .ensures) (sym (c .before .before .before .before .before .before .before .before .before .number .ensures) ∙ c .before .before .before .before .before .before .before .before .if1 .left) (round-in _ (c .before .before .before .before .before .before .if2 .left) (c .before .before .before .before .before .if3 .left)) (c .before .before .before .before .if4 .left)
-    (ap (λ (x : ℕ). has (getD (c .before .before .before .before .before .before .before .before .before .before .before .before .args .state .now) (x + c .before .before .before .before .before .before .before .before .before .before .before .before .args .kind) 0) (c .before .before .before .before .before .before .before .before .before .before .before .before .args .signer)) (sym (c .before .before .before .masks-at .ensures)) ∙ (sym (c .before .has .ensures) ∙ c .if5 .taken))
+returns-5 c =
+    let after-has : tie.After-has = search in
+    let after-masks-at : tie.After-masks-at = search in
+    let else4 : tie.Else4 = search in
+    let else3 : tie.Else3 = search in
+    let else2 : tie.Else2 = search in
+    let else1 : tie.Else1 = search in
+    let after-number : tie.After-number = search in
+    let after-check-state : tie.After-check-state = search in
+    let start : tie.Start = search in
+    note-before (start .args .state .now) _ _ _ _ (after-check-state .check-state .ensures) (sym (after-number .number .ensures) ∙ else1 .if1 .left) (round-in _ (else2 .if2 .left) (else3 .if3 .left)) (else4 .if4 .left)
+    (ap (λ (x : ℕ). has (getD (start .args .state .now) (x + start .args .kind) 0) (start .args .signer)) (sym (after-masks-at .masks-at .ensures)) ∙ (sym (after-has .has .ensures) ∙ c .if5 .taken))
 
 returns-6 : tie.Need-returns-6
-returns-6 c = note-new (c .before .before .before .before .before .before .before .before .before .before .before .before .args .state .now) _ _ _ _ (c .before .before .before .before .before .before .before .before .before .before .check-state .ensures) (sym (c .before .before .before .before .before .before .before .before .before .number .ensures) ∙ c .before .before .before .before .before .before .before .before .if1 .left) (round-in _ (c .before .before .before .before .before .before .if2 .left) (c .before .before .before .before .before .if3 .left)) (c .before .before .before .before .if4 .left)
-    (ap (λ (x : ℕ). has (getD (c .before .before .before .before .before .before .before .before .before .before .before .before .args .state .now) (x + c .before .before .before .before .before .before .before .before .before .before .before .before .args .kind) 0) (c .before .before .before .before .before .before .before .before .before .before .before .before .args .signer)) (sym (c .before .before .before .masks-at .ensures)) ∙ (sym (c .before .has .ensures) ∙ c .if5 .left))
+returns-6 c =
+    let after-has : tie.After-has = search in
+    let after-masks-at : tie.After-masks-at = search in
+    let else4 : tie.Else4 = search in
+    let else3 : tie.Else3 = search in
+    let else2 : tie.Else2 = search in
+    let else1 : tie.Else1 = search in
+    let after-number : tie.After-number = search in
+    let after-check-state : tie.After-check-state = search in
+    let start : tie.Start = search in
+    note-new (start .args .state .now) _ _ _ _ (after-check-state .check-state .ensures) (sym (after-number .number .ensures) ∙ else1 .if1 .left) (round-in _ (else2 .if2 .left) (else3 .if3 .left)) (else4 .if4 .left)
+    (ap (λ (x : ℕ). has (getD (start .args .state .now) (x + start .args .kind) 0) (start .args .signer)) (sym (after-masks-at .masks-at .ensures)) ∙ (sym (after-has .has .ensures) ∙ c .if5 .left))
 
 pub check-note-spec : {M : Type 1} → statement M
 check-note-spec =

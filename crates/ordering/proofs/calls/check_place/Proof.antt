@@ -18,30 +18,57 @@ use Rattle.record.proofs.members.Members.has.Reads as has-reads
 use Rattle.replica.proofs.layout.held_mask.Reads as held-mask-reads
 
 held-mask-requires : tie.Need-held-mask-requires
-held-mask-requires c κs = let a = admitted _ _ _ _ (c .before .before .pre .2) in (c .before .before .pre .0, a .round-low, a .round-high)
+held-mask-requires c κs =
+    let start : tie.Start = search in
+    let a = admitted _ _ _ _ (start .pre .2) in (start .pre .0, a .round-low, a .round-high)
 
 has-requires : tie.Need-has-requires
-has-requires c κs = let a = admitted _ _ _ _ (c .before .before .before .pre .2) in let g = legal-range _ (c .before .before .before .pre .1) in omega (arith, a .source-low, g .high)
+has-requires c κs =
+    let start : tie.Start = search in
+    let a = admitted _ _ _ _ (start .pre .2) in let g = legal-range _ (start .pre .1) in omega (arith, a .source-low, g .high)
 
 same-body-requires : tie.Need-same-body-requires
-same-body-requires c κs = let a = admitted _ _ _ _ (c .before .before .before .before .before .pre .2) in let g = legal-range _ (c .before .before .before .before .before .pre .1) in
-    (c .before .before .before .before .before .pre .0, a .round-low, a .round-high, omega (arith, a .source-low, g .high), a .size)
+same-body-requires c κs =
+    let start : tie.Start = search in
+    let a = admitted _ _ _ _ (start .pre .2) in let g = legal-range _ (start .pre .1) in
+    (start .pre .0, a .round-low, a .round-high, omega (arith, a .source-low, g .high), a .size)
 
 returns : tie.Need-returns
-returns c = place-same _ _ _ _ (sym (rw (c .before .before .before .before .held-mask .ensures) at (c .before .before .before .has .ensures)) ∙ c .before .before .if1 .taken) (sym (c .before .same-body .ensures) ∙ c .if2 .taken)
+returns c =
+    let after-same-body : tie.After-same-body = search in
+    let then1 : tie.Then1 = search in
+    let after-has : tie.After-has = search in
+    let after-held-mask : tie.After-held-mask = search in
+    place-same _ _ _ _ (sym (rw (after-held-mask .held-mask .ensures) at (after-has .has .ensures)) ∙ then1 .if1 .taken) (sym (after-same-body .same-body .ensures) ∙ c .if2 .taken)
 
 returns-2 : tie.Need-returns-2
-returns-2 c = place-other _ _ _ _ (sym (rw (c .before .before .before .before .held-mask .ensures) at (c .before .before .before .has .ensures)) ∙ c .before .before .if1 .taken) (sym (c .before .same-body .ensures) ∙ c .if2 .left)
+returns-2 c =
+    let after-same-body : tie.After-same-body = search in
+    let then1 : tie.Then1 = search in
+    let after-has : tie.After-has = search in
+    let after-held-mask : tie.After-held-mask = search in
+    place-other _ _ _ _ (sym (rw (after-held-mask .held-mask .ensures) at (after-has .has .ensures)) ∙ then1 .if1 .taken) (sym (after-same-body .same-body .ensures) ∙ c .if2 .left)
 
 first-missing-requires : tie.Need-first-missing-requires
 first-missing-requires c κs = search needs
 
 returns-3 : tie.Need-returns-3
-returns-3 c = place-lacking _ _ _ _ _ (sym (rw (c .before .before .before .before .held-mask .ensures) at (c .before .before .before .has .ensures)) ∙ c .before .before .if1 .left) (c .before .first-missing .ensures) (c .if3 .taken)
+returns-3 c =
+    let after-first-missing : tie.After-first-missing = search in
+    let else1 : tie.Else1 = search in
+    let after-has : tie.After-has = search in
+    let after-held-mask : tie.After-held-mask = search in
+    place-lacking _ _ _ _ _ (sym (rw (after-held-mask .held-mask .ensures) at (after-has .has .ensures)) ∙ else1 .if1 .left) (after-first-missing .first-missing .ensures) (c .if3 .taken)
 
 returns-4 : tie.Need-returns-4
-returns-4 c = place-free (c .before .before .before .before .before .before .before .args .state .now) (c .before .before .before .before .before .before .before .args .round) (c .before .before .before .before .before .before .before .args .source) (c .before .before .before .before .before .before .before .args .body .now) (c .before .first-missing .result)
-    (sym (rw (c .before .before .before .before .held-mask .ensures) at (c .before .before .before .has .ensures)) ∙ c .before .before .if1 .left) (c .before .first-missing .ensures) (c .if3 .left)
+returns-4 c =
+    let after-first-missing : tie.After-first-missing = search in
+    let else1 : tie.Else1 = search in
+    let after-has : tie.After-has = search in
+    let after-held-mask : tie.After-held-mask = search in
+    let start : tie.Start = search in
+    place-free (start .args .state .now) (start .args .round) (start .args .source) (start .args .body .now) (after-first-missing .first-missing .result)
+    (sym (rw (after-held-mask .held-mask .ensures) at (after-has .has .ensures)) ∙ else1 .if1 .left) (after-first-missing .first-missing .ensures) (c .if3 .left)
 
 pub check-place-spec : {M : Type 1} → statement M
 check-place-spec =

@@ -40,30 +40,46 @@ abbrev μ-search : tie.MeasureT-search
 μ-search state n round source body found₀ group₀ found group = 2 - group
 
 returns : tie.Need-returns Inv-loop μ-loop Inv-search μ-search
-returns c = held-none _ _ _ (first-held _ _ (c .before .before .before .args .source) _ _ (c .before .before .before .pre .1) (admitted _ _ _ _ (c .before .before .before .pre .2)) (c .if1 .taken))
+returns c =
+    let start : tie.Start Inv-loop μ-loop Inv-search μ-search = search in
+    held-none _ _ _ (first-held _ _ (start .args .source) _ _ (start .pre .1) (admitted _ _ _ _ (start .pre .2)) (c .if1 .taken))
 
 search-holds : tie.Need-search-holds Inv-loop μ-loop Inv-search μ-search
-search-holds c = (omega arith, refl, passed-none _ _ (c .before .before .before .args .source) _ _ (c .before .before .before .pre .1) (admitted _ _ _ _ (c .before .before .before .pre .2)) (omega arith))
+search-holds c =
+    let start : tie.Start Inv-loop μ-loop Inv-search μ-search = search in
+    (omega arith, refl, passed-none _ _ (start .args .source) _ _ (start .pre .1) (admitted _ _ _ _ (start .pre .2)) (omega arith))
 
 group-size-requires : tie.Need-group-size-requires Inv-loop μ-loop Inv-search μ-search
-group-size-requires c κs = admitted _ _ _ _ (c .before .before .before .before .before .pre .2) .size
+group-size-requires c κs =
+    let start : tie.Start Inv-loop μ-loop Inv-search μ-search = search in
+    admitted _ _ _ _ (start .pre .2) .size
 
 loop-holds : tie.Need-loop-holds Inv-loop μ-loop Inv-search μ-search
-loop-holds c = (
-  c .before .search-test .taken,
-  c .before .before .search .inv .1,
-  c .group-size .ensures,
-  omega arith,
-  looked-none _ _ (c .before .before .before .before .before .before .args .source) _ _ (c .before .before .before .before .before .before .pre .1) (admitted _ _ _ _ (c .before .before .before .before .before .before .pre .2)) (omega arith) _ (c .before .before .search .inv .2),
-)
+loop-holds c =
+    let in-search : tie.In-search Inv-loop μ-loop Inv-search μ-search = search in
+    let at-search : tie.At-search Inv-loop μ-loop Inv-search μ-search = search in
+    let start : tie.Start Inv-loop μ-loop Inv-search μ-search = search in (
+      in-search .search-test .taken,
+      at-search .search .inv .1,
+      c .group-size .ensures,
+      omega arith,
+      looked-none _ _ (start .args .source) _ _ (start .pre .1) (admitted _ _ _ _ (start .pre .2)) (omega arith) _ (at-search .search .inv .2),
+    )
 
 parent-at-requires : tie.Need-parent-at-requires Inv-loop μ-loop Inv-search μ-search
-parent-at-requires c κs = let a = admitted _ _ _ _ (c .before .before .before .before .before .before .before .before .pre .2) in
-    let w = look-range (c .before .before .before .before .before .before .before .before .args .n) (c .before .before .before .before .before .before .before .before .args .round) (c .before .before .before .before .before .before .before .before .args .source) (c .before .before .before .before .before .before .before .before .args .state .now) (c .before .before .before .before .before .before .before .before .args .body .now) (c .before .before .before .before .before .before .before .before .pre .1) a (omega arith) (c .before .before .before .before .search .group) (c .before .loop .j) (c .before .before .before .search-test .taken) (omega (arith, c .before .loop .inv .2)) in
+parent-at-requires c κs =
+    let at-loop : tie.At-loop Inv-loop μ-loop Inv-search μ-search = search in
+    let in-search : tie.In-search Inv-loop μ-loop Inv-search μ-search = search in
+    let at-search : tie.At-search Inv-loop μ-loop Inv-search μ-search = search in
+    let start : tie.Start Inv-loop μ-loop Inv-search μ-search = search in
+    let a = admitted _ _ _ _ (start .pre .2) in
+    let w = look-range (start .args .n) (start .args .round) (start .args .source) (start .args .state .now) (start .args .body .now) (start .pre .1) a (omega arith) (at-search .search .group) (at-loop .loop .j) (in-search .search-test .taken) (omega (arith, at-loop .loop .inv .2)) in
     (a .size, omega arith, a .round-high, w .0, w .1)
 
 is-held-requires : tie.Need-is-held-requires Inv-loop μ-loop Inv-search μ-search
-is-held-requires c κs = c .before .before .before .before .before .before .before .before .before .before .pre .0
+is-held-requires c κs =
+    let start : tie.Start Inv-loop μ-loop Inv-search μ-search = search in
+    start .pre .0
 
 add-j : tie.Need-add-j Inv-loop μ-loop Inv-search μ-search
 add-j c = search needs
@@ -72,14 +88,18 @@ loop-less : tie.Need-loop-less Inv-loop μ-loop Inv-search μ-search
 loop-less c = search needs
 
 loop-again : tie.Need-loop-again Inv-loop μ-loop Inv-search μ-search
-loop-again c = (
-  c .before .before .before .loop .inv .0,
-  c .before .before .before .loop .inv .1,
-  c .before .before .before .loop .inv .2,
-  omega arith,
-  looked-more _ _ (c .before .before .before .before .before .before .before .before .before .before .args .source) _ _ (c .before .before .before .before .before .before .before .before .before .before .pre .1) (admitted _ _ _ _ (c .before .before .before .before .before .before .before .before .before .before .pre .2)) (omega arith) _ _ (c .before .before .before .before .before .search-test .taken) (c .before .before .before .loop .inv .4)
-      (⊎-elim (λ v. inr (passed (rw (c .before .parent-at .ensures) at (v .1 .ensures)) (v .2 .left))) (λ v. inl (sym (c .before .parent-at .ensures) ∙ v .left)) (c .if2 .came)),
-)
+loop-again c =
+    let after-parent-at : tie.After-parent-at Inv-loop μ-loop Inv-search μ-search = search in
+    let at-loop : tie.At-loop Inv-loop μ-loop Inv-search μ-search = search in
+    let in-search : tie.In-search Inv-loop μ-loop Inv-search μ-search = search in
+    let start : tie.Start Inv-loop μ-loop Inv-search μ-search = search in (
+      at-loop .loop .inv .0,
+      at-loop .loop .inv .1,
+      at-loop .loop .inv .2,
+      omega arith,
+      looked-more _ _ (start .args .source) _ _ (start .pre .1) (admitted _ _ _ _ (start .pre .2)) (omega arith) _ _ (in-search .search-test .taken) (at-loop .loop .inv .4)
+          (⊎-elim (λ v. inr (passed (rw (after-parent-at .parent-at .ensures) at (v .1 .ensures)) (v .2 .left))) (λ v. inl (sym (after-parent-at .parent-at .ensures) ∙ v .left)) (c .if2 .came)),
+    )
 
 add-group : tie.Need-add-group Inv-loop μ-loop Inv-search μ-search
 add-group c = search needs
@@ -88,16 +108,31 @@ search-less : tie.Need-search-less Inv-loop μ-loop Inv-search μ-search
 search-less c = search needs
 
 search-again : tie.Need-search-again Inv-loop μ-loop Inv-search μ-search
-search-again c = (omega arith, c .before .loop .inv .1, passed-more _ _ (c .before .before .before .before .before .before .before .before .args .source) _ _ (c .before .before .before .before .before .before .before .before .pre .1) (admitted _ _ _ _ (c .before .before .before .before .before .before .before .before .pre .2)) (omega arith) _ _ (c .before .before .before .search-test .taken) (c .before .loop .inv .4) (omega (arith, c .before .loop .inv .2)))
+search-again c =
+    let at-loop : tie.At-loop Inv-loop μ-loop Inv-search μ-search = search in
+    let in-search : tie.In-search Inv-loop μ-loop Inv-search μ-search = search in
+    let start : tie.Start Inv-loop μ-loop Inv-search μ-search = search in
+    (omega arith, at-loop .loop .inv .1, passed-more _ _ (start .args .source) _ _ (start .pre .1) (admitted _ _ _ _ (start .pre .2)) (omega arith) _ _ (in-search .search-test .taken) (at-loop .loop .inv .4) (omega (arith, at-loop .loop .inv .2)))
 
 returns-2 : tie.Need-returns-2 Inv-loop μ-loop Inv-search μ-search
-returns-2 c = let e : c .before .search .group ≡ 2 = omega arith in
-    c .before .search .inv .1 ∙ none-missing (c .before .before .before .before .before .args .n) (c .before .before .before .before .before .args .round) (c .before .before .before .before .before .args .source) (c .before .before .before .before .before .args .state .now) (c .before .before .before .before .before .args .body .now) (c .before .before .before .before .before .pre .1) (admitted _ _ _ _ (c .before .before .before .before .before .pre .2)) (omega arith) (rw e at (c .before .search .inv .2))
+returns-2 c =
+    let at-search : tie.At-search Inv-loop μ-loop Inv-search μ-search = search in
+    let start : tie.Start Inv-loop μ-loop Inv-search μ-search = search in
+    let e : at-search .search .group ≡ 2 = omega arith in
+    at-search .search .inv .1 ∙ none-missing (start .args .n) (start .args .round) (start .args .source) (start .args .state .now) (start .args .body .now) (start .pre .1) (admitted _ _ _ _ (start .pre .2)) (omega arith) (rw e at (at-search .search .inv .2))
 
 returns-3 : tie.Need-returns-3 Inv-loop μ-loop Inv-search μ-search
-returns-3 c = c .before .before .before .parent-at .ensures ∙ first-found (c .before .before .before .before .before .before .before .before .before .before .before .before .args .n) (c .before .before .before .before .before .before .before .before .before .before .before .before .args .round) (c .before .before .before .before .before .before .before .before .before .before .before .before .args .source) (c .before .before .before .before .before .before .before .before .before .before .before .before .args .state .now) (c .before .before .before .before .before .before .before .before .before .before .before .before .args .body .now) (c .before .before .before .before .before .before .before .before .before .before .before .before .pre .1) (admitted _ _ _ _ (c .before .before .before .before .before .before .before .before .before .before .before .before .pre .2)) (omega arith)
-    (c .before .before .before .before .before .before .before .before .search .group) (c .before .before .before .before .before .loop .j) (c .before .before .before .before .before .before .before .search-test .taken) (omega (arith, c .before .before .before .before .before .loop .inv .2)) (c .before .before .before .before .before .loop .inv .4) (λ z. c .before .before .if2 .taken (c .before .before .before .parent-at .ensures ∙ z))
-    (failed (rw (c .before .before .before .parent-at .ensures) at (c .before .is-held .ensures)) (c .if3 .taken))
+returns-3 c =
+    let after-is-held : tie.After-is-held Inv-loop μ-loop Inv-search μ-search = search in
+    let then2 : tie.Then2 Inv-loop μ-loop Inv-search μ-search = search in
+    let after-parent-at : tie.After-parent-at Inv-loop μ-loop Inv-search μ-search = search in
+    let at-loop : tie.At-loop Inv-loop μ-loop Inv-search μ-search = search in
+    let in-search : tie.In-search Inv-loop μ-loop Inv-search μ-search = search in
+    let at-search : tie.At-search Inv-loop μ-loop Inv-search μ-search = search in
+    let start : tie.Start Inv-loop μ-loop Inv-search μ-search = search in
+    after-parent-at .parent-at .ensures ∙ first-found (start .args .n) (start .args .round) (start .args .source) (start .args .state .now) (start .args .body .now) (start .pre .1) (admitted _ _ _ _ (start .pre .2)) (omega arith)
+    (at-search .search .group) (at-loop .loop .j) (in-search .search-test .taken) (omega (arith, at-loop .loop .inv .2)) (at-loop .loop .inv .4) (λ z. then2 .if2 .taken (after-parent-at .parent-at .ensures ∙ z))
+    (failed (rw (after-parent-at .parent-at .ensures) at (after-is-held .is-held .ensures)) (c .if3 .taken))
 
 pub first-missing-spec : {M : Type 1} → statement M
 first-missing-spec =

@@ -12,7 +12,9 @@ shared-slice-read-result c = search needs
 
 returns : tie.Need-returns
 unfolding groupSize weakCountOf
-returns c = rw (eq-eqb _ _ (c .before .if1 .taken))
+returns c =
+    let then1 : tie.Then1 = search in
+    rw (eq-eqb _ _ (then1 .if1 .taken))
 
 returns-2 : tie.Need-returns-2
 unfolding groupSize weakCountOf

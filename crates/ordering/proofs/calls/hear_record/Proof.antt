@@ -32,8 +32,12 @@ same-length : tie.Need-same-length
 same-length c = search needs
 
 returns : tie.Need-returns
-returns c = c .before .before .before .add-member .ensures ∙ ap (λ (x : ℕ). addMember (c .before .before .before .before .before .before .before .args .state .now) (x + 1) (c .before .before .before .before .before .before .before .args .source)) (c .before .before .before .before .before .masks-at .ensures)
-    ∙ hear-none (c .before .before .before .before .before .before .before .args .state .now) (c .before .before .before .before .before .before .before .args .round) (c .before .before .before .before .before .before .before .args .source) (c .before .before .before .before .before .before .before .args .n) (c .before .before .before .before .before .before .before .args .strong) (c .before .before .before .before .before .before .before .pre .1) (c .before .before .before .before .before .before .before .pre .7 (omega arith))
+returns c =
+    let after-add-member : tie.After-add-member = search in
+    let after-masks-at : tie.After-masks-at = search in
+    let start : tie.Start = search in
+    after-add-member .add-member .ensures ∙ ap (λ (x : ℕ). addMember (start .args .state .now) (x + 1) (start .args .source)) (after-masks-at .masks-at .ensures)
+    ∙ hear-none (start .args .state .now) (start .args .round) (start .args .source) (start .args .n) (start .args .strong) (start .pre .1) (start .pre .7 (omega arith))
 
 sub-leader-of : tie.Need-sub-leader-of
 sub-leader-of c = search needs
@@ -42,7 +46,9 @@ leader-of-requires : tie.Need-leader-of-requires
 leader-of-requires c κs = search needs
 
 has-requires : tie.Need-has-requires
-has-requires c κs = omega (arith, c .leader-of .ensures, leader-small (c .before .before .before .before .before .before .before .before .args .n) (c .before .before .before .before .before .before .before .before .args .round - 1) (omega arith))
+has-requires c κs =
+    let start : tie.Start = search in
+    omega (arith, c .leader-of .ensures, leader-small (start .args .n) (start .args .round - 1) (omega arith))
 
 add-add-member-2 : tie.Need-add-add-member-2
 add-add-member-2 c = search needs
@@ -54,16 +60,30 @@ same-length-2 : tie.Need-same-length-2
 same-length-2 c = search needs
 
 returns-2 : tie.Need-returns-2
-returns-2 c = c .before .before .add-member2 .ensures ∙ ap (λ (x : List ℕ). addMember x (c .before .before .before .before .before .before .before .before .before .before .before .before .masks-at .result + 2) (c .before .before .before .before .before .before .before .before .before .before .before .before .before .before .args .source)) (c .before .before .before .before .before .before .before .before .before .before .add-member .ensures)
-    ∙ ap (λ (x : ℕ). addMember (addMember (c .before .before .before .before .before .before .before .before .before .before .before .before .before .before .args .state .now) (x + 1) (c .before .before .before .before .before .before .before .before .before .before .before .before .before .before .args .source)) (x + 2) (c .before .before .before .before .before .before .before .before .before .before .before .before .before .before .args .source)) (c .before .before .before .before .before .before .before .before .before .before .before .before .masks-at .ensures)
-    ∙ hear-voting (c .before .before .before .before .before .before .before .before .before .before .before .before .before .before .args .state .now) (c .before .before .before .before .before .before .before .before .before .before .before .before .before .before .args .round) (c .before .before .before .before .before .before .before .before .before .before .before .before .before .before .args .source) (c .before .before .before .before .before .before .before .before .before .before .before .before .before .before .args .n) (c .before .before .before .before .before .before .before .before .before .before .before .before .before .before .args .strong) (c .before .before .before .before .before .before .before .before .before .before .before .before .before .before .pre .1) (sym (rw (c .before .before .before .before .before .before .leader-of .ensures) at (c .before .before .before .before .before .has .ensures)) ∙ c .before .before .before .before .if2 .taken)
+returns-2 c =
+    let after-add-member2 : tie.After-add-member2 = search in
+    let then2 : tie.Then2 = search in
+    let after-has : tie.After-has = search in
+    let after-leader-of : tie.After-leader-of = search in
+    let after-add-member : tie.After-add-member = search in
+    let after-masks-at : tie.After-masks-at = search in
+    let start : tie.Start = search in
+    after-add-member2 .add-member2 .ensures ∙ ap (λ (x : List ℕ). addMember x (after-masks-at .masks-at .result + 2) (start .args .source)) (after-add-member .add-member .ensures)
+    ∙ ap (λ (x : ℕ). addMember (addMember (start .args .state .now) (x + 1) (start .args .source)) (x + 2) (start .args .source)) (after-masks-at .masks-at .ensures)
+    ∙ hear-voting (start .args .state .now) (start .args .round) (start .args .source) (start .args .n) (start .args .strong) (start .pre .1) (sym (rw (after-leader-of .leader-of .ensures) at (after-has .has .ensures)) ∙ then2 .if2 .taken)
 
 same-length-3 : tie.Need-same-length-3
 same-length-3 c = search needs
 
 returns-3 : tie.Need-returns-3
-returns-3 c = c .before .before .before .before .before .before .add-member .ensures ∙ ap (λ (x : ℕ). addMember (c .before .before .before .before .before .before .before .before .before .before .args .state .now) (x + 1) (c .before .before .before .before .before .before .before .before .before .before .args .source)) (c .before .before .before .before .before .before .before .before .masks-at .ensures)
-    ∙ hear-silent (c .before .before .before .before .before .before .before .before .before .before .args .state .now) (c .before .before .before .before .before .before .before .before .before .before .args .round) (c .before .before .before .before .before .before .before .before .before .before .args .source) (c .before .before .before .before .before .before .before .before .before .before .args .n) (c .before .before .before .before .before .before .before .before .before .before .args .strong) (c .before .before .before .before .before .before .before .before .before .before .pre .1) (sym (rw (c .before .before .leader-of .ensures) at (c .before .has .ensures)) ∙ c .if2 .left)
+returns-3 c =
+    let after-has : tie.After-has = search in
+    let after-leader-of : tie.After-leader-of = search in
+    let after-add-member : tie.After-add-member = search in
+    let after-masks-at : tie.After-masks-at = search in
+    let start : tie.Start = search in
+    after-add-member .add-member .ensures ∙ ap (λ (x : ℕ). addMember (start .args .state .now) (x + 1) (start .args .source)) (after-masks-at .masks-at .ensures)
+    ∙ hear-silent (start .args .state .now) (start .args .round) (start .args .source) (start .args .n) (start .args .strong) (start .pre .1) (sym (rw (after-leader-of .leader-of .ensures) at (after-has .has .ensures)) ∙ c .if2 .left)
 
 pub hear-record-spec : {M : Type 1} → statement M
 hear-record-spec =

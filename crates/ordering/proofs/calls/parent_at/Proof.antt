@@ -21,11 +21,18 @@ mul-result : tie.Need-mul-result
 mul-result c = search needs
 
 shared-slice-read-result : tie.Need-shared-slice-read-result
-shared-slice-read-result c = omega (arith, c .before .wide .ensures, c .before .before .before .before .pre .4 (c .before .before .if1 .taken), c .before .before .before .before .pre .0)
+shared-slice-read-result c =
+    let after-wide : tie.After-wide = search in
+    let then1 : tie.Then1 = search in
+    let start : tie.Start = search in
+    omega (arith, after-wide .wide .ensures, start .pre .4 (then1 .if1 .taken), start .pre .0)
 
 returns : tie.Need-returns
 unfolding parentAt weakOf
-returns c = rw (c .before .wide .ensures, eq-eqb _ _ (c .before .before .if1 .taken))
+returns c =
+    let after-wide : tie.After-wide = search in
+    let then1 : tie.Then1 = search in
+    rw (after-wide .wide .ensures, eq-eqb _ _ (then1 .if1 .taken))
 
 shared-slice-read-t14 : tie.Need-shared-slice-read-t14
 shared-slice-read-t14 c = search needs
@@ -44,11 +51,17 @@ add-result-2 c = search needs
 
 returns-2 : tie.Need-returns-2
 unfolding parentAt strongOf
-returns-2 c = rw (ne-eqb _ _ (c .before .before .before .if1 .left), sym (c .before .has .ensures) ∙ c .if2 .taken)
+returns-2 c =
+    let after-has : tie.After-has = search in
+    let else1 : tie.Else1 = search in
+    rw (ne-eqb _ _ (else1 .if1 .left), sym (after-has .has .ensures) ∙ c .if2 .taken)
 
 returns-3 : tie.Need-returns-3
 unfolding parentAt strongOf
-returns-3 c = rw (ne-eqb _ _ (c .before .before .before .if1 .left), sym (c .before .has .ensures) ∙ c .if2 .left)
+returns-3 c =
+    let after-has : tie.After-has = search in
+    let else1 : tie.Else1 = search in
+    rw (ne-eqb _ _ (else1 .if1 .left), sym (after-has .has .ensures) ∙ c .if2 .left)
 
 pub parent-at-spec : {M : Type 1} → statement M
 parent-at-spec =

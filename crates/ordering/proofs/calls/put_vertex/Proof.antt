@@ -51,10 +51,16 @@ same-length c = search needs
 
 returns : tie.Need-returns
 unfolding putVertex
-returns c = put-pasted (c .before .before .before .before .cell-at .result) 10 (c .before .before .before .before .before .before .before .add-member .last .0) (c .before .before .write-body .last .0) (c .before .before .before .before .before .before .before .before .before .before .before .before .args .body .now)
-    (c .before .before .write-body .ensures ∙ sym (take-all 10 (c .before .before .before .before .before .before .before .before .before .before .before .before .args .body .now) (omega (arith, c .before .before .before .before .before .before .before .before .before .before .before .before .pre .4))))
-    ∙ ap₂ (λ (x : List ℕ) (k : ℕ). paste x k (c .before .before .before .before .before .before .before .before .before .before .before .before .args .body .now) 10)
-    (c .before .before .before .before .before .before .before .add-member .ensures ∙ ap (λ (k : ℕ). addMember (c .before .before .before .before .before .before .before .before .before .before .before .before .args .state .now) (k + 0) (c .before .before .before .before .before .before .before .before .before .before .before .before .args .member)) (c .before .before .before .before .before .before .before .before .before .masks-at .ensures)) (c .before .before .before .before .cell-at .ensures)
+returns c =
+    let after-write-body : tie.After-write-body = search in
+    let after-cell-at : tie.After-cell-at = search in
+    let after-add-member : tie.After-add-member = search in
+    let after-masks-at : tie.After-masks-at = search in
+    let start : tie.Start = search in
+    put-pasted (after-cell-at .cell-at .result) 10 (after-add-member .add-member .last .0) (after-write-body .write-body .last .0) (start .args .body .now)
+    (after-write-body .write-body .ensures ∙ sym (take-all 10 (start .args .body .now) (omega (arith, start .pre .4))))
+    ∙ ap₂ (λ (x : List ℕ) (k : ℕ). paste x k (start .args .body .now) 10)
+    (after-add-member .add-member .ensures ∙ ap (λ (k : ℕ). addMember (start .args .state .now) (k + 0) (start .args .member)) (after-masks-at .masks-at .ensures)) (after-cell-at .cell-at .ensures)
 
 pub put-vertex-spec : {M : Type 1} → statement M
 put-vertex-spec =

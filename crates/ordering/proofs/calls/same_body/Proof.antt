@@ -46,8 +46,13 @@ shared-slice-read-if1-2 c = search needs
 
 returns : tie.Need-returns Inv-loop μ-loop
 unfolding sameBody
-returns c = let t : ℕ → Bool = λ k. eqb (getD (c .before .before .before .before .before .before .before .before .args .state .now) (cellAt (c .before .before .before .before .before .before .before .before .args .round) (c .before .before .before .before .before .before .before .before .args .member) + k) 0) (getD (c .before .before .before .before .before .before .before .before .args .body .now) k 0) in
-    sym (all-stop 10 t (c .before .before .before .before .loop .i) (c .before .before .before .loop-test .taken) (ne-eqb _ _ (rw (c .before .before .before .before .before .cell-at .ensures) at (c .if1 .taken))))
+returns c =
+    let in-loop : tie.In-loop Inv-loop μ-loop = search in
+    let at-loop : tie.At-loop Inv-loop μ-loop = search in
+    let after-cell-at : tie.After-cell-at Inv-loop μ-loop = search in
+    let start : tie.Start Inv-loop μ-loop = search in
+    let t : ℕ → Bool = λ k. eqb (getD (start .args .state .now) (cellAt (start .args .round) (start .args .member) + k) 0) (getD (start .args .body .now) k 0) in
+    sym (all-stop 10 t (at-loop .loop .i) (in-loop .loop-test .taken) (ne-eqb _ _ (rw (after-cell-at .cell-at .ensures) at (c .if1 .taken))))
 
 add-i : tie.Need-add-i Inv-loop μ-loop
 add-i c = search needs
@@ -56,11 +61,16 @@ loop-less : tie.Need-loop-less Inv-loop μ-loop
 loop-less c = search needs
 
 loop-again : tie.Need-loop-again Inv-loop μ-loop
-loop-again c = (omega arith, all-more _ _ (c .before .before .before .before .loop .inv .1) (eq-eqb _ _ (rw (c .before .before .before .before .before .cell-at .ensures) at (c .if1 .left))))
+loop-again c =
+    let at-loop : tie.At-loop Inv-loop μ-loop = search in
+    let after-cell-at : tie.After-cell-at Inv-loop μ-loop = search in
+    (omega arith, all-more _ _ (at-loop .loop .inv .1) (eq-eqb _ _ (rw (after-cell-at .cell-at .ensures) at (c .if1 .left))))
 
 returns-2 : tie.Need-returns-2 Inv-loop μ-loop
 unfolding sameBody
-returns-2 c = let e : c .before .loop .i ≡ 10 = omega arith in sym (rw e at (c .before .loop .inv .1))
+returns-2 c =
+    let at-loop : tie.At-loop Inv-loop μ-loop = search in
+    let e : at-loop .loop .i ≡ 10 = omega arith in sym (rw e at (at-loop .loop .inv .1))
 
 pub same-body-spec : {M : Type 1} → statement M
 same-body-spec =

@@ -20,25 +20,35 @@ slice-read-journal : tie.Need-slice-read-journal
 slice-read-journal c = search needs
 
 commit-all-requires : tie.Need-commit-all-requires
-commit-all-requires c κs = let S = sound _ (c .before .before .before .before .pre .0) (c .before .before .before .before .pre .1) in (standing _ S, room _ S, c .before .before .before .before .pre .2, leaders-few _ S, S .leaders .committed-high)
+commit-all-requires c κs =
+    let start : tie.Start = search in
+    let S = sound _ (start .pre .0) (start .pre .1) in (standing _ S, room _ S, start .pre .2, leaders-few _ S, S .leaders .committed-high)
 
 slice-read-t6 : tie.Need-slice-read-t6
 slice-read-t6 c = search needs
 
 sub-t13 : tie.Need-sub-t13
-sub-t13 c = let S = sound _ (c .before .before .before .before .before .before .before .before .pre .0) (c .before .before .before .before .before .before .before .before .pre .1) in omega (arith, ap (λ (x : List ℕ). getD x 3 0) (c .before .before .before .commit-all .ensures), commits-grow 31 (c .before .before .before .before .before .before .before .before .args .state .now) S .0)
+sub-t13 c =
+    let after-commit-all : tie.After-commit-all = search in
+    let start : tie.Start = search in
+    let S = sound _ (start .pre .0) (start .pre .1) in omega (arith, ap (λ (x : List ℕ). getD x 3 0) (after-commit-all .commit-all .ensures), commits-grow 31 (start .args .state .now) S .0)
 
 slice-read-t15 : tie.Need-slice-read-t15
 slice-read-t15 c = search needs
 
 sub-t16 : tie.Need-sub-t16
-sub-t16 c = let S = sound _ (c .before .before .before .before .before .before .before .before .before .pre .0) (c .before .before .before .before .before .before .before .before .before .pre .1) in omega (arith, ap (λ (x : List ℕ). getD x 4 0) (c .before .before .before .before .commit-all .ensures), commits-grow 31 (c .before .before .before .before .before .before .before .before .before .args .state .now) S .1)
+sub-t16 c =
+    let after-commit-all : tie.After-commit-all = search in
+    let start : tie.Start = search in
+    let S = sound _ (start .pre .0) (start .pre .1) in omega (arith, ap (λ (x : List ℕ). getD x 4 0) (after-commit-all .commit-all .ensures), commits-grow 31 (start .args .state .now) S .1)
 
 same-length : tie.Need-same-length
 same-length c = search needs
 
 returns : tie.Need-returns
-returns c = rw (c .before .before .before .before .commit-all .ensures)
+returns c =
+    let after-commit-all : tie.After-commit-all = search in
+    rw (after-commit-all .commit-all .ensures)
 
 pub settle-spec : {M : Type 1} → statement M
 settle-spec =

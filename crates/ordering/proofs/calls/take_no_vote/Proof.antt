@@ -27,27 +27,55 @@ same-length : tie.Need-same-length
 same-length c = search needs
 
 returns : tie.Need-returns
-returns c = no-vote-refused (c .before .before .before .before .before .before .args .state .now) (c .before .before .before .before .before .before .args .round) (c .before .before .before .before .before .before .args .signer) _ (c .before .before .before .check-note .ensures) (λ d. c .before .if1 .taken (c .before .before .number .ensures ∙ d)) _ (c .refuse .ensures)
+returns c =
+    let then1 : tie.Then1 = search in
+    let after-number : tie.After-number = search in
+    let after-check-note : tie.After-check-note = search in
+    let start : tie.Start = search in
+    no-vote-refused (start .args .state .now) (start .args .round) (start .args .signer) _ (after-check-note .check-note .ensures) (λ d. then1 .if1 .taken (after-number .number .ensures ∙ d)) _ (c .refuse .ensures)
 
 slice-read-n : tie.Need-slice-read-n
-slice-read-n c = omega (arith, note-known (c .before .before .before .before .before .before .args .state .now) (c .before .before .before .before .before .before .args .round) (c .before .before .before .before .before .before .args .signer) _ _ (c .before .before .before .check-note .ensures) (sym (c .before .before .number .ensures) ∙ c .before .if1 .left) .0 .size)
+slice-read-n c =
+    let else1 : tie.Else1 = search in
+    let after-number : tie.After-number = search in
+    let after-check-note : tie.After-check-note = search in
+    let start : tie.Start = search in
+    omega (arith, note-known (start .args .state .now) (start .args .round) (start .args .signer) _ _ (after-check-note .check-note .ensures) (sym (after-number .number .ensures) ∙ else1 .if1 .left) .0 .size)
 
 masks-at-requires : tie.Need-masks-at-requires
-masks-at-requires c κs = let w = note-known (c .before .before .before .before .before .before .args .state .now) (c .before .before .before .before .before .before .args .round) (c .before .before .before .before .before .before .args .signer) _ _ (c .before .before .before .check-note .ensures) (sym (c .before .before .number .ensures) ∙ c .before .if1 .left) in (w .1, w .2)
+masks-at-requires c κs =
+    let else1 : tie.Else1 = search in
+    let after-number : tie.After-number = search in
+    let after-check-note : tie.After-check-note = search in
+    let start : tie.Start = search in
+    let w = note-known (start .args .state .now) (start .args .round) (start .args .signer) _ _ (after-check-note .check-note .ensures) (sym (after-number .number .ensures) ∙ else1 .if1 .left) in (w .1, w .2)
 
 add-at : tie.Need-add-at
 add-at c = search needs
 
 add-member-requires : tie.Need-add-member-requires
-add-member-requires c κs = let w = note-known (c .before .before .before .before .before .before .before .before .args .state .now) (c .before .before .before .before .before .before .before .before .args .round) (c .before .before .before .before .before .before .before .before .args .signer) _ _ (c .before .before .before .before .before .check-note .ensures) (sym (c .before .before .before .before .number .ensures) ∙ c .before .before .before .if1 .left) in
-    (omega (arith, c .before .masks-at .ensures, w .0 .size, w .2), omega (arith, w .3, w .0 .front .high))
+add-member-requires c κs =
+    let after-masks-at : tie.After-masks-at = search in
+    let else1 : tie.Else1 = search in
+    let after-number : tie.After-number = search in
+    let after-check-note : tie.After-check-note = search in
+    let start : tie.Start = search in
+    let w = note-known (start .args .state .now) (start .args .round) (start .args .signer) _ _ (after-check-note .check-note .ensures) (sym (after-number .number .ensures) ∙ else1 .if1 .left) in
+    (omega (arith, after-masks-at .masks-at .ensures, w .0 .size, w .2), omega (arith, w .3, w .0 .front .high))
 
 same-length-2 : tie.Need-same-length-2
 same-length-2 c = search needs
 
 returns-2 : tie.Need-returns-2
-returns-2 c = no-vote-done (c .before .before .before .before .before .before .before .before .before .before .before .args .state .now) (c .before .before .before .before .before .before .before .before .before .before .before .args .round) (c .before .before .before .before .before .before .before .before .before .before .before .args .signer) _ (c .before .before .before .before .before .before .before .before .check-note .ensures) (sym (c .before .before .before .before .before .before .before .number .ensures) ∙ c .before .before .before .before .before .before .if1 .left) _
-    (c .before .before .add-member .ensures ∙ ap (λ (x : ℕ). addMember (c .before .before .before .before .before .before .before .before .before .before .before .args .state .now) (x + 4) (c .before .before .before .before .before .before .before .before .before .before .before .args .signer)) (c .before .before .before .before .masks-at .ensures))
+returns-2 c =
+    let after-add-member : tie.After-add-member = search in
+    let after-masks-at : tie.After-masks-at = search in
+    let else1 : tie.Else1 = search in
+    let after-number : tie.After-number = search in
+    let after-check-note : tie.After-check-note = search in
+    let start : tie.Start = search in
+    no-vote-done (start .args .state .now) (start .args .round) (start .args .signer) _ (after-check-note .check-note .ensures) (sym (after-number .number .ensures) ∙ else1 .if1 .left) _
+    (after-add-member .add-member .ensures ∙ ap (λ (x : ℕ). addMember (start .args .state .now) (x + 4) (start .args .signer)) (after-masks-at .masks-at .ensures))
 
 pub take-no-vote-spec : {M : Type 1} → statement M
 take-no-vote-spec =

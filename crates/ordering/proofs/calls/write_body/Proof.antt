@@ -38,13 +38,19 @@ loop-less : tie.Need-loop-less Inv-loop μ-loop
 loop-less c = search needs
 
 loop-again : tie.Need-loop-again Inv-loop μ-loop
-loop-again c = (omega arith, length-set (c .before .before .loop .cell) (c .before .before .loop .i) _ ∙ c .before .before .loop .inv .1, take-copied (c .before .before .loop .cell) (c .before .before .before .args .body .now) (c .before .before .loop .i) (omega (arith, c .before .before .loop .inv .1)) (omega (arith, c .before .before .before .pre .1)) (c .before .before .loop .inv .2))
+loop-again c =
+    let at-loop : tie.At-loop Inv-loop μ-loop = search in
+    let start : tie.Start Inv-loop μ-loop = search in
+    (omega arith, length-set (at-loop .loop .cell) (at-loop .loop .i) _ ∙ at-loop .loop .inv .1, take-copied (at-loop .loop .cell) (start .args .body .now) (at-loop .loop .i) (omega (arith, at-loop .loop .inv .1)) (omega (arith, start .pre .1)) (at-loop .loop .inv .2))
 
 same-length : tie.Need-same-length Inv-loop μ-loop
 same-length c = search needs
 
 returns : tie.Need-returns Inv-loop μ-loop
-returns c = take-whole _ _ (c .before .loop .i) (omega (arith, c .before .loop .inv .1)) (omega (arith, c .before .before .pre .1)) (c .before .loop .inv .2)
+returns c =
+    let at-loop : tie.At-loop Inv-loop μ-loop = search in
+    let start : tie.Start Inv-loop μ-loop = search in
+    take-whole _ _ (at-loop .loop .i) (omega (arith, at-loop .loop .inv .1)) (omega (arith, start .pre .1)) (at-loop .loop .inv .2)
 
 pub write-body-spec : {M : Type 1} → statement M
 write-body-spec =

@@ -9,21 +9,32 @@ masks-ok-requires : tie.Need-masks-ok-requires
 masks-ok-requires c κs = search needs
 
 returns : tie.Need-returns
-returns c = sym (and-fails-left _ (failed (c .before .masks-ok .ensures) (c .if1 .taken)))
+returns c =
+    let after-masks-ok : tie.After-masks-ok = search in
+    sym (and-fails-left _ (failed (after-masks-ok .masks-ok .ensures) (c .if1 .taken)))
 
 quorum-if-requires : tie.Need-quorum-if-requires
 quorum-if-requires c κs = search needs
 
 returns-2 : tie.Need-returns-2
 unfolding quorumIf
-returns-2 c = rw (passed (c .before .before .before .masks-ok .ensures) (c .before .before .if1 .left)) (sym (and-fails-left _ (failed (c .before .quorum-if .ensures) (c .if2 .taken))))
+returns-2 c =
+    let after-quorum-if : tie.After-quorum-if = search in
+    let else1 : tie.Else1 = search in
+    let after-masks-ok : tie.After-masks-ok = search in
+    rw (passed (after-masks-ok .masks-ok .ensures) (else1 .if1 .left)) (sym (and-fails-left _ (failed (after-quorum-if .quorum-if .ensures) (c .if2 .taken))))
 
 no-votes-ok-requires : tie.Need-no-votes-ok-requires
 no-votes-ok-requires c κs = search needs
 
 returns-3 : tie.Need-returns-3
 unfolding quorumIf
-returns-3 c = rw (passed (c .before .before .before .before .masks-ok .ensures) (c .before .before .before .if1 .left), passed (c .before .before .quorum-if .ensures) (c .before .if2 .left)) (c .no-votes-ok .ensures)
+returns-3 c =
+    let else2 : tie.Else2 = search in
+    let after-quorum-if : tie.After-quorum-if = search in
+    let else1 : tie.Else1 = search in
+    let after-masks-ok : tie.After-masks-ok = search in
+    rw (passed (after-masks-ok .masks-ok .ensures) (else1 .if1 .left), passed (after-quorum-if .quorum-if .ensures) (else2 .if2 .left)) (c .no-votes-ok .ensures)
 
 pub certificates-ok-spec : {M : Type 1} → statement M
 certificates-ok-spec =

@@ -14,7 +14,9 @@ use Rattle.record.proofs.questions.check_body.Reads as check-body-reads
 
 returns : tie.Need-returns
 unfolding bodyRefusal
-returns c = stop _ _ (ne-eqb (length (drop 2 (c .before .before .args .rec .now))) 10 (λ e. c .if1 .taken (omega (arith, length-drop 2 (c .before .before .args .rec .now), e))))
+returns c =
+    let start : tie.Start = search in
+    stop _ _ (ne-eqb (length (drop 2 (start .args .rec .now))) 10 (λ e. c .if1 .taken (omega (arith, length-drop 2 (start .args .rec .now), e))))
 
 shared-slice-read-check-body : tie.Need-shared-slice-read-check-body
 shared-slice-read-check-body c = search needs
@@ -35,7 +37,9 @@ check-body-requires : tie.Need-check-body-requires
 check-body-requires c κs = search needs
 
 returns-2 : tie.Need-returns-2
-returns-2 c = rw (take-all 10 (drop 2 (c .before .before .before .before .before .before .args .rec .now)) (omega (arith, length-drop 2 (c .before .before .before .before .before .before .args .rec .now)))) at (c .check-body .ensures)
+returns-2 c =
+    let start : tie.Start = search in
+    rw (take-all 10 (drop 2 (start .args .rec .now)) (omega (arith, length-drop 2 (start .args .rec .now)))) at (c .check-body .ensures)
 
 pub check-spec : {M : Type 1} → statement M
 check-spec =

@@ -22,22 +22,39 @@ round-ok-requires c κs = search needs
 
 returns-2 : tie.Need-returns-2
 unfolding bodyRefusal
-returns-2 c = next _ _ (eq-eqb _ _ (c .before .before .if1 .left)) (stop _ _ (failed (c .before .round-ok .ensures) (c .if2 .taken)))
+returns-2 c =
+    let after-round-ok : tie.After-round-ok = search in
+    let else1 : tie.Else1 = search in
+    next _ _ (eq-eqb _ _ (else1 .if1 .left)) (stop _ _ (failed (after-round-ok .round-ok .ensures) (c .if2 .taken)))
 
 returns-3 : tie.Need-returns-3
 unfolding bodyRefusal
-returns-3 c = next _ _ (eq-eqb _ _ (c .before .before .before .if1 .left))
-    (next _ _ (passed (c .before .before .round-ok .ensures) (c .before .if2 .left)) (stop _ _ (le-ltb _ _ (c .if3 .taken))))
+returns-3 c =
+    let else2 : tie.Else2 = search in
+    let after-round-ok : tie.After-round-ok = search in
+    let else1 : tie.Else1 = search in
+    next _ _ (eq-eqb _ _ (else1 .if1 .left))
+    (next _ _ (passed (after-round-ok .round-ok .ensures) (else2 .if2 .left)) (stop _ _ (le-ltb _ _ (c .if3 .taken))))
 
 terms-of-requires : tie.Need-terms-of-requires
-terms-of-requires c κs = let h = round-range _ (passed (c .before .before .round-ok .ensures) (c .before .if2 .left)) in (omega arith, h .0)
+terms-of-requires c κs =
+    let else2 : tie.Else2 = search in
+    let after-round-ok : tie.After-round-ok = search in
+    let h = round-range _ (passed (after-round-ok .round-ok .ensures) (else2 .if2 .left)) in (omega arith, h .0)
 
 check-known-requires : tie.Need-check-known-requires
-check-known-requires c κs = let h = round-range _ (passed (c .before .before .before .round-ok .ensures) (c .before .before .if2 .left)) in
-    rw (c .terms-of .ensures) (refl, h .0, h .1, c .before .if3 .left, c .before .before .before .before .if1 .left)
+check-known-requires c κs =
+    let else3 : tie.Else3 = search in
+    let else2 : tie.Else2 = search in
+    let after-round-ok : tie.After-round-ok = search in
+    let else1 : tie.Else1 = search in
+    let h = round-range _ (passed (after-round-ok .round-ok .ensures) (else2 .if2 .left)) in
+    rw (c .terms-of .ensures) (refl, h .0, h .1, else3 .if3 .left, else1 .if1 .left)
 
 returns-4 : tie.Need-returns-4
-returns-4 c = rw (c .before .terms-of .ensures) at (c .check-known .ensures)
+returns-4 c =
+    let after-terms-of : tie.After-terms-of = search in
+    rw (after-terms-of .terms-of .ensures) at (c .check-known .ensures)
 
 pub check-body-spec : {M : Type 1} → statement M
 check-body-spec =

@@ -30,17 +30,25 @@ masks-ok-requires c κs = search needs
 
 returns : tie.Need-returns
 unfolding masksOk strongOf timeoutsOf noVotesOf
-returns c = known _ _ _ _ (c .before .before .before .before .before .before .pre .1) (c .before .before .before .before .before .before .pre .2) (c .before .before .before .before .before .before .pre .3) (c .before .before .before .before .before .before .pre .4)
-    (stop _ _ (failed (c .before .masks-ok .ensures) (c .if1 .taken)))
+returns c =
+    let after-masks-ok : tie.After-masks-ok = search in
+    let start : tie.Start = search in
+    known _ _ _ _ (start .pre .1) (start .pre .2) (start .pre .3) (start .pre .4)
+    (stop _ _ (failed (after-masks-ok .masks-ok .ensures) (c .if1 .taken)))
 
 strong-ok-requires : tie.Need-strong-ok-requires
 strong-ok-requires c κs = search needs
 
 returns-2 : tie.Need-returns-2
 unfolding masksOk strongOf timeoutsOf noVotesOf
-returns-2 c = known _ _ _ _ (c .before .before .before .before .before .before .before .before .pre .1) (c .before .before .before .before .before .before .before .before .pre .2) (c .before .before .before .before .before .before .before .before .pre .3) (c .before .before .before .before .before .before .before .before .pre .4)
-    (next _ _ (passed (c .before .before .before .masks-ok .ensures) (c .before .before .if1 .left))
-    (stop _ _ (failed (c .before .strong-ok .ensures) (c .if2 .taken))))
+returns-2 c =
+    let after-strong-ok : tie.After-strong-ok = search in
+    let else1 : tie.Else1 = search in
+    let after-masks-ok : tie.After-masks-ok = search in
+    let start : tie.Start = search in
+    known _ _ _ _ (start .pre .1) (start .pre .2) (start .pre .3) (start .pre .4)
+    (next _ _ (passed (after-masks-ok .masks-ok .ensures) (else1 .if1 .left))
+    (stop _ _ (failed (after-strong-ok .strong-ok .ensures) (c .if2 .taken))))
 
 lacks-leader-requires : tie.Need-lacks-leader-requires
 lacks-leader-requires c κs = search needs
@@ -50,42 +58,84 @@ quorum-if-requires c κs = search needs
 
 returns-3 : tie.Need-returns-3
 unfolding masksOk timeoutsOk strongOf timeoutsOf noVotesOf
-returns-3 c = known _ _ _ _ (c .before .before .before .before .before .before .before .before .before .before .before .pre .1) (c .before .before .before .before .before .before .before .before .before .before .before .pre .2) (c .before .before .before .before .before .before .before .before .before .before .before .pre .3) (c .before .before .before .before .before .before .before .before .before .before .before .pre .4)
-    (next _ _ (passed (c .before .before .before .before .before .before .masks-ok .ensures) (c .before .before .before .before .before .if1 .left))
-    (next _ _ (passed (c .before .before .before .before .strong-ok .ensures) (c .before .before .before .if2 .left))
-    (stop _ _ (failed (rw (c .before .before .lacks-leader .ensures) at (c .before .quorum-if .ensures)) (c .if3 .taken)))))
+returns-3 c =
+    let after-quorum-if : tie.After-quorum-if = search in
+    let after-lacks-leader : tie.After-lacks-leader = search in
+    let else2 : tie.Else2 = search in
+    let after-strong-ok : tie.After-strong-ok = search in
+    let else1 : tie.Else1 = search in
+    let after-masks-ok : tie.After-masks-ok = search in
+    let start : tie.Start = search in
+    known _ _ _ _ (start .pre .1) (start .pre .2) (start .pre .3) (start .pre .4)
+    (next _ _ (passed (after-masks-ok .masks-ok .ensures) (else1 .if1 .left))
+    (next _ _ (passed (after-strong-ok .strong-ok .ensures) (else2 .if2 .left))
+    (stop _ _ (failed (rw (after-lacks-leader .lacks-leader .ensures) at (after-quorum-if .quorum-if .ensures)) (c .if3 .taken)))))
 
 no-votes-ok-requires : tie.Need-no-votes-ok-requires
 no-votes-ok-requires c κs = search needs
 
 returns-4 : tie.Need-returns-4
 unfolding masksOk timeoutsOk noVotesOk strongOf timeoutsOf noVotesOf
-returns-4 c = known _ _ _ _ (c .before .before .before .before .before .before .before .before .before .before .before .before .before .pre .1) (c .before .before .before .before .before .before .before .before .before .before .before .before .before .pre .2) (c .before .before .before .before .before .before .before .before .before .before .before .before .before .pre .3) (c .before .before .before .before .before .before .before .before .before .before .before .before .before .pre .4)
-    (next _ _ (passed (c .before .before .before .before .before .before .before .before .masks-ok .ensures) (c .before .before .before .before .before .before .before .if1 .left))
-    (next _ _ (passed (c .before .before .before .before .before .before .strong-ok .ensures) (c .before .before .before .before .before .if2 .left))
-    (next _ _ (passed (rw (c .before .before .before .before .lacks-leader .ensures) at (c .before .before .before .quorum-if .ensures)) (c .before .before .if3 .left))
-    (stop _ _ (failed (rw (c .before .before .before .before .lacks-leader .ensures, ap (λ (t : Terms). t .leader) (c .before .before .before .before .before .before .before .before .before .before .before .before .before .pre .0)) at (c .before .no-votes-ok .ensures)) (c .if4 .taken))))))
+returns-4 c =
+    let after-no-votes-ok : tie.After-no-votes-ok = search in
+    let else3 : tie.Else3 = search in
+    let after-quorum-if : tie.After-quorum-if = search in
+    let after-lacks-leader : tie.After-lacks-leader = search in
+    let else2 : tie.Else2 = search in
+    let after-strong-ok : tie.After-strong-ok = search in
+    let else1 : tie.Else1 = search in
+    let after-masks-ok : tie.After-masks-ok = search in
+    let start : tie.Start = search in
+    known _ _ _ _ (start .pre .1) (start .pre .2) (start .pre .3) (start .pre .4)
+    (next _ _ (passed (after-masks-ok .masks-ok .ensures) (else1 .if1 .left))
+    (next _ _ (passed (after-strong-ok .strong-ok .ensures) (else2 .if2 .left))
+    (next _ _ (passed (rw (after-lacks-leader .lacks-leader .ensures) at (after-quorum-if .quorum-if .ensures)) (else3 .if3 .left))
+    (stop _ _ (failed (rw (after-lacks-leader .lacks-leader .ensures, ap (λ (t : Terms). t .leader) (start .pre .0)) at (after-no-votes-ok .no-votes-ok .ensures)) (c .if4 .taken))))))
 
 weak-ok-requires : tie.Need-weak-ok-requires
 weak-ok-requires c κs = search needs
 
 returns-5 : tie.Need-returns-5
 unfolding masksOk timeoutsOk noVotesOk strongOf timeoutsOf noVotesOf
-returns-5 c = known _ _ _ _ (c .before .before .before .before .before .before .before .before .before .before .before .before .before .before .before .pre .1) (c .before .before .before .before .before .before .before .before .before .before .before .before .before .before .before .pre .2) (c .before .before .before .before .before .before .before .before .before .before .before .before .before .before .before .pre .3) (c .before .before .before .before .before .before .before .before .before .before .before .before .before .before .before .pre .4)
-    (next _ _ (passed (c .before .before .before .before .before .before .before .before .before .before .masks-ok .ensures) (c .before .before .before .before .before .before .before .before .before .if1 .left))
-    (next _ _ (passed (c .before .before .before .before .before .before .before .before .strong-ok .ensures) (c .before .before .before .before .before .before .before .if2 .left))
-    (next _ _ (passed (rw (c .before .before .before .before .before .before .lacks-leader .ensures) at (c .before .before .before .before .before .quorum-if .ensures)) (c .before .before .before .before .if3 .left))
-    (next _ _ (passed (rw (c .before .before .before .before .before .before .lacks-leader .ensures, ap (λ (t : Terms). t .leader) (c .before .before .before .before .before .before .before .before .before .before .before .before .before .before .before .pre .0)) at (c .before .before .before .no-votes-ok .ensures)) (c .before .before .if4 .left))
-    (stop _ _ (failed (c .before .weak-ok .ensures) (c .if5 .taken)))))))
+returns-5 c =
+    let after-weak-ok : tie.After-weak-ok = search in
+    let else4 : tie.Else4 = search in
+    let after-no-votes-ok : tie.After-no-votes-ok = search in
+    let else3 : tie.Else3 = search in
+    let after-quorum-if : tie.After-quorum-if = search in
+    let after-lacks-leader : tie.After-lacks-leader = search in
+    let else2 : tie.Else2 = search in
+    let after-strong-ok : tie.After-strong-ok = search in
+    let else1 : tie.Else1 = search in
+    let after-masks-ok : tie.After-masks-ok = search in
+    let start : tie.Start = search in
+    known _ _ _ _ (start .pre .1) (start .pre .2) (start .pre .3) (start .pre .4)
+    (next _ _ (passed (after-masks-ok .masks-ok .ensures) (else1 .if1 .left))
+    (next _ _ (passed (after-strong-ok .strong-ok .ensures) (else2 .if2 .left))
+    (next _ _ (passed (rw (after-lacks-leader .lacks-leader .ensures) at (after-quorum-if .quorum-if .ensures)) (else3 .if3 .left))
+    (next _ _ (passed (rw (after-lacks-leader .lacks-leader .ensures, ap (λ (t : Terms). t .leader) (start .pre .0)) at (after-no-votes-ok .no-votes-ok .ensures)) (else4 .if4 .left))
+    (stop _ _ (failed (after-weak-ok .weak-ok .ensures) (c .if5 .taken)))))))
 
 returns-6 : tie.Need-returns-6
 unfolding masksOk timeoutsOk noVotesOk strongOf timeoutsOf noVotesOf
-returns-6 c = known _ _ _ _ (c .before .before .before .before .before .before .before .before .before .before .before .before .before .before .before .pre .1) (c .before .before .before .before .before .before .before .before .before .before .before .before .before .before .before .pre .2) (c .before .before .before .before .before .before .before .before .before .before .before .before .before .before .before .pre .3) (c .before .before .before .before .before .before .before .before .before .before .before .before .before .before .before .pre .4)
-    (next _ _ (passed (c .before .before .before .before .before .before .before .before .before .before .masks-ok .ensures) (c .before .before .before .before .before .before .before .before .before .if1 .left))
-    (next _ _ (passed (c .before .before .before .before .before .before .before .before .strong-ok .ensures) (c .before .before .before .before .before .before .before .if2 .left))
-    (next _ _ (passed (rw (c .before .before .before .before .before .before .lacks-leader .ensures) at (c .before .before .before .before .before .quorum-if .ensures)) (c .before .before .before .before .if3 .left))
-    (next _ _ (passed (rw (c .before .before .before .before .before .before .lacks-leader .ensures, ap (λ (t : Terms). t .leader) (c .before .before .before .before .before .before .before .before .before .before .before .before .before .before .before .pre .0)) at (c .before .before .before .no-votes-ok .ensures)) (c .before .before .if4 .left))
-    (next _ _ (passed (c .before .weak-ok .ensures) (c .if5 .left)) done)))))
+returns-6 c =
+    let after-weak-ok : tie.After-weak-ok = search in
+    let else4 : tie.Else4 = search in
+    let after-no-votes-ok : tie.After-no-votes-ok = search in
+    let else3 : tie.Else3 = search in
+    let after-quorum-if : tie.After-quorum-if = search in
+    let after-lacks-leader : tie.After-lacks-leader = search in
+    let else2 : tie.Else2 = search in
+    let after-strong-ok : tie.After-strong-ok = search in
+    let else1 : tie.Else1 = search in
+    let after-masks-ok : tie.After-masks-ok = search in
+    let start : tie.Start = search in
+    known _ _ _ _ (start .pre .1) (start .pre .2) (start .pre .3) (start .pre .4)
+    (next _ _ (passed (after-masks-ok .masks-ok .ensures) (else1 .if1 .left))
+    (next _ _ (passed (after-strong-ok .strong-ok .ensures) (else2 .if2 .left))
+    (next _ _ (passed (rw (after-lacks-leader .lacks-leader .ensures) at (after-quorum-if .quorum-if .ensures)) (else3 .if3 .left))
+    (next _ _ (passed (rw (after-lacks-leader .lacks-leader .ensures, ap (λ (t : Terms). t .leader) (start .pre .0)) at (after-no-votes-ok .no-votes-ok .ensures)) (else4 .if4 .left))
+    (next _ _ (passed (after-weak-ok .weak-ok .ensures) (c .if5 .left)) done)))))
 
 pub check-known-spec : {M : Type 1} → statement M
 check-known-spec =

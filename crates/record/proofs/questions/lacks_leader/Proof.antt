@@ -19,11 +19,16 @@ unfolding lacksLeader
 returns c = simp (lt-leb _ _ (c .if1 .taken))
 
 has-requires : tie.Need-has-requires
-has-requires c κs = omega (arith, ap (λ (t : Terms). t .previous) (c .before .pre .0), leader-small (c .before .args .terms .n) (c .before .args .round - 1) (omega arith))
+has-requires c κs =
+    let start : tie.Start = search in
+    omega (arith, ap (λ (t : Terms). t .previous) (start .pre .0), leader-small (start .args .terms .n) (start .args .round - 1) (omega arith))
 
 returns-2 : tie.Need-returns-2
 unfolding lacksLeader
-returns-2 c = simp (le-leb _ _ (c .before .if1 .left)) (ap not (c .has .ensures ∙ ap (λ (t : Terms). has (c .before .before .args .strong) (t .previous)) (c .before .before .pre .0)))
+returns-2 c =
+    let else1 : tie.Else1 = search in
+    let start : tie.Start = search in
+    simp (le-leb _ _ (else1 .if1 .left)) (ap not (c .has .ensures ∙ ap (λ (t : Terms). has (start .args .strong) (t .previous)) (start .pre .0)))
 
 pub lacks-leader-spec : {M : Type 1} → statement M
 lacks-leader-spec = tie.close (tie.spec returns has-requires returns-2)

@@ -23,7 +23,9 @@ strong-ok-requires c κs = search needs
 
 returns : tie.Need-returns
 unfolding strongOf
-returns c = sym (masks-strong _ _ _ _ (failed (c .before .strong-ok .ensures) (c .if1 .taken)))
+returns c =
+    let after-strong-ok : tie.After-strong-ok = search in
+    sym (masks-strong _ _ _ _ (failed (after-strong-ok .strong-ok .ensures) (c .if1 .taken)))
 
 lacks-leader-requires : tie.Need-lacks-leader-requires
 lacks-leader-requires c κs = search needs
@@ -33,18 +35,35 @@ certificates-ok-requires c κs = search needs
 
 returns-2 : tie.Need-returns-2
 unfolding strongOf timeoutsOf noVotesOf
-returns-2 c = rw (ap (λ (t : Terms). t .leader) (c .before .before .before .before .before .before .before .before .before .pre .0)) at (c .certificates-ok .ensures) ∙ sym (masks-lacking _ _ _ _ (passed (c .before .before .before .before .strong-ok .ensures) (c .before .before .before .if1 .left)) (sym (c .before .before .lacks-leader .ensures) ∙ c .before .if2 .taken))
+returns-2 c =
+    let then2 : tie.Then2 = search in
+    let after-lacks-leader : tie.After-lacks-leader = search in
+    let else1 : tie.Else1 = search in
+    let after-strong-ok : tie.After-strong-ok = search in
+    let start : tie.Start = search in
+    rw (ap (λ (t : Terms). t .leader) (start .pre .0)) at (c .certificates-ok .ensures) ∙ sym (masks-lacking _ _ _ _ (passed (after-strong-ok .strong-ok .ensures) (else1 .if1 .left)) (sym (after-lacks-leader .lacks-leader .ensures) ∙ then2 .if2 .taken))
 
 returns-3 : tie.Need-returns-3
 unfolding strongOf timeoutsOf noVotesOf
-returns-3 c = sym (masks-full _ _ _ _ (passed (c .before .before .before .before .strong-ok .ensures) (c .before .before .before .if1 .left)) (sym (c .before .before .lacks-leader .ensures) ∙ c .before .if2 .left) ∙ and-fails-left _ (ne-eqb _ _ (c .if3 .taken)))
+returns-3 c =
+    let else2 : tie.Else2 = search in
+    let after-lacks-leader : tie.After-lacks-leader = search in
+    let else1 : tie.Else1 = search in
+    let after-strong-ok : tie.After-strong-ok = search in
+    sym (masks-full _ _ _ _ (passed (after-strong-ok .strong-ok .ensures) (else1 .if1 .left)) (sym (after-lacks-leader .lacks-leader .ensures) ∙ else2 .if2 .left) ∙ and-fails-left _ (ne-eqb _ _ (c .if3 .taken)))
 
 is-within-requires : tie.Need-is-within-requires
 is-within-requires c κs = search needs
 
 returns-4 : tie.Need-returns-4
 unfolding strongOf timeoutsOf noVotesOf
-returns-4 c = sym (masks-full _ _ _ _ (passed (c .before .before .before .before .before .strong-ok .ensures) (c .before .before .before .before .if1 .left)) (sym (c .before .before .before .lacks-leader .ensures) ∙ c .before .before .if2 .left) ∙ rw (eq-eqb _ _ (c .before .if3 .left)) (sym (c .is-within .ensures)))
+returns-4 c =
+    let else3 : tie.Else3 = search in
+    let else2 : tie.Else2 = search in
+    let after-lacks-leader : tie.After-lacks-leader = search in
+    let else1 : tie.Else1 = search in
+    let after-strong-ok : tie.After-strong-ok = search in
+    sym (masks-full _ _ _ _ (passed (after-strong-ok .strong-ok .ensures) (else1 .if1 .left)) (sym (after-lacks-leader .lacks-leader .ensures) ∙ else2 .if2 .left) ∙ rw (eq-eqb _ _ (else3 .if3 .left)) (sym (c .is-within .ensures)))
 
 pub masks-admitted-spec : {M : Type 1} → statement M
 masks-admitted-spec =

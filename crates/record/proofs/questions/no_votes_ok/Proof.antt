@@ -14,10 +14,14 @@ quorum-if-requires : tie.Need-quorum-if-requires
 quorum-if-requires c κs = search needs
 
 returns : tie.Need-returns
-returns c = c .quorum-if .ensures ∙ wanted-leading _ _ _ _ (eq-eqb _ _ (c .before .if1 .taken))
+returns c =
+    let then1 : tie.Then1 = search in
+    c .quorum-if .ensures ∙ wanted-leading _ _ _ _ (eq-eqb _ _ (then1 .if1 .taken))
 
 returns-2 : tie.Need-returns-2
-returns-2 c = wanted-not (c .before .before .args .terms .n) (c .before .before .args .lack) _ (c .before .before .args .no-votes) (ne-eqb _ _ (c .if1 .left))
+returns-2 c =
+    let start : tie.Start = search in
+    wanted-not (start .args .terms .n) (start .args .lack) _ (start .args .no-votes) (ne-eqb _ _ (c .if1 .left))
 
 pub no-votes-ok-spec : {M : Type 1} → statement M
 no-votes-ok-spec = tie.close (tie.spec quorum-if-requires returns returns-2)

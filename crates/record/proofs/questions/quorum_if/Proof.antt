@@ -11,7 +11,9 @@ meets-quorum-requires c κs = search needs
 
 returns : tie.Need-returns
 unfolding quorumIf
-returns c = rw (c .before .if1 .taken) (c .meets-quorum .ensures)
+returns c =
+    let then1 : tie.Then1 = search in
+    rw (then1 .if1 .taken) (c .meets-quorum .ensures)
 
 returns-2 : tie.Need-returns-2
 unfolding quorumIf

@@ -34,7 +34,9 @@ shared-slice-read-result-2 c = search needs
 
 returns-2 : tie.Need-returns-2
 unfolding rises weakOf
-returns-2 c = simp (ne-eqb _ _ (c .before .before .if1 .left))
+returns-2 c =
+    let else1 : tie.Else1 = search in
+    simp (ne-eqb _ _ (else1 .if1 .left))
 
 pub rises-at-spec : {M : Type 1} → statement M
 rises-at-spec =

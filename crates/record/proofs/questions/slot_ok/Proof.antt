@@ -28,21 +28,32 @@ wide-requires c κs = search needs
 
 returns : tie.Need-returns
 unfolding slotOk weakOf weakCountOf
-returns c = simp (le-ltb _ _ (rw (c .before .wide .ensures) at (c .if1 .taken)))
+returns c =
+    let after-wide : tie.After-wide = search in
+    simp (le-ltb _ _ (rw (after-wide .wide .ensures) at (c .if1 .taken)))
 
 rises-at-requires : tie.Need-rises-at-requires
 rises-at-requires c κs = search needs
 
 returns-2 : tie.Need-returns-2
 unfolding slotOk weakOf weakCountOf
-returns-2 c = simp (lt-ltb _ _ (rw (c .before .before .before .wide .ensures) at (c .before .before .if1 .left)), failed (c .before .rises-at .ensures) (c .if2 .taken))
+returns-2 c =
+    let after-rises-at : tie.After-rises-at = search in
+    let else1 : tie.Else1 = search in
+    let after-wide : tie.After-wide = search in
+    simp (lt-ltb _ _ (rw (after-wide .wide .ensures) at (else1 .if1 .left)), failed (after-rises-at .rises-at .ensures) (c .if2 .taken))
 
 weak-id-ok-requires : tie.Need-weak-id-ok-requires
 weak-id-ok-requires c κs = search needs
 
 returns-3 : tie.Need-returns-3
 unfolding slotOk weakOf weakCountOf
-returns-3 c = simp (lt-ltb _ _ (rw (c .before .before .before .before .wide .ensures) at (c .before .before .before .if1 .left)), passed (c .before .before .rises-at .ensures) (c .before .if2 .left)) (c .weak-id-ok .ensures)
+returns-3 c =
+    let else2 : tie.Else2 = search in
+    let after-rises-at : tie.After-rises-at = search in
+    let else1 : tie.Else1 = search in
+    let after-wide : tie.After-wide = search in
+    simp (lt-ltb _ _ (rw (after-wide .wide .ensures) at (else1 .if1 .left)), passed (after-rises-at .rises-at .ensures) (else2 .if2 .left)) (c .weak-id-ok .ensures)
 
 pub slot-ok-spec : {M : Type 1} → statement M
 slot-ok-spec =

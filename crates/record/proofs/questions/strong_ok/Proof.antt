@@ -16,7 +16,9 @@ meets-quorum-requires c κs = search needs
 
 returns-2 : tie.Need-returns-2
 unfolding strongOk
-returns-2 c = simp (ne-eqb _ _ (c .before .if1 .left)) (c .meets-quorum .ensures)
+returns-2 c =
+    let else1 : tie.Else1 = search in
+    simp (ne-eqb _ _ (else1 .if1 .left)) (c .meets-quorum .ensures)
 
 pub strong-ok-spec : {M : Type 1} → statement M
 strong-ok-spec = tie.close (tie.spec returns meets-quorum-requires returns-2)

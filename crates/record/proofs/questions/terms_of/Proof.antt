@@ -15,7 +15,9 @@ leader-of-requires : tie.Need-leader-of-requires
 leader-of-requires c κs = search needs
 
 returns : tie.Need-returns
-returns c = rw (c .before .leader-of .ensures, leader-none _ _ (c .if1 .taken))
+returns c =
+    let after-leader-of : tie.After-leader-of = search in
+    rw (after-leader-of .leader-of .ensures, leader-none _ _ (c .if1 .taken))
 
 sub-leader-of : tie.Need-sub-leader-of
 sub-leader-of c = search needs
@@ -24,7 +26,9 @@ leader-of-requires-2 : tie.Need-leader-of-requires-2
 leader-of-requires-2 c κs = search needs
 
 returns-2 : tie.Need-returns-2
-returns-2 c = rw (c .before .before .leader-of .ensures, c .leader-of2 .ensures)
+returns-2 c =
+    let after-leader-of : tie.After-leader-of = search in
+    rw (after-leader-of .leader-of .ensures, c .leader-of2 .ensures)
 
 pub terms-of-spec : {M : Type 1} → statement M
 terms-of-spec =

@@ -12,14 +12,18 @@ returns c = simp (le-ltb _ _ (c .if1 .taken))
 
 returns-2 : tie.Need-returns-2
 unfolding weakIdOk
-returns-2 c = simp (lt-ltb _ _ (c .before .if1 .left), lt-leb _ _ (c .if2 .taken))
+returns-2 c =
+    let else1 : tie.Else1 = search in
+    simp (lt-ltb _ _ (else1 .if1 .left), lt-leb _ _ (c .if2 .taken))
 
 add-result : tie.Need-add-result
 add-result c = search needs
 
 returns-3 : tie.Need-returns-3
 unfolding weakIdOk
-returns-3 c = simp (lt-ltb _ _ (c .before .if1 .left), le-leb _ _ (c .if2 .left))
+returns-3 c =
+    let else1 : tie.Else1 = search in
+    simp (lt-ltb _ _ (else1 .if1 .left), le-leb _ _ (c .if2 .left))
 
 pub weak-id-ok-spec : {M : Type 1} → statement M
 weak-id-ok-spec = tie.close (tie.spec returns returns-2 add-result returns-3)

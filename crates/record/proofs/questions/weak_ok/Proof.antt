@@ -30,7 +30,9 @@ shared-slice-read-if1 c = search needs
 
 returns : tie.Need-returns Inv-loop μ-loop
 unfolding weakOk weakCountOf
-returns c = simp (lt-leb _ _ (rw (c .before .before .faulty-of .ensures) at (c .if1 .taken)))
+returns c =
+    let after-faulty-of : tie.After-faulty-of Inv-loop μ-loop = search in
+    simp (lt-leb _ _ (rw (after-faulty-of .faulty-of .ensures) at (c .if1 .taken)))
 
 loop-holds : tie.Need-loop-holds Inv-loop μ-loop
 loop-holds c = (omega arith, all-none _)
@@ -40,10 +42,16 @@ slot-ok-requires c κs = search needs
 
 returns-2 : tie.Need-returns-2 Inv-loop μ-loop
 unfolding weakOk weakCountOf
-returns-2 c = simp (
-  le-leb _ _ (rw (c .before .before .before .before .before .before .faulty-of .ensures) at (c .before .before .before .before .if1 .left)),
-  all-stop 5 (slotOk (c .before .before .before .before .before .before .before .before .args .n) (c .before .before .before .before .before .before .before .before .args .round) (c .before .before .before .before .before .before .before .before .args .body .now)) _ (c .before .before .loop-test .taken) (failed (c .before .slot-ok .ensures) (c .if2 .taken)),
-)
+returns-2 c =
+    let after-slot-ok : tie.After-slot-ok Inv-loop μ-loop = search in
+    let in-loop : tie.In-loop Inv-loop μ-loop = search in
+    let else1 : tie.Else1 Inv-loop μ-loop = search in
+    let after-faulty-of : tie.After-faulty-of Inv-loop μ-loop = search in
+    let start : tie.Start Inv-loop μ-loop = search in
+    simp (
+      le-leb _ _ (rw (after-faulty-of .faulty-of .ensures) at (else1 .if1 .left)),
+      all-stop 5 (slotOk (start .args .n) (start .args .round) (start .args .body .now)) _ (in-loop .loop-test .taken) (failed (after-slot-ok .slot-ok .ensures) (c .if2 .taken)),
+    )
 
 add-i : tie.Need-add-i Inv-loop μ-loop
 add-i c = search needs
@@ -52,12 +60,19 @@ loop-less : tie.Need-loop-less Inv-loop μ-loop
 loop-less c = search needs
 
 loop-again : tie.Need-loop-again Inv-loop μ-loop
-loop-again c = (omega arith, all-more _ _ (c .before .before .before .loop .inv .1) (passed (c .before .slot-ok .ensures) (c .if2 .left)))
+loop-again c =
+    let after-slot-ok : tie.After-slot-ok Inv-loop μ-loop = search in
+    let at-loop : tie.At-loop Inv-loop μ-loop = search in
+    (omega arith, all-more _ _ (at-loop .loop .inv .1) (passed (after-slot-ok .slot-ok .ensures) (c .if2 .left)))
 
 returns-3 : tie.Need-returns-3 Inv-loop μ-loop
 unfolding weakOk weakCountOf
-returns-3 c = let e : c .before .loop .i ≡ 5 = omega arith in
-    simp (le-leb _ _ (rw (c .before .before .before .before .faulty-of .ensures) at (c .before .before .if1 .left)), rw e at (c .before .loop .inv .1))
+returns-3 c =
+    let at-loop : tie.At-loop Inv-loop μ-loop = search in
+    let else1 : tie.Else1 Inv-loop μ-loop = search in
+    let after-faulty-of : tie.After-faulty-of Inv-loop μ-loop = search in
+    let e : at-loop .loop .i ≡ 5 = omega arith in
+    simp (le-leb _ _ (rw (after-faulty-of .faulty-of .ensures) at (else1 .if1 .left)), rw e at (at-loop .loop .inv .1))
 
 pub weak-ok-spec : {M : Type 1} → statement M
 weak-ok-spec =

@@ -12,7 +12,9 @@ returns c = simp (lt-leb _ _ (c .if1 .taken))
 
 returns-2 : tie.Need-returns-2
 unfolding roundOk
-returns-2 c = simp (le-leb _ _ (c .before .if1 .left), lt-leb _ _ (c .if2 .taken))
+returns-2 c =
+    let else1 : tie.Else1 = search in
+    simp (le-leb _ _ (else1 .if1 .left), lt-leb _ _ (c .if2 .taken))
 
 held-mask-requires : tie.Need-held-mask-requires
 held-mask-requires c κs = search needs
@@ -22,7 +24,11 @@ has-requires c κs = search needs
 
 returns-3 : tie.Need-returns-3
 unfolding roundOk
-returns-3 c = simp (le-leb _ _ (c .before .before .before .if1 .left), le-leb _ _ (c .before .before .if2 .left)) (rw (c .before .held-mask .ensures) at (c .has .ensures))
+returns-3 c =
+    let after-held-mask : tie.After-held-mask = search in
+    let else2 : tie.Else2 = search in
+    let else1 : tie.Else1 = search in
+    simp (le-leb _ _ (else1 .if1 .left), le-leb _ _ (else2 .if2 .left)) (rw (after-held-mask .held-mask .ensures) at (c .has .ensures))
 
 pub is-held-spec : {M : Type 1} → statement M
 is-held-spec = tie.close (tie.spec returns returns-2 held-mask-requires has-requires returns-3)

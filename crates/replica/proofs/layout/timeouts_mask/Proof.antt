@@ -16,7 +16,9 @@ shared-slice-read-result : tie.Need-shared-slice-read-result
 shared-slice-read-result c = search needs
 
 returns : tie.Need-returns
-returns c = rw (c .before .masks-at .ensures)
+returns c =
+    let after-masks-at : tie.After-masks-at = search in
+    rw (after-masks-at .masks-at .ensures)
 
 pub timeouts-mask-spec : {M : Type 1} → statement M
 timeouts-mask-spec =

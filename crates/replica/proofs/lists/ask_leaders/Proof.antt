@@ -16,18 +16,29 @@ is-well-formed-requires c κs = search needs
 
 returns-2 : tie.Need-returns-2
 unfolding askLeaders
-returns-2 c = next _ _ (eq-eqb _ _ (c .before .before .if1 .left)) (stop _ _ (failed (c .before .is-well-formed .ensures) (c .if2 .taken)))
+returns-2 c =
+    let after-is-well-formed : tie.After-is-well-formed = search in
+    let else1 : tie.Else1 = search in
+    next _ _ (eq-eqb _ _ (else1 .if1 .left)) (stop _ _ (failed (after-is-well-formed .is-well-formed .ensures) (c .if2 .taken)))
 
 shared-slice-read-if3 : tie.Need-shared-slice-read-if3
 shared-slice-read-if3 c = search needs
 
 returns-3 : tie.Need-returns-3
 unfolding askLeaders
-returns-3 c = next _ _ (eq-eqb _ _ (c .before .before .before .before .if1 .left)) (next _ _ (passed (c .before .before .before .is-well-formed .ensures) (c .before .before .if2 .left)) (stop _ _ (lt-leb _ _ (c .if3 .taken))))
+returns-3 c =
+    let else2 : tie.Else2 = search in
+    let after-is-well-formed : tie.After-is-well-formed = search in
+    let else1 : tie.Else1 = search in
+    next _ _ (eq-eqb _ _ (else1 .if1 .left)) (next _ _ (passed (after-is-well-formed .is-well-formed .ensures) (else2 .if2 .left)) (stop _ _ (lt-leb _ _ (c .if3 .taken))))
 
 returns-4 : tie.Need-returns-4
 unfolding askLeaders
-returns-4 c = next _ _ (eq-eqb _ _ (c .before .before .before .before .if1 .left)) (next _ _ (passed (c .before .before .before .is-well-formed .ensures) (c .before .before .if2 .left)) (next _ _ (le-leb _ _ (c .if3 .left)) done))
+returns-4 c =
+    let else2 : tie.Else2 = search in
+    let after-is-well-formed : tie.After-is-well-formed = search in
+    let else1 : tie.Else1 = search in
+    next _ _ (eq-eqb _ _ (else1 .if1 .left)) (next _ _ (passed (after-is-well-formed .is-well-formed .ensures) (else2 .if2 .left)) (next _ _ (le-leb _ _ (c .if3 .left)) done))
 
 pub ask-leaders-spec : {M : Type 1} → statement M
 ask-leaders-spec =

@@ -13,10 +13,16 @@ is-well-formed-requires : tie.Need-is-well-formed-requires
 is-well-formed-requires c κs = search needs
 
 returns-2 : tie.Need-returns-2
-returns-2 c = next _ _ (eq-eqb _ _ (c .before .before .if1 .left)) (stop _ _ (failed (c .before .is-well-formed .ensures) (c .if2 .taken)))
+returns-2 c =
+    let after-is-well-formed : tie.After-is-well-formed = search in
+    let else1 : tie.Else1 = search in
+    next _ _ (eq-eqb _ _ (else1 .if1 .left)) (stop _ _ (failed (after-is-well-formed .is-well-formed .ensures) (c .if2 .taken)))
 
 returns-3 : tie.Need-returns-3
-returns-3 c = next _ _ (eq-eqb _ _ (c .before .before .if1 .left)) (next _ _ (passed (c .before .is-well-formed .ensures) (c .if2 .left)) done)
+returns-3 c =
+    let after-is-well-formed : tie.After-is-well-formed = search in
+    let else1 : tie.Else1 = search in
+    next _ _ (eq-eqb _ _ (else1 .if1 .left)) (next _ _ (passed (after-is-well-formed .is-well-formed .ensures) (c .if2 .left)) done)
 
 pub check-state-spec : {M : Type 1} → statement M
 check-state-spec = tie.close (tie.spec returns is-well-formed-requires returns-2 returns-3)

@@ -32,13 +32,19 @@ loop-less : tie.Need-loop-less Inv-loop μ-loop
 loop-less c = search needs
 
 loop-again : tie.Need-loop-again Inv-loop μ-loop
-loop-again c = (omega arith, search needs, ap (λ (x : List ℕ). set x (c .before .loop .i) 0) (c .before .loop .inv .2) ∙ fill-more (c .before .loop .i) 0 (c .before .before .args .state .now) (omega arith))
+loop-again c =
+    let at-loop : tie.At-loop Inv-loop μ-loop = search in
+    let start : tie.Start Inv-loop μ-loop = search in
+    (omega arith, search needs, ap (λ (x : List ℕ). set x (at-loop .loop .i) 0) (at-loop .loop .inv .2) ∙ fill-more (at-loop .loop .i) 0 (start .args .state .now) (omega arith))
 
 same-length : tie.Need-same-length Inv-loop μ-loop
 same-length c = search needs
 
 returns : tie.Need-returns Inv-loop μ-loop
-returns c = let e : c .before .loop .i ≡ length (c .before .before .args .state .now) = omega arith in c .before .loop .inv .2 ∙ rw (e, drop-length (c .before .before .args .state .now)) (append-nil _)
+returns c =
+    let at-loop : tie.At-loop Inv-loop μ-loop = search in
+    let start : tie.Start Inv-loop μ-loop = search in
+    let e : at-loop .loop .i ≡ length (start .args .state .now) = omega arith in at-loop .loop .inv .2 ∙ rw (e, drop-length (start .args .state .now)) (append-nil _)
 
 pub clear-spec : {M : Type 1} → statement M
 clear-spec =

@@ -18,7 +18,12 @@ slice-aggregate-result : tie.Need-slice-aggregate-result
 slice-aggregate-result c = search needs
 
 returns : tie.Need-returns
-returns c = sym (journal-none (c .before .before .before .before .before .args .state .now) (c .before .before .before .before .before .args .k) (rw (c .before .before .number .ensures, c .before .before .before .ask-journal .ensures) at (c .before .if1 .taken)))
+returns c =
+    let then1 : tie.Then1 = search in
+    let after-number : tie.After-number = search in
+    let after-ask-journal : tie.After-ask-journal = search in
+    let start : tie.Start = search in
+    sym (journal-none (start .args .state .now) (start .args .k) (rw (after-number .number .ensures, after-ask-journal .ask-journal .ensures) at (then1 .if1 .taken)))
 
 wide-requires : tie.Need-wide-requires
 wide-requires c κs = search needs
@@ -27,30 +32,64 @@ add-start : tie.Need-add-start
 add-start c = search needs
 
 shared-slice-read-wide : tie.Need-shared-slice-read-wide
-shared-slice-read-wide c = let a = journal-asked (c .before .before .before .before .before .before .args .state .now) (c .before .before .before .before .before .before .args .k) (rw (c .before .before .before .number .ensures, c .before .before .before .before .ask-journal .ensures) at (c .before .before .if1 .left)) in omega (arith, a .0)
+shared-slice-read-wide c =
+    let else1 : tie.Else1 = search in
+    let after-number : tie.After-number = search in
+    let after-ask-journal : tie.After-ask-journal = search in
+    let start : tie.Start = search in
+    let a = journal-asked (start .args .state .now) (start .args .k) (rw (after-number .number .ensures, after-ask-journal .ask-journal .ensures) at (else1 .if1 .left)) in omega (arith, a .0)
 
 wide-requires-2 : tie.Need-wide-requires-2
 wide-requires-2 c κs = search needs
 
 add-end : tie.Need-add-end
-add-end c = let a = journal-asked (c .before .before .before .before .before .before .before .args .state .now) (c .before .before .before .before .before .before .before .args .k) (rw (c .before .before .before .before .number .ensures, c .before .before .before .before .before .ask-journal .ensures) at (c .before .before .before .if1 .left)) in let n = counts (c .before .before .before .before .before .before .before .args .state .now) (a .1) in omega (arith, c .wide2 .ensures, n .1)
+add-end c =
+    let else1 : tie.Else1 = search in
+    let after-number : tie.After-number = search in
+    let after-ask-journal : tie.After-ask-journal = search in
+    let start : tie.Start = search in
+    let a = journal-asked (start .args .state .now) (start .args .k) (rw (after-number .number .ensures, after-ask-journal .ask-journal .ensures) at (else1 .if1 .left)) in let n = counts (start .args .state .now) (a .1) in omega (arith, c .wide2 .ensures, n .1)
 
 mul-result : tie.Need-mul-result
 mul-result c = search needs
 
 sub-result : tie.Need-sub-result
-sub-result c = let a = journal-asked (c .before .before .before .before .before .before .before .args .state .now) (c .before .before .before .before .before .before .before .args .k) (rw (c .before .before .before .before .number .ensures, c .before .before .before .before .before .ask-journal .ensures) at (c .before .before .before .if1 .left)) in omega (arith, c .wide2 .ensures, c .before .before .wide .ensures, a .2)
+sub-result c =
+    let after-wide : tie.After-wide = search in
+    let else1 : tie.Else1 = search in
+    let after-number : tie.After-number = search in
+    let after-ask-journal : tie.After-ask-journal = search in
+    let start : tie.Start = search in
+    let a = journal-asked (start .args .state .now) (start .args .k) (rw (after-number .number .ensures, after-ask-journal .ask-journal .ensures) at (else1 .if1 .left)) in omega (arith, c .wide2 .ensures, after-wide .wide .ensures, a .2)
 
 part-result-start : tie.Need-part-result-start
-part-result-start c = let a = journal-asked (c .before .before .before .before .before .before .before .args .state .now) (c .before .before .before .before .before .before .before .args .k) (rw (c .before .before .before .before .number .ensures, c .before .before .before .before .before .ask-journal .ensures) at (c .before .before .before .if1 .left)) in omega (arith, c .wide2 .ensures, c .before .before .wide .ensures, a .2)
+part-result-start c =
+    let after-wide : tie.After-wide = search in
+    let else1 : tie.Else1 = search in
+    let after-number : tie.After-number = search in
+    let after-ask-journal : tie.After-ask-journal = search in
+    let start : tie.Start = search in
+    let a = journal-asked (start .args .state .now) (start .args .k) (rw (after-number .number .ensures, after-ask-journal .ask-journal .ensures) at (else1 .if1 .left)) in omega (arith, c .wide2 .ensures, after-wide .wide .ensures, a .2)
 
 part-result-end : tie.Need-part-result-end
-part-result-end c = let a = journal-asked (c .before .before .before .before .before .before .before .args .state .now) (c .before .before .before .before .before .before .before .args .k) (rw (c .before .before .before .before .number .ensures, c .before .before .before .before .before .ask-journal .ensures) at (c .before .before .before .if1 .left)) in let n = counts (c .before .before .before .before .before .before .before .args .state .now) (a .1) in omega (arith, c .wide2 .ensures, n .1, a .0)
+part-result-end c =
+    let else1 : tie.Else1 = search in
+    let after-number : tie.After-number = search in
+    let after-ask-journal : tie.After-ask-journal = search in
+    let start : tie.Start = search in
+    let a = journal-asked (start .args .state .now) (start .args .k) (rw (after-number .number .ensures, after-ask-journal .ask-journal .ensures) at (else1 .if1 .left)) in let n = counts (start .args .state .now) (a .1) in omega (arith, c .wide2 .ensures, n .1, a .0)
 
 returns-2 : tie.Need-returns-2
-returns-2 c = let z = rw (c .before .before .before .before .before .number .ensures, c .before .before .before .before .before .before .ask-journal .ensures) at (c .before .before .before .before .if1 .left) in let a = journal-asked (c .before .before .before .before .before .before .before .before .args .state .now) (c .before .before .before .before .before .before .before .before .args .k) z in let n = counts (c .before .before .before .before .before .before .before .before .args .state .now) (a .1) in
-    hand-part (c .before .before .before .before .before .before .before .before .args .state .now) 232 (c .before .before .before .before .before .before .before .before .args .k) _ (232 + c .before .before .before .wide .result) (232 + c .before .wide2 .result) (a .2) (omega (arith, n .1, a .0)) (ap (λ (x : ℕ). 232 + x) (c .before .before .before .wide .ensures)) (ap (λ (x : ℕ). 232 + x) (c .before .wide2 .ensures))
-    ∙ sym (journal-some (c .before .before .before .before .before .before .before .before .args .state .now) (c .before .before .before .before .before .before .before .before .args .k) z)
+returns-2 c =
+    let after-wide2 : tie.After-wide2 = search in
+    let after-wide : tie.After-wide = search in
+    let else1 : tie.Else1 = search in
+    let after-number : tie.After-number = search in
+    let after-ask-journal : tie.After-ask-journal = search in
+    let start : tie.Start = search in
+    let z = rw (after-number .number .ensures, after-ask-journal .ask-journal .ensures) at (else1 .if1 .left) in let a = journal-asked (start .args .state .now) (start .args .k) z in let n = counts (start .args .state .now) (a .1) in
+    hand-part (start .args .state .now) 232 (start .args .k) _ (232 + after-wide .wide .result) (232 + after-wide2 .wide2 .result) (a .2) (omega (arith, n .1, a .0)) (ap (λ (x : ℕ). 232 + x) (after-wide .wide .ensures)) (ap (λ (x : ℕ). 232 + x) (after-wide2 .wide2 .ensures))
+    ∙ sym (journal-some (start .args .state .now) (start .args .k) z)
 
 pub hand-journal-spec : {M : Type 1} → statement M
 hand-journal-spec =

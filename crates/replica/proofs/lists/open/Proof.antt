@@ -12,7 +12,10 @@ refuse-requires : tie.Need-refuse-requires
 refuse-requires c κs = search needs
 
 returns : tie.Need-returns
-returns c = open-refused (c .before .before .before .args .state .now) (c .before .before .before .args .n) _ _ (c .refuse .ensures) (stop _ _ (ne-eqb _ _ (c .before .if1 .taken))) (eqb-false 1 0 refl)
+returns c =
+    let then1 : tie.Then1 = search in
+    let start : tie.Start = search in
+    open-refused (start .args .state .now) (start .args .n) _ _ (c .refuse .ensures) (stop _ _ (ne-eqb _ _ (then1 .if1 .taken))) (eqb-false 1 0 refl)
 
 is-legal-requires : tie.Need-is-legal-requires
 is-legal-requires c κs = search needs
@@ -21,7 +24,12 @@ refuse-requires-2 : tie.Need-refuse-requires-2
 refuse-requires-2 c κs = search needs
 
 returns-2 : tie.Need-returns-2
-returns-2 c = open-refused (c .before .before .before .before .before .args .state .now) (c .before .before .before .before .before .args .n) _ _ (c .refuse2 .ensures) (next _ _ (eq-eqb _ _ (c .before .before .before .if1 .left)) (stop _ _ (failed (c .before .before .is-legal .ensures) (c .before .if2 .taken)))) (eqb-false 2 0 refl)
+returns-2 c =
+    let then2 : tie.Then2 = search in
+    let after-is-legal : tie.After-is-legal = search in
+    let else1 : tie.Else1 = search in
+    let start : tie.Start = search in
+    open-refused (start .args .state .now) (start .args .n) _ _ (c .refuse2 .ensures) (next _ _ (eq-eqb _ _ (else1 .if1 .left)) (stop _ _ (failed (after-is-legal .is-legal .ensures) (then2 .if2 .taken)))) (eqb-false 2 0 refl)
 
 clear-requires : tie.Need-clear-requires
 clear-requires c κs = search needs
@@ -36,7 +44,13 @@ same-length : tie.Need-same-length
 same-length c = search needs
 
 returns-3 : tie.Need-returns-3
-returns-3 c = open-done (c .before .before .before .before .before .before .before .before .args .state .now) _ (c .before .before .before .before .before .before .before .before .args .n) (open-words _ (c .before .before .before .before .before .before .before .before .args .n) _ (c .before .before .clear .ensures) (c .before .before .before .before .before .before .if1 .left)) (next _ _ (eq-eqb _ _ (c .before .before .before .before .before .before .if1 .left)) (next _ _ (passed (c .before .before .before .before .before .is-legal .ensures) (c .before .before .before .before .if2 .left)) done))
+returns-3 c =
+    let after-clear : tie.After-clear = search in
+    let else2 : tie.Else2 = search in
+    let after-is-legal : tie.After-is-legal = search in
+    let else1 : tie.Else1 = search in
+    let start : tie.Start = search in
+    open-done (start .args .state .now) _ (start .args .n) (open-words _ (start .args .n) _ (after-clear .clear .ensures) (else1 .if1 .left)) (next _ _ (eq-eqb _ _ (else1 .if1 .left)) (next _ _ (passed (after-is-legal .is-legal .ensures) (else2 .if2 .left)) done))
 
 pub open-spec : {M : Type 1} → statement M
 open-spec =

@@ -12,22 +12,51 @@ number-requires : tie.Need-number-requires
 number-requires c κs = search needs
 
 returns : tie.Need-returns
-returns c = head-refused (c .before .before .before .before .args .state .now) _ (c .before .before .check-state .ensures) (rw (c .before .number .ensures) at (c .if1 .taken))
+returns c =
+    let after-number : tie.After-number = search in
+    let after-check-state : tie.After-check-state = search in
+    let start : tie.Start = search in
+    head-refused (start .args .state .now) _ (after-check-state .check-state .ensures) (rw (after-number .number .ensures) at (c .if1 .taken))
 
 shared-slice-read-t3 : tie.Need-shared-slice-read-t3
-shared-slice-read-t3 c = let e = state-ok (c .before .before .before .before .before .args .state .now) (rw (c .before .before .number .ensures, c .before .before .before .check-state .ensures) at (c .before .if1 .left)) in omega (arith, e .0)
+shared-slice-read-t3 c =
+    let else1 : tie.Else1 = search in
+    let after-number : tie.After-number = search in
+    let after-check-state : tie.After-check-state = search in
+    let start : tie.Start = search in
+    let e = state-ok (start .args .state .now) (rw (after-number .number .ensures, after-check-state .check-state .ensures) at (else1 .if1 .left)) in omega (arith, e .0)
 
 shared-slice-read-t7 : tie.Need-shared-slice-read-t7
-shared-slice-read-t7 c = let e = state-ok (c .before .before .before .before .before .before .args .state .now) (rw (c .before .before .before .number .ensures, c .before .before .before .before .check-state .ensures) at (c .before .before .if1 .left)) in omega (arith, e .0)
+shared-slice-read-t7 c =
+    let else1 : tie.Else1 = search in
+    let after-number : tie.After-number = search in
+    let after-check-state : tie.After-check-state = search in
+    let start : tie.Start = search in
+    let e = state-ok (start .args .state .now) (rw (after-number .number .ensures, after-check-state .check-state .ensures) at (else1 .if1 .left)) in omega (arith, e .0)
 
 shared-slice-read-t9 : tie.Need-shared-slice-read-t9
-shared-slice-read-t9 c = let e = state-ok (c .before .before .before .before .before .before .before .args .state .now) (rw (c .before .before .before .before .number .ensures, c .before .before .before .before .before .check-state .ensures) at (c .before .before .before .if1 .left)) in omega (arith, e .0)
+shared-slice-read-t9 c =
+    let else1 : tie.Else1 = search in
+    let after-number : tie.After-number = search in
+    let after-check-state : tie.After-check-state = search in
+    let start : tie.Start = search in
+    let e = state-ok (start .args .state .now) (rw (after-number .number .ensures, after-check-state .check-state .ensures) at (else1 .if1 .left)) in omega (arith, e .0)
 
 shared-slice-read-t11 : tie.Need-shared-slice-read-t11
-shared-slice-read-t11 c = let e = state-ok (c .before .before .before .before .before .before .before .before .args .state .now) (rw (c .before .before .before .before .before .number .ensures, c .before .before .before .before .before .before .check-state .ensures) at (c .before .before .before .before .if1 .left)) in omega (arith, e .0)
+shared-slice-read-t11 c =
+    let else1 : tie.Else1 = search in
+    let after-number : tie.After-number = search in
+    let after-check-state : tie.After-check-state = search in
+    let start : tie.Start = search in
+    let e = state-ok (start .args .state .now) (rw (after-number .number .ensures, after-check-state .check-state .ensures) at (else1 .if1 .left)) in omega (arith, e .0)
 
 returns-2 : tie.Need-returns-2
-returns-2 c = head-done (c .before .before .before .before .before .before .before .before .args .state .now) _ (c .before .before .before .before .before .before .check-state .ensures) (rw (c .before .before .before .before .before .number .ensures) at (c .before .before .before .before .if1 .left))
+returns-2 c =
+    let else1 : tie.Else1 = search in
+    let after-number : tie.After-number = search in
+    let after-check-state : tie.After-check-state = search in
+    let start : tie.Start = search in
+    head-done (start .args .state .now) _ (after-check-state .check-state .ensures) (rw (after-number .number .ensures) at (else1 .if1 .left))
 
 pub status-spec : {M : Type 1} → statement M
 status-spec =

@@ -38,7 +38,12 @@ ordered-mask-requires : tie.Need-ordered-mask-requires Inv-loop μ-loop
 ordered-mask-requires c κs = search needs
 
 returns : tie.Need-returns Inv-loop μ-loop
-returns c = sym (all-stop 32 (λ k. eqb (getD (c .before .before .before .before .before .before .args .t2) k 0) (orderedMask (c .before .before .before .before .before .before .args .state .now) (k + 1))) (c .before .before .before .before .loop .i) (omega arith) (ne-eqb _ _ (rw (c .before .ordered-mask .ensures, c .before .before .wide .ensures) at (c .if1 .taken))))
+returns c =
+    let after-ordered-mask : tie.After-ordered-mask Inv-loop μ-loop = search in
+    let after-wide : tie.After-wide Inv-loop μ-loop = search in
+    let at-loop : tie.At-loop Inv-loop μ-loop = search in
+    let start : tie.Start Inv-loop μ-loop = search in
+    sym (all-stop 32 (λ k. eqb (getD (start .args .t2) k 0) (orderedMask (start .args .state .now) (k + 1))) (at-loop .loop .i) (omega arith) (ne-eqb _ _ (rw (after-ordered-mask .ordered-mask .ensures, after-wide .wide .ensures) at (c .if1 .taken))))
 
 add-i : tie.Need-add-i Inv-loop μ-loop
 add-i c = search needs
@@ -47,10 +52,16 @@ loop-less : tie.Need-loop-less Inv-loop μ-loop
 loop-less c = search needs
 
 loop-again : tie.Need-loop-again Inv-loop μ-loop
-loop-again c = (omega arith, all-more _ _ (c .before .before .before .before .loop .inv .1) (eq-eqb _ _ (rw (c .before .ordered-mask .ensures, c .before .before .wide .ensures) at (c .if1 .left))))
+loop-again c =
+    let after-ordered-mask : tie.After-ordered-mask Inv-loop μ-loop = search in
+    let after-wide : tie.After-wide Inv-loop μ-loop = search in
+    let at-loop : tie.At-loop Inv-loop μ-loop = search in
+    (omega arith, all-more _ _ (at-loop .loop .inv .1) (eq-eqb _ _ (rw (after-ordered-mask .ordered-mask .ensures, after-wide .wide .ensures) at (c .if1 .left))))
 
 returns-2 : tie.Need-returns-2 Inv-loop μ-loop
-returns-2 c = let e : c .before .loop .i ≡ 32 = omega arith in sym (rw e at (c .before .loop .inv .1))
+returns-2 c =
+    let at-loop : tie.At-loop Inv-loop μ-loop = search in
+    let e : at-loop .loop .i ≡ 32 = omega arith in sym (rw e at (at-loop .loop .inv .1))
 
 pub all-marked-spec : {M : Type 1} → statement M
 all-marked-spec =

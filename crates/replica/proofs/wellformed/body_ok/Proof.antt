@@ -10,31 +10,64 @@ masks-within-requires : tie.Need-masks-within-requires
 masks-within-requires c κs = search needs
 
 returns : tie.Need-returns
-returns c = simp (failed (c .before .masks-within .ensures) (c .if1 .taken))
+returns c =
+    let after-masks-within : tie.After-masks-within = search in
+    simp (failed (after-masks-within .masks-within .ensures) (c .if1 .taken))
 
 votes-heard-requires : tie.Need-votes-heard-requires
 votes-heard-requires c κs = search needs
 
 returns-2 : tie.Need-returns-2
-returns-2 c = simp (passed (c .before .before .before .masks-within .ensures) (c .before .before .if1 .left), failed (c .before .votes-heard .ensures) (c .if2 .taken))
+returns-2 c =
+    let after-votes-heard : tie.After-votes-heard = search in
+    let else1 : tie.Else1 = search in
+    let after-masks-within : tie.After-masks-within = search in
+    simp (passed (after-masks-within .masks-within .ensures) (else1 .if1 .left), failed (after-votes-heard .votes-heard .ensures) (c .if2 .taken))
 
 votes-mask-requires : tie.Need-votes-mask-requires
 votes-mask-requires c κs = search needs
 
 returns-3 : tie.Need-returns-3
-returns-3 c = simp (passed (c .before .before .before .before .before .masks-within .ensures) (c .before .before .before .before .if1 .left), passed (c .before .before .before .votes-heard .ensures) (c .before .before .if2 .left), ne-eqb _ _ (rw (c .before .votes-mask .ensures) at (c .if3 .taken)))
+returns-3 c =
+    let after-votes-mask : tie.After-votes-mask = search in
+    let else2 : tie.Else2 = search in
+    let after-votes-heard : tie.After-votes-heard = search in
+    let else1 : tie.Else1 = search in
+    let after-masks-within : tie.After-masks-within = search in
+    simp (passed (after-masks-within .masks-within .ensures) (else1 .if1 .left), passed (after-votes-heard .votes-heard .ensures) (else2 .if2 .left), ne-eqb _ _ (rw (after-votes-mask .votes-mask .ensures) at (c .if3 .taken)))
 
 cells-ok-requires : tie.Need-cells-ok-requires
-cells-ok-requires c κs = (c .before .before .before .before .before .before .before .pre .0, c .before .before .before .before .before .before .before .pre .1, passed (c .before .before .before .before .before .masks-within .ensures) (c .before .before .before .before .if1 .left))
+cells-ok-requires c κs =
+    let else1 : tie.Else1 = search in
+    let after-masks-within : tie.After-masks-within = search in
+    let start : tie.Start = search in
+    (start .pre .0, start .pre .1, passed (after-masks-within .masks-within .ensures) (else1 .if1 .left))
 
 returns-4 : tie.Need-returns-4
-returns-4 c = simp (passed (c .before .before .before .before .before .before .before .masks-within .ensures) (c .before .before .before .before .before .before .if1 .left), passed (c .before .before .before .before .before .votes-heard .ensures) (c .before .before .before .before .if2 .left), eq-eqb _ _ (rw (c .before .before .before .votes-mask .ensures) at (c .before .before .if3 .left)), failed (c .before .cells-ok .ensures) (c .if4 .taken), and-false)
+returns-4 c =
+    let after-cells-ok : tie.After-cells-ok = search in
+    let else3 : tie.Else3 = search in
+    let after-votes-mask : tie.After-votes-mask = search in
+    let else2 : tie.Else2 = search in
+    let after-votes-heard : tie.After-votes-heard = search in
+    let else1 : tie.Else1 = search in
+    let after-masks-within : tie.After-masks-within = search in
+    simp (passed (after-masks-within .masks-within .ensures) (else1 .if1 .left), passed (after-votes-heard .votes-heard .ensures) (else2 .if2 .left), eq-eqb _ _ (rw (after-votes-mask .votes-mask .ensures) at (else3 .if3 .left)), failed (after-cells-ok .cells-ok .ensures) (c .if4 .taken), and-false)
 
 ordered-held-requires : tie.Need-ordered-held-requires
 ordered-held-requires c κs = search needs
 
 returns-5 : tie.Need-returns-5
-returns-5 c = simp (passed (c .before .before .before .before .before .before .before .before .masks-within .ensures) (c .before .before .before .before .before .before .before .if1 .left), passed (c .before .before .before .before .before .before .votes-heard .ensures) (c .before .before .before .before .before .if2 .left), eq-eqb _ _ (rw (c .before .before .before .before .votes-mask .ensures) at (c .before .before .before .if3 .left)), passed (c .before .before .cells-ok .ensures) (c .before .if4 .left), and-true) (c .ordered-held .ensures)
+returns-5 c =
+    let else4 : tie.Else4 = search in
+    let after-cells-ok : tie.After-cells-ok = search in
+    let else3 : tie.Else3 = search in
+    let after-votes-mask : tie.After-votes-mask = search in
+    let else2 : tie.Else2 = search in
+    let after-votes-heard : tie.After-votes-heard = search in
+    let else1 : tie.Else1 = search in
+    let after-masks-within : tie.After-masks-within = search in
+    simp (passed (after-masks-within .masks-within .ensures) (else1 .if1 .left), passed (after-votes-heard .votes-heard .ensures) (else2 .if2 .left), eq-eqb _ _ (rw (after-votes-mask .votes-mask .ensures) at (else3 .if3 .left)), passed (after-cells-ok .cells-ok .ensures) (else4 .if4 .left), and-true) (c .ordered-held .ensures)
 
 pub body-ok-spec : {M : Type 1} → statement M
 body-ok-spec =

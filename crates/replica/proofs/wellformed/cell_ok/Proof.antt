@@ -41,7 +41,13 @@ is-zero-requires : tie.Need-is-zero-requires
 is-zero-requires c κs = search needs
 
 returns : tie.Need-returns
-returns c = c .is-zero .ensures ∙ cell-zero (c .before .before .before .before .before .before .before .args .state .now) (c .before .before .before .before .before .before .before .args .round) (c .before .before .before .before .before .before .before .args .member) _ (c .before .before .before .before .before .cell-at .ensures) (omega arith) (failed (rw (c .before .before .before .before .held-mask .ensures) at (c .before .before .before .has .ensures)) (c .before .before .if1 .taken))
+returns c =
+    let then1 : tie.Then1 = search in
+    let after-has : tie.After-has = search in
+    let after-held-mask : tie.After-held-mask = search in
+    let after-cell-at : tie.After-cell-at = search in
+    let start : tie.Start = search in
+    c .is-zero .ensures ∙ cell-zero (start .args .state .now) (start .args .round) (start .args .member) _ (after-cell-at .cell-at .ensures) (omega arith) (failed (rw (after-held-mask .held-mask .ensures) at (after-has .has .ensures)) (then1 .if1 .taken))
 
 mul-record-ok : tie.Need-mul-record-ok
 mul-record-ok c = search needs
@@ -56,19 +62,30 @@ part-record-ok-end : tie.Need-part-record-ok-end
 part-record-ok-end c = search needs
 
 record-ok-requires : tie.Need-record-ok-requires
-record-ok-requires c κs = (
-  c .before .before .before .before .before .before .pre .0,
-  c .before .before .before .before .before .before .pre .1,
-  c .before .before .before .before .before .before .pre .2,
-  c .before .before .before .before .before .before .pre .3,
-  c .before .before .before .before .before .before .pre .4,
-  c .before .before .before .before .before .before .pre .5,
-  has-bound _ _ _ (masks-small (c .before .before .before .before .before .before .args .state .now) (c .before .before .before .before .before .before .args .round) (round-elim (masksWithin (c .before .before .before .before .before .before .args .state .now)) (c .before .before .before .before .before .before .pre .3) (c .before .before .before .before .before .before .args .round) (c .before .before .before .before .before .before .pre .4) (c .before .before .before .before .before .before .pre .5)) .held) (passed (rw (c .before .before .before .held-mask .ensures) at (c .before .before .has .ensures)) (c .before .if1 .left)),
-  ap length (cell-part (c .before .before .before .before .before .before .args .state .now) _ (cellAt (c .before .before .before .before .before .before .args .round) (c .before .before .before .before .before .before .args .member)) (c .before .before .before .before .cell-at .ensures)) ∙ length-take-le 10 (drop (cellAt (c .before .before .before .before .before .before .args .round) (c .before .before .before .before .before .before .args .member)) (c .before .before .before .before .before .before .args .state .now)) (omega (arith, length-drop (cellAt (c .before .before .before .before .before .before .args .round) (c .before .before .before .before .before .before .args .member)) (c .before .before .before .before .before .before .args .state .now))),
-)
+record-ok-requires c κs =
+    let else1 : tie.Else1 = search in
+    let after-has : tie.After-has = search in
+    let after-held-mask : tie.After-held-mask = search in
+    let after-cell-at : tie.After-cell-at = search in
+    let start : tie.Start = search in (
+      start .pre .0,
+      start .pre .1,
+      start .pre .2,
+      start .pre .3,
+      start .pre .4,
+      start .pre .5,
+      has-bound _ _ _ (masks-small (start .args .state .now) (start .args .round) (round-elim (masksWithin (start .args .state .now)) (start .pre .3) (start .args .round) (start .pre .4) (start .pre .5)) .held) (passed (rw (after-held-mask .held-mask .ensures) at (after-has .has .ensures)) (else1 .if1 .left)),
+      ap length (cell-part (start .args .state .now) _ (cellAt (start .args .round) (start .args .member)) (after-cell-at .cell-at .ensures)) ∙ length-take-le 10 (drop (cellAt (start .args .round) (start .args .member)) (start .args .state .now)) (omega (arith, length-drop (cellAt (start .args .round) (start .args .member)) (start .args .state .now))),
+    )
 
 returns-2 : tie.Need-returns-2
-returns-2 c = c .record-ok .ensures ∙ cell-held (c .before .before .before .before .before .before .before .args .state .now) (c .before .before .before .before .before .before .before .args .round) (c .before .before .before .before .before .before .before .args .member) _ (passed (rw (c .before .before .before .before .held-mask .ensures) at (c .before .before .before .has .ensures)) (c .before .before .if1 .left)) (cell-part (c .before .before .before .before .before .before .before .args .state .now) _ _ (c .before .before .before .before .before .cell-at .ensures))
+returns-2 c =
+    let else1 : tie.Else1 = search in
+    let after-has : tie.After-has = search in
+    let after-held-mask : tie.After-held-mask = search in
+    let after-cell-at : tie.After-cell-at = search in
+    let start : tie.Start = search in
+    c .record-ok .ensures ∙ cell-held (start .args .state .now) (start .args .round) (start .args .member) _ (passed (rw (after-held-mask .held-mask .ensures) at (after-has .has .ensures)) (else1 .if1 .left)) (cell-part (start .args .state .now) _ _ (after-cell-at .cell-at .ensures))
 
 pub cell-ok-spec : {M : Type 1} → statement M
 cell-ok-spec =

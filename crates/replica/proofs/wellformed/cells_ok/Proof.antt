@@ -24,10 +24,16 @@ add-round-cells-ok : tie.Need-add-round-cells-ok Inv-loop μ-loop
 add-round-cells-ok c = search needs
 
 round-cells-ok-requires : tie.Need-round-cells-ok-requires Inv-loop μ-loop
-round-cells-ok-requires c κs = (c .before .before .before .pre .0, c .before .before .before .pre .1, c .before .before .before .pre .2, omega arith, omega arith)
+round-cells-ok-requires c κs =
+    let start : tie.Start Inv-loop μ-loop = search in
+    (start .pre .0, start .pre .1, start .pre .2, omega arith, omega arith)
 
 returns : tie.Need-returns Inv-loop μ-loop
-returns c = sym (all-stop 32 (λ k. all 16 (cellOk (c .before .before .before .before .before .args .state .now) (k + 1))) (c .before .before .before .loop .i) (omega arith) (failed (c .before .round-cells-ok .ensures) (c .if1 .taken)))
+returns c =
+    let after-round-cells-ok : tie.After-round-cells-ok Inv-loop μ-loop = search in
+    let at-loop : tie.At-loop Inv-loop μ-loop = search in
+    let start : tie.Start Inv-loop μ-loop = search in
+    sym (all-stop 32 (λ k. all 16 (cellOk (start .args .state .now) (k + 1))) (at-loop .loop .i) (omega arith) (failed (after-round-cells-ok .round-cells-ok .ensures) (c .if1 .taken)))
 
 add-i : tie.Need-add-i Inv-loop μ-loop
 add-i c = search needs
@@ -36,10 +42,15 @@ loop-less : tie.Need-loop-less Inv-loop μ-loop
 loop-less c = search needs
 
 loop-again : tie.Need-loop-again Inv-loop μ-loop
-loop-again c = (omega arith, all-more _ _ (c .before .before .before .loop .inv .1) (passed (c .before .round-cells-ok .ensures) (c .if1 .left)))
+loop-again c =
+    let after-round-cells-ok : tie.After-round-cells-ok Inv-loop μ-loop = search in
+    let at-loop : tie.At-loop Inv-loop μ-loop = search in
+    (omega arith, all-more _ _ (at-loop .loop .inv .1) (passed (after-round-cells-ok .round-cells-ok .ensures) (c .if1 .left)))
 
 returns-2 : tie.Need-returns-2 Inv-loop μ-loop
-returns-2 c = let e : c .before .loop .i ≡ 32 = omega arith in sym (rw e at (c .before .loop .inv .1))
+returns-2 c =
+    let at-loop : tie.At-loop Inv-loop μ-loop = search in
+    let e : at-loop .loop .i ≡ 32 = omega arith in sym (rw e at (at-loop .loop .inv .1))
 
 pub cells-ok-spec : {M : Type 1} → statement M
 cells-ok-spec =

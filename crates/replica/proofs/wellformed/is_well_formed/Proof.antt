@@ -10,31 +10,66 @@ head-ok-requires : tie.Need-head-ok-requires
 head-ok-requires c κs = search needs
 
 returns : tie.Need-returns
-returns c = sym (head-no _ (failed (c .before .head-ok .ensures) (c .if1 .taken)))
+returns c =
+    let after-head-ok : tie.After-head-ok = search in
+    sym (head-no _ (failed (after-head-ok .head-ok .ensures) (c .if1 .taken)))
 
 body-ok-requires : tie.Need-body-ok-requires
-body-ok-requires c κs = (c .before .before .before .pre, head-legal (c .before .before .before .args .state .now) (passed (c .before .head-ok .ensures) (c .if1 .left)))
+body-ok-requires c κs =
+    let after-head-ok : tie.After-head-ok = search in
+    let start : tie.Start = search in
+    (start .pre, head-legal (start .args .state .now) (passed (after-head-ok .head-ok .ensures) (c .if1 .left)))
 
 returns-2 : tie.Need-returns-2
-returns-2 c = sym (body-no _ (failed (c .before .body-ok .ensures) (c .if2 .taken)))
+returns-2 c =
+    let after-body-ok : tie.After-body-ok = search in
+    sym (body-no _ (failed (after-body-ok .body-ok .ensures) (c .if2 .taken)))
 
 leaders-ok-requires : tie.Need-leaders-ok-requires
-leaders-ok-requires c κs = (c .before .before .before .before .before .pre, head-legal (c .before .before .before .before .before .args .state .now) (passed (c .before .before .before .head-ok .ensures) (c .before .before .if1 .left)))
+leaders-ok-requires c κs =
+    let else1 : tie.Else1 = search in
+    let after-head-ok : tie.After-head-ok = search in
+    let start : tie.Start = search in
+    (start .pre, head-legal (start .args .state .now) (passed (after-head-ok .head-ok .ensures) (else1 .if1 .left)))
 
 returns-3 : tie.Need-returns-3
-returns-3 c = sym (leaders-no _ (failed (c .before .leaders-ok .ensures) (c .if3 .taken)))
+returns-3 c =
+    let after-leaders-ok : tie.After-leaders-ok = search in
+    sym (leaders-no _ (failed (after-leaders-ok .leaders-ok .ensures) (c .if3 .taken)))
 
 journal-ok-requires : tie.Need-journal-ok-requires
-journal-ok-requires c κs = (c .before .before .before .before .before .before .before .pre, head-legal (c .before .before .before .before .before .before .before .args .state .now) (passed (c .before .before .before .before .before .head-ok .ensures) (c .before .before .before .before .if1 .left)), body-masks (c .before .before .before .before .before .before .before .args .state .now) (passed (c .before .before .before .body-ok .ensures) (c .before .before .if2 .left)))
+journal-ok-requires c κs =
+    let else2 : tie.Else2 = search in
+    let after-body-ok : tie.After-body-ok = search in
+    let else1 : tie.Else1 = search in
+    let after-head-ok : tie.After-head-ok = search in
+    let start : tie.Start = search in
+    (start .pre, head-legal (start .args .state .now) (passed (after-head-ok .head-ok .ensures) (else1 .if1 .left)), body-masks (start .args .state .now) (passed (after-body-ok .body-ok .ensures) (else2 .if2 .left)))
 
 returns-4 : tie.Need-returns-4
-returns-4 c = sym (journal-no _ (failed (c .before .journal-ok .ensures) (c .if4 .taken)))
+returns-4 c =
+    let after-journal-ok : tie.After-journal-ok = search in
+    sym (journal-no _ (failed (after-journal-ok .journal-ok .ensures) (c .if4 .taken)))
 
 rest-zero-requires : tie.Need-rest-zero-requires
-rest-zero-requires c κs = (c .before .before .before .before .before .before .before .before .before .pre, leaders-few _ (passed (c .before .before .before .leaders-ok .ensures) (c .before .before .if3 .left)), journal-few _ (passed (c .before .journal-ok .ensures) (c .if4 .left)))
+rest-zero-requires c κs =
+    let after-journal-ok : tie.After-journal-ok = search in
+    let else3 : tie.Else3 = search in
+    let after-leaders-ok : tie.After-leaders-ok = search in
+    let start : tie.Start = search in
+    (start .pre, leaders-few _ (passed (after-leaders-ok .leaders-ok .ensures) (else3 .if3 .left)), journal-few _ (passed (after-journal-ok .journal-ok .ensures) (c .if4 .left)))
 
 returns-5 : tie.Need-returns-5
-returns-5 c = c .rest-zero .ensures ∙ sym (rest-decides _ (passed (c .before .before .before .before .before .before .before .before .head-ok .ensures) (c .before .before .before .before .before .before .before .if1 .left)) (passed (c .before .before .before .before .before .before .body-ok .ensures) (c .before .before .before .before .before .if2 .left)) (passed (c .before .before .before .before .leaders-ok .ensures) (c .before .before .before .if3 .left)) (passed (c .before .before .journal-ok .ensures) (c .before .if4 .left)))
+returns-5 c =
+    let else4 : tie.Else4 = search in
+    let after-journal-ok : tie.After-journal-ok = search in
+    let else3 : tie.Else3 = search in
+    let after-leaders-ok : tie.After-leaders-ok = search in
+    let else2 : tie.Else2 = search in
+    let after-body-ok : tie.After-body-ok = search in
+    let else1 : tie.Else1 = search in
+    let after-head-ok : tie.After-head-ok = search in
+    c .rest-zero .ensures ∙ sym (rest-decides _ (passed (after-head-ok .head-ok .ensures) (else1 .if1 .left)) (passed (after-body-ok .body-ok .ensures) (else2 .if2 .left)) (passed (after-leaders-ok .leaders-ok .ensures) (else3 .if3 .left)) (passed (after-journal-ok .journal-ok .ensures) (else4 .if4 .left)))
 
 pub is-well-formed-spec : {M : Type 1} → statement M
 is-well-formed-spec =

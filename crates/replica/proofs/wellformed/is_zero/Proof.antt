@@ -33,10 +33,16 @@ loop-less : tie.Need-loop-less Inv-loop μ-loop
 loop-less c = search needs
 
 loop-again : tie.Need-loop-again Inv-loop μ-loop
-loop-again c = (omega arith, zero-more (c .before .before .before .args .part .now) (c .before .before .loop .joined) (c .before .before .loop .i) (c .before .before .loop .inv .1))
+loop-again c =
+    let at-loop : tie.At-loop Inv-loop μ-loop = search in
+    let start : tie.Start Inv-loop μ-loop = search in
+    (omega arith, zero-more (start .args .part .now) (at-loop .loop .joined) (at-loop .loop .i) (at-loop .loop .inv .1))
 
 returns : tie.Need-returns Inv-loop μ-loop
-returns c = let e : c .before .loop .i ≡ length (c .before .before .args .part .now) = omega arith in rw e at (c .before .loop .inv .1)
+returns c =
+    let at-loop : tie.At-loop Inv-loop μ-loop = search in
+    let start : tie.Start Inv-loop μ-loop = search in
+    let e : at-loop .loop .i ≡ length (start .args .part .now) = omega arith in rw e at (at-loop .loop .inv .1)
 
 pub is-zero-spec : {M : Type 1} → statement M
 is-zero-spec =

@@ -29,10 +29,15 @@ wide-requires : tie.Need-wide-requires Inv-loop μ-loop
 wide-requires c κs = search needs
 
 returns : tie.Need-returns Inv-loop μ-loop
-returns c = sym (journal-long (c .before .before .before .before .before .args .state .now) (rw (c .before .wide .ensures) at (c .if1 .taken)))
+returns c =
+    let after-wide : tie.After-wide Inv-loop μ-loop = search in
+    let start : tie.Start Inv-loop μ-loop = search in
+    sym (journal-long (start .args .state .now) (rw (after-wide .wide .ensures) at (c .if1 .taken)))
 
 loop-holds : tie.Need-loop-holds Inv-loop μ-loop
-loop-holds c = (omega arith, c .before .wide .ensures, omega arith, all-none _, marked-none _)
+loop-holds c =
+    let after-wide : tie.After-wide Inv-loop μ-loop = search in
+    (omega arith, after-wide .wide .ensures, omega arith, all-none _, marked-none _)
 
 add-x : tie.Need-add-x Inv-loop μ-loop
 add-x c = search needs
@@ -47,42 +52,79 @@ is-id-requires : tie.Need-is-id-requires Inv-loop μ-loop
 is-id-requires c κs = search needs
 
 returns-2 : tie.Need-returns-2 Inv-loop μ-loop
-returns-2 c = sym (journal-stop (c .before .before .before .before .before .before .before .before .before .before .args .state .now) (c .before .before .before .before .loop .i) (rw (c .before .before .before .before .loop .inv .1) at (c .before .before .before .loop-test .taken)) (entry-strange (c .before .before .before .before .before .before .before .before .before .before .args .state .now) (c .before .before .before .before .loop .i) (failed (c .before .is-id .ensures) (c .if2 .taken))))
+returns-2 c =
+    let after-is-id : tie.After-is-id Inv-loop μ-loop = search in
+    let in-loop : tie.In-loop Inv-loop μ-loop = search in
+    let at-loop : tie.At-loop Inv-loop μ-loop = search in
+    let start : tie.Start Inv-loop μ-loop = search in
+    sym (journal-stop (start .args .state .now) (at-loop .loop .i) (rw (at-loop .loop .inv .1) at (in-loop .loop-test .taken)) (entry-strange (start .args .state .now) (at-loop .loop .i) (failed (after-is-id .is-id .ensures) (c .if2 .taken))))
 
 sub-wide : tie.Need-sub-wide Inv-loop μ-loop
-sub-wide c = let q = round-range _ ((passed (c .before .is-id .ensures) (c .if2 .left))) in omega (arith, q .0)
+sub-wide c =
+    let after-is-id : tie.After-is-id Inv-loop μ-loop = search in
+    let q = round-range _ ((passed (after-is-id .is-id .ensures) (c .if2 .left))) in omega (arith, q .0)
 
 wide-requires-2 : tie.Need-wide-requires-2 Inv-loop μ-loop
 wide-requires-2 c κs = search needs
 
 mul-marks : tie.Need-mul-marks Inv-loop μ-loop
-mul-marks c = let q = round-range _ ((passed (c .before .before .is-id .ensures) (c .before .if2 .left))) in omega (arith, q .1, c .wide2 .ensures)
+mul-marks c =
+    let else2 : tie.Else2 Inv-loop μ-loop = search in
+    let after-is-id : tie.After-is-id Inv-loop μ-loop = search in
+    let q = round-range _ ((passed (after-is-id .is-id .ensures) (else2 .if2 .left))) in omega (arith, q .1, c .wide2 .ensures)
 
 array-read-marks : tie.Need-array-read-marks Inv-loop μ-loop
-array-read-marks c = let q = round-range _ ((passed (c .before .before .is-id .ensures) (c .before .if2 .left))) in omega (arith, q .0, q .1, c .wide2 .ensures)
+array-read-marks c =
+    let else2 : tie.Else2 Inv-loop μ-loop = search in
+    let after-is-id : tie.After-is-id Inv-loop μ-loop = search in
+    let q = round-range _ ((passed (after-is-id .is-id .ensures) (else2 .if2 .left))) in omega (arith, q .0, q .1, c .wide2 .ensures)
 
 has-requires : tie.Need-has-requires Inv-loop μ-loop
 has-requires c κs = search needs
 
 returns-3 : tie.Need-returns-3 Inv-loop μ-loop
-returns-3 c = let q = round-range _ ((passed (c .before .before .before .before .is-id .ensures) (c .before .before .before .if2 .left))) in
-    sym (journal-stop (c .before .before .before .before .before .before .before .before .before .before .before .before .before .args .state .now) (c .before .before .before .before .before .before .before .loop .i) (rw (c .before .before .before .before .before .before .before .loop .inv .1) at (c .before .before .before .before .before .before .loop-test .taken)) (entry-twice (c .before .before .before .before .before .before .before .before .before .before .before .before .before .args .state .now) (c .before .before .before .before .before .before .before .loop .i)
-    (sym (mark-at _ _ _ _ _ (c .before .before .before .before .before .before .before .loop .inv .4) (q .0) (q .1) (c .before .before .wide2 .ensures)) ∙ sym (c .before .has .ensures) ∙ c .if3 .taken)))
+returns-3 c =
+    let after-has : tie.After-has Inv-loop μ-loop = search in
+    let after-wide2 : tie.After-wide2 Inv-loop μ-loop = search in
+    let else2 : tie.Else2 Inv-loop μ-loop = search in
+    let after-is-id : tie.After-is-id Inv-loop μ-loop = search in
+    let in-loop : tie.In-loop Inv-loop μ-loop = search in
+    let at-loop : tie.At-loop Inv-loop μ-loop = search in
+    let start : tie.Start Inv-loop μ-loop = search in
+    let q = round-range _ ((passed (after-is-id .is-id .ensures) (else2 .if2 .left))) in
+    sym (journal-stop (start .args .state .now) (at-loop .loop .i) (rw (at-loop .loop .inv .1) at (in-loop .loop-test .taken)) (entry-twice (start .args .state .now) (at-loop .loop .i)
+    (sym (mark-at _ _ _ _ _ (at-loop .loop .inv .4) (q .0) (q .1) (after-wide2 .wide2 .ensures)) ∙ sym (after-has .has .ensures) ∙ c .if3 .taken)))
 
 mul-marks-2 : tie.Need-mul-marks-2 Inv-loop μ-loop
-mul-marks-2 c = let q = round-range _ ((passed (c .before .before .before .before .is-id .ensures) (c .before .before .before .if2 .left))) in omega (arith, q .1, c .before .before .wide2 .ensures)
+mul-marks-2 c =
+    let after-wide2 : tie.After-wide2 Inv-loop μ-loop = search in
+    let else2 : tie.Else2 Inv-loop μ-loop = search in
+    let after-is-id : tie.After-is-id Inv-loop μ-loop = search in
+    let q = round-range _ ((passed (after-is-id .is-id .ensures) (else2 .if2 .left))) in omega (arith, q .1, after-wide2 .wide2 .ensures)
 
 array-read-marks-2 : tie.Need-array-read-marks-2 Inv-loop μ-loop
-array-read-marks-2 c = let q = round-range _ ((passed (c .before .before .before .before .is-id .ensures) (c .before .before .before .if2 .left))) in omega (arith, q .0, q .1, c .before .before .wide2 .ensures)
+array-read-marks-2 c =
+    let after-wide2 : tie.After-wide2 Inv-loop μ-loop = search in
+    let else2 : tie.Else2 Inv-loop μ-loop = search in
+    let after-is-id : tie.After-is-id Inv-loop μ-loop = search in
+    let q = round-range _ ((passed (after-is-id .is-id .ensures) (else2 .if2 .left))) in omega (arith, q .0, q .1, after-wide2 .wide2 .ensures)
 
 power-requires : tie.Need-power-requires Inv-loop μ-loop
 power-requires c κs = search needs
 
 mul-marks-3 : tie.Need-mul-marks-3 Inv-loop μ-loop
-mul-marks-3 c = let q = round-range _ ((passed (c .before .before .before .before .before .is-id .ensures) (c .before .before .before .before .if2 .left))) in omega (arith, q .1, c .before .before .before .wide2 .ensures)
+mul-marks-3 c =
+    let after-wide2 : tie.After-wide2 Inv-loop μ-loop = search in
+    let else2 : tie.Else2 Inv-loop μ-loop = search in
+    let after-is-id : tie.After-is-id Inv-loop μ-loop = search in
+    let q = round-range _ ((passed (after-is-id .is-id .ensures) (else2 .if2 .left))) in omega (arith, q .1, after-wide2 .wide2 .ensures)
 
 array-write-marks : tie.Need-array-write-marks Inv-loop μ-loop
-array-write-marks c = let q = round-range _ ((passed (c .before .before .before .before .before .is-id .ensures) (c .before .before .before .before .if2 .left))) in omega (arith, q .0, q .1, c .before .before .before .wide2 .ensures)
+array-write-marks c =
+    let after-wide2 : tie.After-wide2 Inv-loop μ-loop = search in
+    let else2 : tie.Else2 Inv-loop μ-loop = search in
+    let after-is-id : tie.After-is-id Inv-loop μ-loop = search in
+    let q = round-range _ ((passed (after-is-id .is-id .ensures) (else2 .if2 .left))) in omega (arith, q .0, q .1, after-wide2 .wide2 .ensures)
 
 add-i : tie.Need-add-i Inv-loop μ-loop
 add-i c = search needs
@@ -91,20 +133,32 @@ loop-less : tie.Need-loop-less Inv-loop μ-loop
 loop-less c = search needs
 
 loop-again : tie.Need-loop-again Inv-loop μ-loop
-loop-again c = let o = passed (c .before .before .before .before .before .is-id .ensures) (c .before .before .before .before .if2 .left) in let q = round-range _ o in (
-  omega arith,
-  c .before .before .before .before .before .before .before .before .loop .inv .1,
-  c .before .before .before .before .before .before .before .before .loop .inv .2,
-  all-more _ _ (c .before .before .before .before .before .before .before .before .loop .inv .3) (entry-new (c .before .before .before .before .before .before .before .before .before .before .before .before .before .before .args .state .now) (c .before .before .before .before .before .before .before .before .loop .i) o (sym (mark-at _ _ _ _ _ (c .before .before .before .before .before .before .before .before .loop .inv .4) (q .0) (q .1) (c .before .before .before .wide2 .ensures)) ∙ sym (c .before .before .has .ensures) ∙ c .before .if3 .left)),
-  rw (c .power .ensures) (marked-more (c .before .before .before .before .before .before .before .before .before .before .before .before .before .before .args .state .now) (c .before .before .before .before .before .before .before .before .loop .i) (c .before .before .before .before .before .before .before .before .loop .marks) _ _ (c .before .before .before .before .before .before .before .before .before .before .before .before .before .before .pre .0) (rw (c .before .before .before .before .before .before .before .before .loop .inv .1) at (c .before .before .before .before .before .before .before .before .loop .inv .2)) (rw (c .before .before .before .before .before .before .before .before .loop .inv .1) at (c .before .before .before .before .before .before .before .loop-test .taken)) refl (c .before .before .before .before .before .before .before .before .loop .inv .4) (q .0) (q .1) (c .before .before .before .wide2 .ensures)),
-)
+loop-again c =
+    let else3 : tie.Else3 Inv-loop μ-loop = search in
+    let after-has : tie.After-has Inv-loop μ-loop = search in
+    let after-wide2 : tie.After-wide2 Inv-loop μ-loop = search in
+    let else2 : tie.Else2 Inv-loop μ-loop = search in
+    let after-is-id : tie.After-is-id Inv-loop μ-loop = search in
+    let in-loop : tie.In-loop Inv-loop μ-loop = search in
+    let at-loop : tie.At-loop Inv-loop μ-loop = search in
+    let start : tie.Start Inv-loop μ-loop = search in
+    let o = passed (after-is-id .is-id .ensures) (else2 .if2 .left) in let q = round-range _ o in (
+      omega arith,
+      at-loop .loop .inv .1,
+      at-loop .loop .inv .2,
+      all-more _ _ (at-loop .loop .inv .3) (entry-new (start .args .state .now) (at-loop .loop .i) o (sym (mark-at _ _ _ _ _ (at-loop .loop .inv .4) (q .0) (q .1) (after-wide2 .wide2 .ensures)) ∙ sym (after-has .has .ensures) ∙ else3 .if3 .left)),
+      rw (c .power .ensures) (marked-more (start .args .state .now) (at-loop .loop .i) (at-loop .loop .marks) _ _ (start .pre .0) (rw (at-loop .loop .inv .1) at (at-loop .loop .inv .2)) (rw (at-loop .loop .inv .1) at (in-loop .loop-test .taken)) refl (at-loop .loop .inv .4) (q .0) (q .1) (after-wide2 .wide2 .ensures)),
+    )
 
 all-marked-requires : tie.Need-all-marked-requires Inv-loop μ-loop
 all-marked-requires c κs = search needs
 
 returns-4 : tie.Need-returns-4 Inv-loop μ-loop
-returns-4 c = let e : c .before .before .loop .i ≡ journalCount (c .before .before .before .before .before .before .before .before .args .state .now) = omega arith in
-    c .all-marked .ensures ∙ journal-decides (c .before .before .before .before .before .before .before .before .args .state .now) (c .before .before .loop .marks) (c .before .before .before .before .before .before .before .before .pre .0) (c .before .before .before .before .before .before .before .before .pre .1) (c .before .before .before .before .before .before .before .before .pre .2) (rw (c .before .before .loop .inv .1) at (c .before .before .loop .inv .2)) (rw e at (c .before .before .loop .inv .3)) (rw e at (c .before .before .loop .inv .4))
+returns-4 c =
+    let at-loop : tie.At-loop Inv-loop μ-loop = search in
+    let start : tie.Start Inv-loop μ-loop = search in
+    let e : at-loop .loop .i ≡ journalCount (start .args .state .now) = omega arith in
+    c .all-marked .ensures ∙ journal-decides (start .args .state .now) (at-loop .loop .marks) (start .pre .0) (start .pre .1) (start .pre .2) (rw (at-loop .loop .inv .1) at (at-loop .loop .inv .2)) (rw e at (at-loop .loop .inv .3)) (rw e at (at-loop .loop .inv .4))
 
 pub journal-ok-spec : {M : Type 1} → statement M
 journal-ok-spec =

@@ -10,7 +10,10 @@ shared-slice-read-result c = search needs
 
 returns : tie.Need-returns
 unfolding lastLeaderRound
-returns c = rw (← c .before .before .pre .1, eq-eqb _ _ (c .before .if1 .taken))
+returns c =
+    let then1 : tie.Then1 = search in
+    let start : tie.Start = search in
+    rw (← start .pre .1, eq-eqb _ _ (then1 .if1 .taken))
 
 sub-result : tie.Need-sub-result
 sub-result c = search needs
@@ -29,7 +32,10 @@ shared-slice-read-result-3 c = search needs
 
 returns-2 : tie.Need-returns-2
 unfolding lastLeaderRound
-returns-2 c = rw (← c .before .before .before .pre .1, ne-eqb _ _ (c .before .before .if1 .left))
+returns-2 c =
+    let else1 : tie.Else1 = search in
+    let start : tie.Start = search in
+    rw (← start .pre .1, ne-eqb _ _ (else1 .if1 .left))
 
 pub last-ok-spec : {M : Type 1} → statement M
 last-ok-spec =

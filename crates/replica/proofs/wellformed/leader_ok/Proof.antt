@@ -21,18 +21,34 @@ is-held-requires c κs = search needs
 
 returns : tie.Need-returns
 unfolding leaderOk
-returns c = simp (failed (c .before .is-held .ensures) (c .if1 .taken))
+returns c =
+    let after-is-held : tie.After-is-held = search in
+    simp (failed (after-is-held .is-held .ensures) (c .if1 .taken))
 
 leader-of-requires : tie.Need-leader-of-requires
-leader-of-requires c κs = (c .before .before .before .before .pre .2, round-range _ (and-left _ _ (passed (c .before .is-held .ensures) (c .if1 .left))) .0)
+leader-of-requires c κs =
+    let after-is-held : tie.After-is-held = search in
+    let start : tie.Start = search in
+    (start .pre .2, round-range _ (and-left _ _ (passed (after-is-held .is-held .ensures) (c .if1 .left))) .0)
 
 returns-2 : tie.Need-returns-2
 unfolding leaderOk
-returns-2 c = simp (passed (c .before .before .before .is-held .ensures) (c .before .before .if1 .left), ne-eqb _ _ (rw (c .before .leader-of .ensures, c .before .before .before .before .before .before .pre .1) at (c .if2 .taken)))
+returns-2 c =
+    let after-leader-of : tie.After-leader-of = search in
+    let else1 : tie.Else1 = search in
+    let after-is-held : tie.After-is-held = search in
+    let start : tie.Start = search in
+    simp (passed (after-is-held .is-held .ensures) (else1 .if1 .left), ne-eqb _ _ (rw (after-leader-of .leader-of .ensures, start .pre .1) at (c .if2 .taken)))
 
 returns-3 : tie.Need-returns-3
 unfolding leaderOk
-returns-3 c = simp (passed (c .before .before .before .before .is-held .ensures) (c .before .before .before .if1 .left), eq-eqb _ _ (rw (c .before .before .leader-of .ensures, c .before .before .before .before .before .before .before .pre .1) at (c .before .if2 .left)), eq-eqb _ _ (c .if3 .taken))
+returns-3 c =
+    let else2 : tie.Else2 = search in
+    let after-leader-of : tie.After-leader-of = search in
+    let else1 : tie.Else1 = search in
+    let after-is-held : tie.After-is-held = search in
+    let start : tie.Start = search in
+    simp (passed (after-is-held .is-held .ensures) (else1 .if1 .left), eq-eqb _ _ (rw (after-leader-of .leader-of .ensures, start .pre .1) at (else2 .if2 .left)), eq-eqb _ _ (c .if3 .taken))
 
 sub-result : tie.Need-sub-result
 sub-result c = search needs
@@ -48,7 +64,14 @@ shared-slice-read-result c = search needs
 
 returns-4 : tie.Need-returns-4
 unfolding leaderOk
-returns-4 c = simp (passed (c .before .before .before .before .before .is-held .ensures) (c .before .before .before .before .if1 .left), eq-eqb _ _ (rw (c .before .before .before .leader-of .ensures, c .before .before .before .before .before .before .before .before .pre .1) at (c .before .before .if2 .left)), ne-eqb _ _ (c .before .if3 .left))
+returns-4 c =
+    let else3 : tie.Else3 = search in
+    let else2 : tie.Else2 = search in
+    let after-leader-of : tie.After-leader-of = search in
+    let else1 : tie.Else1 = search in
+    let after-is-held : tie.After-is-held = search in
+    let start : tie.Start = search in
+    simp (passed (after-is-held .is-held .ensures) (else1 .if1 .left), eq-eqb _ _ (rw (after-leader-of .leader-of .ensures, start .pre .1) at (else2 .if2 .left)), ne-eqb _ _ (else3 .if3 .left))
 
 pub leader-ok-spec : {M : Type 1} → statement M
 leader-ok-spec =

@@ -31,17 +31,29 @@ wide-requires c κs = search needs
 
 returns : tie.Need-returns Inv-loop μ-loop
 unfolding leadersOk
-returns c = simp (lt-leb _ _ (rw (c .before .wide .ensures) at (c .if1 .taken)))
+returns c =
+    let after-wide : tie.After-wide Inv-loop μ-loop = search in
+    simp (lt-leb _ _ (rw (after-wide .wide .ensures) at (c .if1 .taken)))
 
 loop-holds : tie.Need-loop-holds Inv-loop μ-loop
-loop-holds c = (omega arith, refl, c .before .wide .ensures, omega arith, all-none _)
+loop-holds c =
+    let after-wide : tie.After-wide Inv-loop μ-loop = search in
+    (omega arith, refl, after-wide .wide .ensures, omega arith, all-none _)
 
 leader-ok-requires : tie.Need-leader-ok-requires Inv-loop μ-loop
-leader-ok-requires c κs = let g = legal-range _ (c .before .before .before .before .before .before .before .pre .1) in (c .before .before .before .before .before .before .before .pre .0, c .before .loop .inv .1, omega arith, omega arith)
+leader-ok-requires c κs =
+    let at-loop : tie.At-loop Inv-loop μ-loop = search in
+    let start : tie.Start Inv-loop μ-loop = search in
+    let g = legal-range _ (start .pre .1) in (start .pre .0, at-loop .loop .inv .1, omega arith, omega arith)
 
 returns-2 : tie.Need-returns-2 Inv-loop μ-loop
 unfolding leadersOk
-returns-2 c = simp (le-leb _ _ (rw (c .before .before .before .loop .inv .2) at (c .before .before .before .loop .inv .3)), all-stop _ (leaderOk (c .before .before .before .before .before .before .before .before .before .args .state .now)) (c .before .before .before .loop .i) (rw (c .before .before .before .loop .inv .2) at (c .before .before .loop-test .taken)) (failed (c .before .leader-ok .ensures) (c .if2 .taken)))
+returns-2 c =
+    let after-leader-ok : tie.After-leader-ok Inv-loop μ-loop = search in
+    let in-loop : tie.In-loop Inv-loop μ-loop = search in
+    let at-loop : tie.At-loop Inv-loop μ-loop = search in
+    let start : tie.Start Inv-loop μ-loop = search in
+    simp (le-leb _ _ (rw (at-loop .loop .inv .2) at (at-loop .loop .inv .3)), all-stop _ (leaderOk (start .args .state .now)) (at-loop .loop .i) (rw (at-loop .loop .inv .2) at (in-loop .loop-test .taken)) (failed (after-leader-ok .leader-ok .ensures) (c .if2 .taken)))
 
 add-i : tie.Need-add-i Inv-loop μ-loop
 add-i c = search needs
@@ -50,14 +62,23 @@ loop-less : tie.Need-loop-less Inv-loop μ-loop
 loop-less c = search needs
 
 loop-again : tie.Need-loop-again Inv-loop μ-loop
-loop-again c = (omega arith, c .before .before .before .loop .inv .1, c .before .before .before .loop .inv .2, c .before .before .before .loop .inv .3, all-more _ _ (c .before .before .before .loop .inv .4) (passed (c .before .leader-ok .ensures) (c .if2 .left)))
+loop-again c =
+    let after-leader-ok : tie.After-leader-ok Inv-loop μ-loop = search in
+    let at-loop : tie.At-loop Inv-loop μ-loop = search in
+    (omega arith, at-loop .loop .inv .1, at-loop .loop .inv .2, at-loop .loop .inv .3, all-more _ _ (at-loop .loop .inv .4) (passed (after-leader-ok .leader-ok .ensures) (c .if2 .left)))
 
 last-ok-requires : tie.Need-last-ok-requires Inv-loop μ-loop
-last-ok-requires c κs = (c .before .before .before .before .before .before .before .pre .0, c .before .loop .inv .2, c .before .loop .inv .3)
+last-ok-requires c κs =
+    let at-loop : tie.At-loop Inv-loop μ-loop = search in
+    let start : tie.Start Inv-loop μ-loop = search in
+    (start .pre .0, at-loop .loop .inv .2, at-loop .loop .inv .3)
 
 returns-3 : tie.Need-returns-3 Inv-loop μ-loop
 unfolding leadersOk
-returns-3 c = let e : c .before .before .loop .i ≡ leaderCount (c .before .before .before .before .before .before .before .before .args .state .now) = omega arith in simp (le-leb _ _ (rw (c .before .before .loop .inv .2) at (c .before .before .loop .inv .3)), rw e at (c .before .before .loop .inv .4)) (c .last-ok .ensures)
+returns-3 c =
+    let at-loop : tie.At-loop Inv-loop μ-loop = search in
+    let start : tie.Start Inv-loop μ-loop = search in
+    let e : at-loop .loop .i ≡ leaderCount (start .args .state .now) = omega arith in simp (le-leb _ _ (rw (at-loop .loop .inv .2) at (at-loop .loop .inv .3)), rw e at (at-loop .loop .inv .4)) (c .last-ok .ensures)
 
 pub leaders-ok-spec : {M : Type 1} → statement M
 leaders-ok-spec =

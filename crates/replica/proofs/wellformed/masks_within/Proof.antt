@@ -27,7 +27,11 @@ round-within-requires : tie.Need-round-within-requires Inv-loop μ-loop
 round-within-requires c κs = search needs
 
 returns : tie.Need-returns Inv-loop μ-loop
-returns c = sym (all-stop 32 (λ k. masksWithin (c .before .before .before .before .before .args .state .now) (k + 1)) (c .before .before .before .loop .i) (omega arith) (failed (c .before .round-within .ensures) (c .if1 .taken)))
+returns c =
+    let after-round-within : tie.After-round-within Inv-loop μ-loop = search in
+    let at-loop : tie.At-loop Inv-loop μ-loop = search in
+    let start : tie.Start Inv-loop μ-loop = search in
+    sym (all-stop 32 (λ k. masksWithin (start .args .state .now) (k + 1)) (at-loop .loop .i) (omega arith) (failed (after-round-within .round-within .ensures) (c .if1 .taken)))
 
 add-i : tie.Need-add-i Inv-loop μ-loop
 add-i c = search needs
@@ -36,10 +40,15 @@ loop-less : tie.Need-loop-less Inv-loop μ-loop
 loop-less c = search needs
 
 loop-again : tie.Need-loop-again Inv-loop μ-loop
-loop-again c = (omega arith, all-more _ _ (c .before .before .before .loop .inv .1) (passed (c .before .round-within .ensures) (c .if1 .left)))
+loop-again c =
+    let after-round-within : tie.After-round-within Inv-loop μ-loop = search in
+    let at-loop : tie.At-loop Inv-loop μ-loop = search in
+    (omega arith, all-more _ _ (at-loop .loop .inv .1) (passed (after-round-within .round-within .ensures) (c .if1 .left)))
 
 returns-2 : tie.Need-returns-2 Inv-loop μ-loop
-returns-2 c = let e : c .before .loop .i ≡ 32 = omega arith in sym (rw e at (c .before .loop .inv .1))
+returns-2 c =
+    let at-loop : tie.At-loop Inv-loop μ-loop = search in
+    let e : at-loop .loop .i ≡ 32 = omega arith in sym (rw e at (at-loop .loop .inv .1))
 
 pub masks-within-spec : {M : Type 1} → statement M
 masks-within-spec =

@@ -21,16 +21,28 @@ abbrev μ-loop : tie.MeasureT-loop
 μ-loop state n round terms p₀ p = n - p
 
 terms-of-requires : tie.Need-terms-of-requires Inv-loop μ-loop
-terms-of-requires c κs = let g = legal-range _ (c .before .pre .2) in (omega (arith, g .low), c .before .pre .4)
+terms-of-requires c κs =
+    let start : tie.Start Inv-loop μ-loop = search in
+    let g = legal-range _ (start .pre .2) in (omega (arith, g .low), start .pre .4)
 
 loop-holds : tie.Need-loop-holds Inv-loop μ-loop
-loop-holds c = (omega arith, c .terms-of .ensures ∙ ap (λ (m : ℕ). termsOf m (c .before .before .args .round)) (c .before .before .pre .1), all-none _)
+loop-holds c =
+    let start : tie.Start Inv-loop μ-loop = search in
+    (omega arith, c .terms-of .ensures ∙ ap (λ (m : ℕ). termsOf m (start .args .round)) (start .pre .1), all-none _)
 
 cell-ok-requires : tie.Need-cell-ok-requires Inv-loop μ-loop
-cell-ok-requires c κs = let g = legal-range _ (c .before .before .before .before .pre .2) in (c .before .before .before .before .pre .0, c .before .loop .inv .1, rw (c .before .before .before .before .pre .1) at (c .before .before .before .before .pre .2), c .before .before .before .before .pre .3, c .before .before .before .before .pre .4, c .before .before .before .before .pre .5, omega (arith, g .high))
+cell-ok-requires c κs =
+    let at-loop : tie.At-loop Inv-loop μ-loop = search in
+    let start : tie.Start Inv-loop μ-loop = search in
+    let g = legal-range _ (start .pre .2) in (start .pre .0, at-loop .loop .inv .1, rw (start .pre .1) at (start .pre .2), start .pre .3, start .pre .4, start .pre .5, omega (arith, g .high))
 
 returns : tie.Need-returns Inv-loop μ-loop
-returns c = sym (all-stop (c .before .before .before .before .before .before .args .n) (cellOk (c .before .before .before .before .before .before .args .state .now) (c .before .before .before .before .before .before .args .round)) (c .before .before .before .loop .p) (c .before .before .loop-test .taken) (failed (c .before .cell-ok .ensures) (c .if1 .taken)))
+returns c =
+    let after-cell-ok : tie.After-cell-ok Inv-loop μ-loop = search in
+    let in-loop : tie.In-loop Inv-loop μ-loop = search in
+    let at-loop : tie.At-loop Inv-loop μ-loop = search in
+    let start : tie.Start Inv-loop μ-loop = search in
+    sym (all-stop (start .args .n) (cellOk (start .args .state .now) (start .args .round)) (at-loop .loop .p) (in-loop .loop-test .taken) (failed (after-cell-ok .cell-ok .ensures) (c .if1 .taken)))
 
 add-p : tie.Need-add-p Inv-loop μ-loop
 add-p c = search needs
@@ -39,10 +51,16 @@ loop-less : tie.Need-loop-less Inv-loop μ-loop
 loop-less c = search needs
 
 loop-again : tie.Need-loop-again Inv-loop μ-loop
-loop-again c = (omega arith, c .before .before .before .loop .inv .1, all-more _ _ (c .before .before .before .loop .inv .2) (passed (c .before .cell-ok .ensures) (c .if1 .left)))
+loop-again c =
+    let after-cell-ok : tie.After-cell-ok Inv-loop μ-loop = search in
+    let at-loop : tie.At-loop Inv-loop μ-loop = search in
+    (omega arith, at-loop .loop .inv .1, all-more _ _ (at-loop .loop .inv .2) (passed (after-cell-ok .cell-ok .ensures) (c .if1 .left)))
 
 returns-2 : tie.Need-returns-2 Inv-loop μ-loop
-returns-2 c = let e : c .before .loop .p ≡ c .before .before .before .before .args .n = omega arith in sym (rw e at (c .before .loop .inv .2))
+returns-2 c =
+    let at-loop : tie.At-loop Inv-loop μ-loop = search in
+    let start : tie.Start Inv-loop μ-loop = search in
+    let e : at-loop .loop .p ≡ start .args .n = omega arith in sym (rw e at (at-loop .loop .inv .2))
 
 pub members-ok-spec : {M : Type 1} → statement M
 members-ok-spec =

@@ -34,7 +34,12 @@ held-mask-requires : tie.Need-held-mask-requires Inv-loop μ-loop
 held-mask-requires c κs = search needs
 
 returns : tie.Need-returns Inv-loop μ-loop
-returns c = sym (all-stop 32 (λ k. subset (orderedMask (c .before .before .before .before .before .before .args .state .now) (k + 1)) (heldMask (c .before .before .before .before .before .before .args .state .now) (k + 1))) (c .before .before .before .before .loop .i) (omega arith) (ne-eqb _ _ (rw (c .before .before .ordered-mask .ensures, c .before .held-mask .ensures) at (c .if1 .taken))))
+returns c =
+    let after-held-mask : tie.After-held-mask Inv-loop μ-loop = search in
+    let after-ordered-mask : tie.After-ordered-mask Inv-loop μ-loop = search in
+    let at-loop : tie.At-loop Inv-loop μ-loop = search in
+    let start : tie.Start Inv-loop μ-loop = search in
+    sym (all-stop 32 (λ k. subset (orderedMask (start .args .state .now) (k + 1)) (heldMask (start .args .state .now) (k + 1))) (at-loop .loop .i) (omega arith) (ne-eqb _ _ (rw (after-ordered-mask .ordered-mask .ensures, after-held-mask .held-mask .ensures) at (c .if1 .taken))))
 
 add-i : tie.Need-add-i Inv-loop μ-loop
 add-i c = search needs
@@ -43,10 +48,16 @@ loop-less : tie.Need-loop-less Inv-loop μ-loop
 loop-less c = search needs
 
 loop-again : tie.Need-loop-again Inv-loop μ-loop
-loop-again c = (omega arith, all-more _ _ (c .before .before .before .before .loop .inv .1) (eq-eqb _ _ (rw (c .before .before .ordered-mask .ensures, c .before .held-mask .ensures) at (c .if1 .left))))
+loop-again c =
+    let after-held-mask : tie.After-held-mask Inv-loop μ-loop = search in
+    let after-ordered-mask : tie.After-ordered-mask Inv-loop μ-loop = search in
+    let at-loop : tie.At-loop Inv-loop μ-loop = search in
+    (omega arith, all-more _ _ (at-loop .loop .inv .1) (eq-eqb _ _ (rw (after-ordered-mask .ordered-mask .ensures, after-held-mask .held-mask .ensures) at (c .if1 .left))))
 
 returns-2 : tie.Need-returns-2 Inv-loop μ-loop
-returns-2 c = let e : c .before .loop .i ≡ 32 = omega arith in sym (rw e at (c .before .loop .inv .1))
+returns-2 c =
+    let at-loop : tie.At-loop Inv-loop μ-loop = search in
+    let e : at-loop .loop .i ≡ 32 = omega arith in sym (rw e at (at-loop .loop .inv .1))
 
 pub ordered-held-spec : {M : Type 1} → statement M
 ordered-held-spec =

@@ -12,12 +12,17 @@ use Rattle.replica.proofs.wellformed.record_ok.Statement.{statement}
 use Rattle.replica.proofs.wellformed.record_ok.Tie as tie
 
 masks-admitted-requires : tie.Need-masks-admitted-requires
-masks-admitted-requires c κs = let e : c .before .before .args .terms .n ≡ memberCount (c .before .before .args .state .now) = ap (λ (t : Terms). t .n) (c .before .before .pre .1) in
-    (c .before .before .pre .1 ∙ ap (λ (m : ℕ). termsOf m (c .before .before .args .round)) (sym e), c .before .before .pre .4, c .before .before .pre .5, c .before .before .pre .7)
+masks-admitted-requires c κs =
+    let start : tie.Start = search in
+    let e : start .args .terms .n ≡ memberCount (start .args .state .now) = ap (λ (t : Terms). t .n) (start .pre .1) in
+    (start .pre .1 ∙ ap (λ (m : ℕ). termsOf m (start .args .round)) (sym e), start .pre .4, start .pre .5, start .pre .7)
 
 returns : tie.Need-returns
-returns c = let e : c .before .before .before .before .args .terms .n ≡ memberCount (c .before .before .before .before .args .state .now) = ap (λ (t : Terms). t .n) (c .before .before .before .before .pre .1) in
-    sym (masks-refused (memberCount (c .before .before .before .before .args .state .now)) (c .before .before .before .before .args .round) (c .before .before .before .before .args .source) (c .before .before .before .before .args .state .now) (c .before .before .before .before .args .body .now) (c .before .before .before .before .pre .2) (c .before .before .before .before .pre .4) (c .before .before .before .before .pre .5) (c .before .before .before .before .pre .6) (c .before .before .before .before .pre .7) (rw e at (failed (c .before .masks-admitted .ensures) (c .if1 .taken))))
+returns c =
+    let after-masks-admitted : tie.After-masks-admitted = search in
+    let start : tie.Start = search in
+    let e : start .args .terms .n ≡ memberCount (start .args .state .now) = ap (λ (t : Terms). t .n) (start .pre .1) in
+    sym (masks-refused (memberCount (start .args .state .now)) (start .args .round) (start .args .source) (start .args .state .now) (start .args .body .now) (start .pre .2) (start .pre .4) (start .pre .5) (start .pre .6) (start .pre .7) (rw e at (failed (after-masks-admitted .masks-admitted .ensures) (c .if1 .taken))))
 
 shared-slice-read-strong-held : tie.Need-shared-slice-read-strong-held
 shared-slice-read-strong-held c = search needs
@@ -27,17 +32,30 @@ strong-held-requires c κs = search needs
 
 returns-2 : tie.Need-returns-2
 unfolding strongOf
-returns-2 c = let e : c .before .before .before .before .before .before .before .args .terms .n ≡ memberCount (c .before .before .before .before .before .before .before .args .state .now) = ap (λ (t : Terms). t .n) (c .before .before .before .before .before .before .before .pre .1) in
-    sym (sym (masks-passed (memberCount (c .before .before .before .before .before .before .before .args .state .now)) (c .before .before .before .before .before .before .before .args .round) (c .before .before .before .before .before .before .before .args .source) (c .before .before .before .before .before .before .before .args .state .now) (c .before .before .before .before .before .before .before .args .body .now) (c .before .before .before .before .before .before .before .pre .2) (c .before .before .before .before .before .before .before .pre .4) (c .before .before .before .before .before .before .before .pre .5) (c .before .before .before .before .before .before .before .pre .6) (c .before .before .before .before .before .before .before .pre .7) (rw e at (passed (c .before .before .before .before .masks-admitted .ensures) (c .before .before .before .if1 .left)))) ∙ and-fails-left _ (failed (c .before .strong-held .ensures) (c .if2 .taken)))
+returns-2 c =
+    let after-strong-held : tie.After-strong-held = search in
+    let else1 : tie.Else1 = search in
+    let after-masks-admitted : tie.After-masks-admitted = search in
+    let start : tie.Start = search in
+    let e : start .args .terms .n ≡ memberCount (start .args .state .now) = ap (λ (t : Terms). t .n) (start .pre .1) in
+    sym (sym (masks-passed (memberCount (start .args .state .now)) (start .args .round) (start .args .source) (start .args .state .now) (start .args .body .now) (start .pre .2) (start .pre .4) (start .pre .5) (start .pre .6) (start .pre .7) (rw e at (passed (after-masks-admitted .masks-admitted .ensures) (else1 .if1 .left)))) ∙ and-fails-left _ (failed (after-strong-held .strong-held .ensures) (c .if2 .taken)))
 
 weak-ok-requires : tie.Need-weak-ok-requires
-weak-ok-requires c κs = let e : c .before .before .before .before .before .before .before .args .terms .n ≡ memberCount (c .before .before .before .before .before .before .before .args .state .now) = ap (λ (t : Terms). t .n) (c .before .before .before .before .before .before .before .pre .1) in
-    (c .before .before .before .before .before .before .before .pre .0, e, rw e (c .before .before .before .before .before .before .before .pre .2), c .before .before .before .before .before .before .before .pre .3, c .before .before .before .before .before .before .before .pre .4, c .before .before .before .before .before .before .before .pre .5, c .before .before .before .before .before .before .before .pre .7)
+weak-ok-requires c κs =
+    let start : tie.Start = search in
+    let e : start .args .terms .n ≡ memberCount (start .args .state .now) = ap (λ (t : Terms). t .n) (start .pre .1) in
+    (start .pre .0, e, rw e (start .pre .2), start .pre .3, start .pre .4, start .pre .5, start .pre .7)
 
 returns-3 : tie.Need-returns-3
 unfolding strongOf
-returns-3 c = let e : c .before .before .before .before .before .before .before .before .args .terms .n ≡ memberCount (c .before .before .before .before .before .before .before .before .args .state .now) = ap (λ (t : Terms). t .n) (c .before .before .before .before .before .before .before .before .pre .1) in
-    rw e at (c .weak-ok .ensures) ∙ rw (passed (c .before .before .strong-held .ensures) (c .before .if2 .left)) at (masks-passed (memberCount (c .before .before .before .before .before .before .before .before .args .state .now)) (c .before .before .before .before .before .before .before .before .args .round) (c .before .before .before .before .before .before .before .before .args .source) (c .before .before .before .before .before .before .before .before .args .state .now) (c .before .before .before .before .before .before .before .before .args .body .now) (c .before .before .before .before .before .before .before .before .pre .2) (c .before .before .before .before .before .before .before .before .pre .4) (c .before .before .before .before .before .before .before .before .pre .5) (c .before .before .before .before .before .before .before .before .pre .6) (c .before .before .before .before .before .before .before .before .pre .7) (rw e at (passed (c .before .before .before .before .before .masks-admitted .ensures) (c .before .before .before .before .if1 .left))))
+returns-3 c =
+    let else2 : tie.Else2 = search in
+    let after-strong-held : tie.After-strong-held = search in
+    let else1 : tie.Else1 = search in
+    let after-masks-admitted : tie.After-masks-admitted = search in
+    let start : tie.Start = search in
+    let e : start .args .terms .n ≡ memberCount (start .args .state .now) = ap (λ (t : Terms). t .n) (start .pre .1) in
+    rw e at (c .weak-ok .ensures) ∙ rw (passed (after-strong-held .strong-held .ensures) (else2 .if2 .left)) at (masks-passed (memberCount (start .args .state .now)) (start .args .round) (start .args .source) (start .args .state .now) (start .args .body .now) (start .pre .2) (start .pre .4) (start .pre .5) (start .pre .6) (start .pre .7) (rw e at (passed (after-masks-admitted .masks-admitted .ensures) (else1 .if1 .left))))
 
 pub record-ok-spec : {M : Type 1} → statement M
 record-ok-spec =

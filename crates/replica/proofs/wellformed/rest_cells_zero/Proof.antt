@@ -34,7 +34,10 @@ is-zero-requires : tie.Need-is-zero-requires
 is-zero-requires c κs = search needs
 
 returns : tie.Need-returns
-returns c = rw (c .before .before .if1 .taken) (c .is-zero .ensures ∙ words-part (c .before .before .before .before .args .state .now) (c .before .before .before .before .args .start + 40) (c .before .before .before .before .args .start + 160) (c .before .before .before .before .args .start + 40) 120 (omega arith) (omega arith) (omega arith))
+returns c =
+    let then1 : tie.Then1 = search in
+    let start : tie.Start = search in
+    rw (then1 .if1 .taken) (c .is-zero .ensures ∙ words-part (start .args .state .now) (start .args .start + 40) (start .args .start + 160) (start .args .start + 40) 120 (omega arith) (omega arith) (omega arith))
 
 mul-rest-2 : tie.Need-mul-rest-2
 mul-rest-2 c = search needs
@@ -58,7 +61,10 @@ is-zero-requires-2 : tie.Need-is-zero-requires-2
 is-zero-requires-2 c κs = search needs
 
 returns-2 : tie.Need-returns-2
-returns-2 c = rw (c .before .before .if2 .taken) (c .is-zero2 .ensures ∙ words-part (c .before .before .before .before .before .args .state .now) (c .before .before .before .before .before .args .start + 70) (c .before .before .before .before .before .args .start + 160) (c .before .before .before .before .before .args .start + 70) 90 (omega arith) (omega arith) (omega arith))
+returns-2 c =
+    let then2 : tie.Then2 = search in
+    let start : tie.Start = search in
+    rw (then2 .if2 .taken) (c .is-zero2 .ensures ∙ words-part (start .args .state .now) (start .args .start + 70) (start .args .start + 160) (start .args .start + 70) 90 (omega arith) (omega arith) (omega arith))
 
 mul-rest-3 : tie.Need-mul-rest-3
 mul-rest-3 c = search needs
@@ -82,7 +88,10 @@ is-zero-requires-3 : tie.Need-is-zero-requires-3
 is-zero-requires-3 c κs = search needs
 
 returns-3 : tie.Need-returns-3
-returns-3 c = rw (c .before .before .if3 .taken) (c .is-zero3 .ensures ∙ words-part (c .before .before .before .before .before .before .args .state .now) (c .before .before .before .before .before .before .args .start + 100) (c .before .before .before .before .before .before .args .start + 160) (c .before .before .before .before .before .before .args .start + 100) 60 (omega arith) (omega arith) (omega arith))
+returns-3 c =
+    let then3 : tie.Then3 = search in
+    let start : tie.Start = search in
+    rw (then3 .if3 .taken) (c .is-zero3 .ensures ∙ words-part (start .args .state .now) (start .args .start + 100) (start .args .start + 160) (start .args .start + 100) 60 (omega arith) (omega arith) (omega arith))
 
 mul-rest-4 : tie.Need-mul-rest-4
 mul-rest-4 c = search needs
@@ -106,11 +115,19 @@ is-zero-requires-4 : tie.Need-is-zero-requires-4
 is-zero-requires-4 c κs = search needs
 
 returns-4 : tie.Need-returns-4
-returns-4 c = rw (c .before .before .if4 .taken) (c .is-zero4 .ensures ∙ words-part (c .before .before .before .before .before .before .before .args .state .now) (c .before .before .before .before .before .before .before .args .start + 130) (c .before .before .before .before .before .before .before .args .start + 160) (c .before .before .before .before .before .before .before .args .start + 130) 30 (omega arith) (omega arith) (omega arith))
+returns-4 c =
+    let then4 : tie.Then4 = search in
+    let start : tie.Start = search in
+    rw (then4 .if4 .taken) (c .is-zero4 .ensures ∙ words-part (start .args .state .now) (start .args .start + 130) (start .args .start + 160) (start .args .start + 130) 30 (omega arith) (omega arith) (omega arith))
 
 returns-5 : tie.Need-returns-5
-returns-5 c = let g = legal-range _ (c .before .before .before .before .before .pre .0) in
-    let e : c .before .before .before .before .before .args .n ≡ 16 = omega (arith, g .low, g .high, g .thirds, c .before .before .before .if1 .left, c .before .before .if2 .left, c .before .if3 .left, c .if4 .left) in
+returns-5 c =
+    let else3 : tie.Else3 = search in
+    let else2 : tie.Else2 = search in
+    let else1 : tie.Else1 = search in
+    let start : tie.Start = search in
+    let g = legal-range _ (start .pre .0) in
+    let e : start .args .n ≡ 16 = omega (arith, g .low, g .high, g .thirds, else1 .if1 .left, else2 .if2 .left, else3 .if3 .left, c .if4 .left) in
     rw e (sym (all-none _))
 
 pub rest-cells-zero-spec : {M : Type 1} → statement M

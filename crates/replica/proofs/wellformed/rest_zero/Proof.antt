@@ -44,7 +44,11 @@ is-zero-requires c κs = search needs
 
 returns : tie.Need-returns
 unfolding restZero
-returns c = simp (failed (c .before .is-zero .ensures ∙ rest-part (c .before .before .before .before .before .before .before .before .args .state .now) 200 32 _ (200 + c .before .before .before .before .before .wide .result) 232 (c .before .before .before .before .before .before .before .before .pre .1) (omega arith) (ap (λ (x : ℕ). 200 + x) (c .before .before .before .before .before .wide .ensures)) refl) (c .if1 .taken))
+returns c =
+    let after-is-zero : tie.After-is-zero = search in
+    let after-wide : tie.After-wide = search in
+    let start : tie.Start = search in
+    simp (failed (after-is-zero .is-zero .ensures ∙ rest-part (start .args .state .now) 200 32 _ (200 + after-wide .wide .result) 232 (start .pre .1) (omega arith) (ap (λ (x : ℕ). 200 + x) (after-wide .wide .ensures)) refl) (c .if1 .taken))
 
 mul-is-zero-2 : tie.Need-mul-is-zero-2
 mul-is-zero-2 c = search needs
@@ -63,7 +67,13 @@ is-zero-requires-2 c κs = search needs
 
 returns-2 : tie.Need-returns-2
 unfolding restZero
-returns-2 c = simp (passed (c .before .before .before .is-zero .ensures ∙ rest-part (c .before .before .before .before .before .before .before .before .before .before .args .state .now) 200 32 _ (200 + c .before .before .before .before .before .before .before .wide .result) 232 (c .before .before .before .before .before .before .before .before .before .before .pre .1) (omega arith) (ap (λ (x : ℕ). 200 + x) (c .before .before .before .before .before .before .before .wide .ensures)) refl) (c .before .before .if1 .left)) (c .is-zero2 .ensures ∙ rest-part (c .before .before .before .before .before .before .before .before .before .before .args .state .now) 232 512 _ (232 + c .before .before .before .before .before .wide2 .result) 744 (c .before .before .before .before .before .before .before .before .before .before .pre .2) (omega arith) (ap (λ (x : ℕ). 232 + x) (c .before .before .before .before .before .wide2 .ensures)) refl)
+returns-2 c =
+    let else1 : tie.Else1 = search in
+    let after-is-zero : tie.After-is-zero = search in
+    let after-wide2 : tie.After-wide2 = search in
+    let after-wide : tie.After-wide = search in
+    let start : tie.Start = search in
+    simp (passed (after-is-zero .is-zero .ensures ∙ rest-part (start .args .state .now) 200 32 _ (200 + after-wide .wide .result) 232 (start .pre .1) (omega arith) (ap (λ (x : ℕ). 200 + x) (after-wide .wide .ensures)) refl) (else1 .if1 .left)) (c .is-zero2 .ensures ∙ rest-part (start .args .state .now) 232 512 _ (232 + after-wide2 .wide2 .result) 744 (start .pre .2) (omega arith) (ap (λ (x : ℕ). 232 + x) (after-wide2 .wide2 .ensures)) refl)
 
 pub rest-zero-spec : {M : Type 1} → statement M
 rest-zero-spec =

@@ -44,24 +44,40 @@ is-zero-requires : tie.Need-is-zero-requires
 is-zero-requires c κs = search needs
 
 returns : tie.Need-returns
-returns c = c .is-zero .ensures ∙ words-part (c .before .before .before .before .before .before .before .args .state .now) _ _ (cellAt (c .before .before .before .before .before .before .before .args .round) 0) 160 (c .before .before .before .before .cell-at .ensures) (omega (arith, c .before .before .before .before .cell-at .ensures)) (omega arith) ∙ round-empty (c .before .before .before .before .before .before .before .args .state .now) (c .before .before .before .before .before .before .before .args .round) (sym (c .before .before .before .held-mask .ensures) ∙ c .before .before .if1 .taken)
+returns c =
+    let then1 : tie.Then1 = search in
+    let after-held-mask : tie.After-held-mask = search in
+    let after-cell-at : tie.After-cell-at = search in
+    let start : tie.Start = search in
+    c .is-zero .ensures ∙ words-part (start .args .state .now) _ _ (cellAt (start .args .round) 0) 160 (after-cell-at .cell-at .ensures) (omega (arith, after-cell-at .cell-at .ensures)) (omega arith) ∙ round-empty (start .args .state .now) (start .args .round) (sym (after-held-mask .held-mask .ensures) ∙ then1 .if1 .taken)
 
 members-ok-requires : tie.Need-members-ok-requires
 members-ok-requires c κs = search needs
 
 returns-2 : tie.Need-returns-2
-returns-2 c = let g = legal-range _ (c .before .before .before .before .before .before .before .pre .1) in
-    sym (sym (round-rest (c .before .before .before .before .before .before .before .args .state .now) (c .before .before .before .before .before .before .before .args .round) (memberCount (c .before .before .before .before .before .before .before .args .state .now)) (g .high) (masks-small (c .before .before .before .before .before .before .before .args .state .now) (c .before .before .before .before .before .before .before .args .round) (round-elim (masksWithin (c .before .before .before .before .before .before .before .args .state .now)) (c .before .before .before .before .before .before .before .pre .2) (c .before .before .before .before .before .before .before .args .round) (c .before .before .before .before .before .before .before .pre .3) (c .before .before .before .before .before .before .before .pre .4)) .held)) ∙ and-fails-left _ (failed (c .before .members-ok .ensures) (c .if2 .taken)))
+returns-2 c =
+    let after-members-ok : tie.After-members-ok = search in
+    let start : tie.Start = search in
+    let g = legal-range _ (start .pre .1) in
+    sym (sym (round-rest (start .args .state .now) (start .args .round) (memberCount (start .args .state .now)) (g .high) (masks-small (start .args .state .now) (start .args .round) (round-elim (masksWithin (start .args .state .now)) (start .pre .2) (start .args .round) (start .pre .3) (start .pre .4)) .held)) ∙ and-fails-left _ (failed (after-members-ok .members-ok .ensures) (c .if2 .taken)))
 
 rest-cells-zero-requires : tie.Need-rest-cells-zero-requires
-rest-cells-zero-requires c κs = (c .before .before .before .before .before .before .before .pre .1, omega (arith, c .before .before .before .before .cell-at .ensures), omega (arith, c .before .before .before .before .cell-at .ensures))
+rest-cells-zero-requires c κs =
+    let after-cell-at : tie.After-cell-at = search in
+    let start : tie.Start = search in
+    (start .pre .1, omega (arith, after-cell-at .cell-at .ensures), omega (arith, after-cell-at .cell-at .ensures))
 
 returns-3 : tie.Need-returns-3
-returns-3 c = let g = legal-range _ (c .before .before .before .before .before .before .before .before .pre .1) in
-    let n = memberCount (c .before .before .before .before .before .before .before .before .args .state .now) in
-    let place : c .before .before .before .before .before .cell-at .result + 10 * n ≡ cellAt (c .before .before .before .before .before .before .before .before .args .round) n = omega (arith, c .before .before .before .before .before .cell-at .ensures) in
-    c .rest-cells-zero .ensures ∙ ap (λ (a : ℕ). all (10 * (16 - n)) (λ i. eqb (getD (c .before .before .before .before .before .before .before .before .args .state .now) (a + i) 0) 0)) place
-    ∙ rw (passed (c .before .before .members-ok .ensures) (c .before .if2 .left)) at (round-rest (c .before .before .before .before .before .before .before .before .args .state .now) (c .before .before .before .before .before .before .before .before .args .round) n (g .high) (masks-small (c .before .before .before .before .before .before .before .before .args .state .now) (c .before .before .before .before .before .before .before .before .args .round) (round-elim (masksWithin (c .before .before .before .before .before .before .before .before .args .state .now)) (c .before .before .before .before .before .before .before .before .pre .2) (c .before .before .before .before .before .before .before .before .args .round) (c .before .before .before .before .before .before .before .before .pre .3) (c .before .before .before .before .before .before .before .before .pre .4)) .held))
+returns-3 c =
+    let else2 : tie.Else2 = search in
+    let after-members-ok : tie.After-members-ok = search in
+    let after-cell-at : tie.After-cell-at = search in
+    let start : tie.Start = search in
+    let g = legal-range _ (start .pre .1) in
+    let n = memberCount (start .args .state .now) in
+    let place : after-cell-at .cell-at .result + 10 * n ≡ cellAt (start .args .round) n = omega (arith, after-cell-at .cell-at .ensures) in
+    c .rest-cells-zero .ensures ∙ ap (λ (a : ℕ). all (10 * (16 - n)) (λ i. eqb (getD (start .args .state .now) (a + i) 0) 0)) place
+    ∙ rw (passed (after-members-ok .members-ok .ensures) (else2 .if2 .left)) at (round-rest (start .args .state .now) (start .args .round) n (g .high) (masks-small (start .args .state .now) (start .args .round) (round-elim (masksWithin (start .args .state .now)) (start .pre .2) (start .args .round) (start .pre .3) (start .pre .4)) .held))
 
 pub round-cells-ok-spec : {M : Type 1} → statement M
 round-cells-ok-spec =

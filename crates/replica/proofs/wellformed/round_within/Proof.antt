@@ -71,7 +71,9 @@ is-within-requires c κs = search needs
 
 returns : tie.Need-returns
 unfolding masksWithin
-returns c = c .is-within .ensures ∙ rw (c .before .before .before .before .before .before .before .before .masks-at .ensures) (join-within _ _ _ _ _ _ _)
+returns c =
+    let after-masks-at : tie.After-masks-at = search in
+    c .is-within .ensures ∙ rw (after-masks-at .masks-at .ensures) (join-within _ _ _ _ _ _ _)
 
 pub round-within-spec : {M : Type 1} → statement M
 round-within-spec =

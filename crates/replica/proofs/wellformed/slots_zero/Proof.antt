@@ -33,7 +33,10 @@ shared-slice-read-if1 c = search needs
 
 returns : tie.Need-returns Inv-loop μ-loop
 unfolding weakOf
-returns c = sym (all-stop 5 (λ k. ltb k (c .before .before .before .before .args .count) || eqb (weakOf (c .before .before .before .before .args .body .now) k) 0) (c .before .before .before .loop .i) (omega arith) (rw (le-ltb (c .before .before .before .loop .i) (c .before .before .before .before .args .count) (omega arith)) (ne-eqb _ _ (c .if1 .taken))))
+returns c =
+    let at-loop : tie.At-loop Inv-loop μ-loop = search in
+    let start : tie.Start Inv-loop μ-loop = search in
+    sym (all-stop 5 (λ k. ltb k (start .args .count) || eqb (weakOf (start .args .body .now) k) 0) (at-loop .loop .i) (omega arith) (rw (le-ltb (at-loop .loop .i) (start .args .count) (omega arith)) (ne-eqb _ _ (c .if1 .taken))))
 
 add-i : tie.Need-add-i Inv-loop μ-loop
 add-i c = search needs
@@ -43,10 +46,15 @@ loop-less c = search needs
 
 loop-again : tie.Need-loop-again Inv-loop μ-loop
 unfolding weakOf
-loop-again c = (omega arith, omega arith, all-more _ _ (c .before .before .before .loop .inv .2) (or-right (ltb (c .before .before .before .loop .i) (c .before .before .before .before .args .count)) (eq-eqb _ _ (c .if1 .left))))
+loop-again c =
+    let at-loop : tie.At-loop Inv-loop μ-loop = search in
+    let start : tie.Start Inv-loop μ-loop = search in
+    (omega arith, omega arith, all-more _ _ (at-loop .loop .inv .2) (or-right (ltb (at-loop .loop .i) (start .args .count)) (eq-eqb _ _ (c .if1 .left))))
 
 returns-2 : tie.Need-returns-2 Inv-loop μ-loop
-returns-2 c = let e : c .before .loop .i ≡ 5 = omega arith in sym (rw e at (c .before .loop .inv .2))
+returns-2 c =
+    let at-loop : tie.At-loop Inv-loop μ-loop = search in
+    let e : at-loop .loop .i ≡ 5 = omega arith in sym (rw e at (at-loop .loop .inv .2))
 
 pub slots-zero-spec : {M : Type 1} → statement M
 slots-zero-spec =

@@ -15,7 +15,9 @@ held-mask-requires : tie.Need-held-mask-requires
 held-mask-requires c κs = search needs
 
 returns-2 : tie.Need-returns-2
-returns-2 c = rw (le-ltb _ _ (c .before .if1 .left), c .held-mask .ensures)
+returns-2 c =
+    let else1 : tie.Else1 = search in
+    rw (le-ltb _ _ (else1 .if1 .left), c .held-mask .ensures)
 
 pub strong-held-spec : {M : Type 1} → statement M
 strong-held-spec = tie.close (tie.spec returns sub-held-mask held-mask-requires returns-2)

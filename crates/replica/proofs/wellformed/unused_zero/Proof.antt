@@ -46,11 +46,16 @@ shared-slice-read-result c = search needs
 
 returns : tie.Need-returns
 unfolding weakOf
-returns c = rw (c .before .if1 .taken) (none-used (c .before .before .before .before .before .before .before .args .body .now))
+returns c =
+    let then1 : tie.Then1 = search in
+    let start : tie.Start = search in
+    rw (then1 .if1 .taken) (none-used (start .args .body .now))
 
 returns-2 : tie.Need-returns-2
 unfolding weakOf
-returns-2 c = rw (c .if2 .taken) (one-used (c .before .before .before .before .before .before .before .args .body .now))
+returns-2 c =
+    let start : tie.Start = search in
+    rw (c .if2 .taken) (one-used (start .args .body .now))
 
 slots-zero-requires : tie.Need-slots-zero-requires
 slots-zero-requires c κs = search needs

@@ -34,7 +34,12 @@ heard-mask-requires : tie.Need-heard-mask-requires Inv-loop μ-loop
 heard-mask-requires c κs = search needs
 
 returns : tie.Need-returns Inv-loop μ-loop
-returns c = sym (all-stop 32 (λ k. subset (votesMask (c .before .before .before .before .before .before .args .state .now) (k + 1)) (heardMask (c .before .before .before .before .before .before .args .state .now) (k + 1))) (c .before .before .before .before .loop .i) (omega arith) (ne-eqb _ _ (rw (c .before .before .votes-mask .ensures, c .before .heard-mask .ensures) at (c .if1 .taken))))
+returns c =
+    let after-heard-mask : tie.After-heard-mask Inv-loop μ-loop = search in
+    let after-votes-mask : tie.After-votes-mask Inv-loop μ-loop = search in
+    let at-loop : tie.At-loop Inv-loop μ-loop = search in
+    let start : tie.Start Inv-loop μ-loop = search in
+    sym (all-stop 32 (λ k. subset (votesMask (start .args .state .now) (k + 1)) (heardMask (start .args .state .now) (k + 1))) (at-loop .loop .i) (omega arith) (ne-eqb _ _ (rw (after-votes-mask .votes-mask .ensures, after-heard-mask .heard-mask .ensures) at (c .if1 .taken))))
 
 add-i : tie.Need-add-i Inv-loop μ-loop
 add-i c = search needs
@@ -43,10 +48,16 @@ loop-less : tie.Need-loop-less Inv-loop μ-loop
 loop-less c = search needs
 
 loop-again : tie.Need-loop-again Inv-loop μ-loop
-loop-again c = (omega arith, all-more _ _ (c .before .before .before .before .loop .inv .1) (eq-eqb _ _ (rw (c .before .before .votes-mask .ensures, c .before .heard-mask .ensures) at (c .if1 .left))))
+loop-again c =
+    let after-heard-mask : tie.After-heard-mask Inv-loop μ-loop = search in
+    let after-votes-mask : tie.After-votes-mask Inv-loop μ-loop = search in
+    let at-loop : tie.At-loop Inv-loop μ-loop = search in
+    (omega arith, all-more _ _ (at-loop .loop .inv .1) (eq-eqb _ _ (rw (after-votes-mask .votes-mask .ensures, after-heard-mask .heard-mask .ensures) at (c .if1 .left))))
 
 returns-2 : tie.Need-returns-2 Inv-loop μ-loop
-returns-2 c = let e : c .before .loop .i ≡ 32 = omega arith in sym (rw e at (c .before .loop .inv .1))
+returns-2 c =
+    let at-loop : tie.At-loop Inv-loop μ-loop = search in
+    let e : at-loop .loop .i ≡ 32 = omega arith in sym (rw e at (at-loop .loop .inv .1))
 
 pub votes-heard-spec : {M : Type 1} → statement M
 votes-heard-spec =

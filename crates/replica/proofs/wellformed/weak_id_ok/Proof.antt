@@ -17,7 +17,9 @@ mul-if2 : tie.Need-mul-if2
 mul-if2 c = search needs
 
 returns-2 : tie.Need-returns-2
-returns-2 c = sym (weak-beyond (c .before .before .before .args .state .now) (c .before .before .before .args .n) (c .before .before .before .args .round) (c .before .before .before .args .last) (c .before .before .before .args .x) (c .before .before .before .pre .3) (c .if2 .taken))
+returns-2 c =
+    let start : tie.Start = search in
+    sym (weak-beyond (start .args .state .now) (start .args .n) (start .args .round) (start .args .last) (start .args .x) (start .pre .3) (c .if2 .taken))
 
 held-mask-requires : tie.Need-held-mask-requires
 held-mask-requires c κs = search needs
@@ -26,7 +28,12 @@ has-requires : tie.Need-has-requires
 has-requires c κs = search needs
 
 returns-3 : tie.Need-returns-3
-returns-3 c = rw (c .before .held-mask .ensures) at (c .has .ensures) ∙ weak-held (c .before .before .before .before .before .args .state .now) (c .before .before .before .before .before .args .n) (c .before .before .before .before .before .args .round) (c .before .before .before .before .before .args .last) (c .before .before .before .before .before .args .x) (c .before .before .before .before .before .pre .1) (c .before .before .before .before .before .pre .2) (c .before .before .before .before .before .pre .4) (c .before .before .before .before .before .pre .5) (c .before .before .before .if1 .left) (c .before .before .if2 .left)
+returns-3 c =
+    let after-held-mask : tie.After-held-mask = search in
+    let else2 : tie.Else2 = search in
+    let else1 : tie.Else1 = search in
+    let start : tie.Start = search in
+    rw (after-held-mask .held-mask .ensures) at (c .has .ensures) ∙ weak-held (start .args .state .now) (start .args .n) (start .args .round) (start .args .last) (start .args .x) (start .pre .1) (start .pre .2) (start .pre .4) (start .pre .5) (else1 .if1 .left) (else2 .if2 .left)
 
 pub weak-id-ok-spec : {M : Type 1} → statement M
 weak-id-ok-spec =

@@ -34,11 +34,19 @@ shared-slice-read-x : tie.Need-shared-slice-read-x Inv-loop μ-loop
 shared-slice-read-x c = search needs
 
 weak-id-ok-requires : tie.Need-weak-id-ok-requires Inv-loop μ-loop
-weak-id-ok-requires c κs = (c .before .before .before .before .before .pre .0, c .before .before .before .before .before .pre .1, c .before .before .before .before .before .pre .2, c .before .before .before .before .before .pre .3, c .before .before .before .before .before .pre .4, c .before .before .loop .inv .1)
+weak-id-ok-requires c κs =
+    let at-loop : tie.At-loop Inv-loop μ-loop = search in
+    let start : tie.Start Inv-loop μ-loop = search in
+    (start .pre .0, start .pre .1, start .pre .2, start .pre .3, start .pre .4, at-loop .loop .inv .1)
 
 returns : tie.Need-returns Inv-loop μ-loop
 unfolding weakOf
-returns c = sym (all-stop _ _ (c .before .before .before .before .loop .i) (c .before .before .before .loop-test .taken) (sym (weak-slot (c .before .before .before .before .before .before .before .args .state .now) (c .before .before .before .before .before .before .before .args .n) (c .before .before .before .before .before .before .before .args .round) (c .before .before .before .before .before .before .before .args .body .now) (c .before .before .before .before .loop .i) (c .before .before .before .before .loop .last) _ refl (c .before .before .before .before .loop .inv .2) (c .before .before .before .before .loop .inv .3)) ∙ failed (c .before .weak-id-ok .ensures) (c .if1 .taken)))
+returns c =
+    let after-weak-id-ok : tie.After-weak-id-ok Inv-loop μ-loop = search in
+    let in-loop : tie.In-loop Inv-loop μ-loop = search in
+    let at-loop : tie.At-loop Inv-loop μ-loop = search in
+    let start : tie.Start Inv-loop μ-loop = search in
+    sym (all-stop _ _ (at-loop .loop .i) (in-loop .loop-test .taken) (sym (weak-slot (start .args .state .now) (start .args .n) (start .args .round) (start .args .body .now) (at-loop .loop .i) (at-loop .loop .last) _ refl (at-loop .loop .inv .2) (at-loop .loop .inv .3)) ∙ failed (after-weak-id-ok .weak-id-ok .ensures) (c .if1 .taken)))
 
 add-i : tie.Need-add-i Inv-loop μ-loop
 add-i c = search needs
@@ -48,17 +56,24 @@ loop-less c = search needs
 
 loop-again : tie.Need-loop-again Inv-loop μ-loop
 unfolding weakOf
-loop-again c = let y = passed (c .before .weak-id-ok .ensures) (c .if1 .left) in
-    let k : c .before .before .before .before .loop .i ≡ c .before .before .before .before .loop .i + 1 - 1 = omega arith in (
+loop-again c =
+    let after-weak-id-ok : tie.After-weak-id-ok Inv-loop μ-loop = search in
+    let at-loop : tie.At-loop Inv-loop μ-loop = search in
+    let start : tie.Start Inv-loop μ-loop = search in
+    let y = passed (after-weak-id-ok .weak-id-ok .ensures) (c .if1 .left) in
+    let k : at-loop .loop .i ≡ at-loop .loop .i + 1 - 1 = omega arith in (
       omega arith,
-      omega (arith, c .before .before .before .before .loop .inv .1, weak-above (c .before .before .before .before .before .before .before .args .state .now) (c .before .before .before .before .before .before .before .args .n) (c .before .before .before .before .before .before .before .args .round) (c .before .before .before .before .loop .last) (getD (c .before .before .before .before .before .before .before .args .body .now) (5 + c .before .before .before .before .loop .i) 0) y),
+      omega (arith, at-loop .loop .inv .1, weak-above (start .args .state .now) (start .args .n) (start .args .round) (at-loop .loop .last) (getD (start .args .body .now) (5 + at-loop .loop .i) 0) y),
       λ h. absurd (omega arith),
-      λ h. ap (weakOf (c .before .before .before .before .before .before .before .args .body .now)) k,
-      all-more _ _ (c .before .before .before .before .loop .inv .4) (sym (weak-slot (c .before .before .before .before .before .before .before .args .state .now) (c .before .before .before .before .before .before .before .args .n) (c .before .before .before .before .before .before .before .args .round) (c .before .before .before .before .before .before .before .args .body .now) (c .before .before .before .before .loop .i) (c .before .before .before .before .loop .last) _ refl (c .before .before .before .before .loop .inv .2) (c .before .before .before .before .loop .inv .3)) ∙ y),
+      λ h. ap (weakOf (start .args .body .now)) k,
+      all-more _ _ (at-loop .loop .inv .4) (sym (weak-slot (start .args .state .now) (start .args .n) (start .args .round) (start .args .body .now) (at-loop .loop .i) (at-loop .loop .last) _ refl (at-loop .loop .inv .2) (at-loop .loop .inv .3)) ∙ y),
     )
 
 returns-2 : tie.Need-returns-2 Inv-loop μ-loop
-returns-2 c = let e : c .before .loop .i ≡ c .before .before .before .before .args .count = omega arith in sym (rw e at (c .before .loop .inv .4))
+returns-2 c =
+    let at-loop : tie.At-loop Inv-loop μ-loop = search in
+    let start : tie.Start Inv-loop μ-loop = search in
+    let e : at-loop .loop .i ≡ start .args .count = omega arith in sym (rw e at (at-loop .loop .inv .4))
 
 pub weak-ids-ok-spec : {M : Type 1} → statement M
 weak-ids-ok-spec =

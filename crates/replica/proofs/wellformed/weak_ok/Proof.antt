@@ -20,7 +20,10 @@ shared-slice-read-if1 c = search needs
 
 returns : tie.Need-returns
 unfolding weakCountOf
-returns c = sym (and-fails-left _ (weak-many (c .before .before .before .before .before .args .n) (c .before .before .before .before .before .args .round) (c .before .before .before .before .before .args .body .now) (rw (c .before .before .faulty-of .ensures) at (c .if1 .taken))))
+returns c =
+    let after-faulty-of : tie.After-faulty-of = search in
+    let start : tie.Start = search in
+    sym (and-fails-left _ (weak-many (start .args .n) (start .args .round) (start .args .body .now) (rw (after-faulty-of .faulty-of .ensures) at (c .if1 .taken))))
 
 shared-slice-read-wide : tie.Need-shared-slice-read-wide
 shared-slice-read-wide c = search needs
@@ -30,22 +33,44 @@ wide-requires c κs = search needs
 
 weak-ids-ok-requires : tie.Need-weak-ids-ok-requires
 unfolding weakCountOf
-weak-ids-ok-requires c κs = let g = legal-range _ (c .before .before .before .before .before .before .before .pre .2) in (c .before .before .before .before .before .before .before .pre .0, c .before .before .before .before .before .before .before .pre .1, c .before .before .before .before .before .before .before .pre .3, c .before .before .before .before .before .before .before .pre .4, c .before .before .before .before .before .before .before .pre .5, c .before .before .before .before .before .before .before .pre .6, omega (arith, c .wide .ensures, c .before .before .before .before .faulty-of .ensures, c .before .before .if1 .left))
+weak-ids-ok-requires c κs =
+    let else1 : tie.Else1 = search in
+    let after-faulty-of : tie.After-faulty-of = search in
+    let start : tie.Start = search in
+    let g = legal-range _ (start .pre .2) in (start .pre .0, start .pre .1, start .pre .3, start .pre .4, start .pre .5, start .pre .6, omega (arith, c .wide .ensures, after-faulty-of .faulty-of .ensures, else1 .if1 .left))
 
 returns-2 : tie.Need-returns-2
 unfolding weakCountOf
-returns-2 c = let g = legal-range _ (c .before .before .before .before .before .before .before .before .before .pre .2) in
-    let few : weakCountOf (c .before .before .before .before .before .before .before .before .before .args .body .now) ≤ faulty (c .before .before .before .before .before .before .before .before .before .args .n) = omega (arith, c .before .before .before .before .before .before .faulty-of .ensures, c .before .before .before .before .if1 .left) in
-    sym (sym (weak-all (c .before .before .before .before .before .before .before .before .before .args .state .now) (c .before .before .before .before .before .before .before .before .before .args .n) (c .before .before .before .before .before .before .before .before .before .args .round) (c .before .before .before .before .before .before .before .before .before .args .body .now) (omega arith) few) ∙ and-fails-left _ (rw (c .before .before .wide .ensures) at (failed (c .before .weak-ids-ok .ensures) (c .if2 .taken))))
+returns-2 c =
+    let after-weak-ids-ok : tie.After-weak-ids-ok = search in
+    let after-wide : tie.After-wide = search in
+    let else1 : tie.Else1 = search in
+    let after-faulty-of : tie.After-faulty-of = search in
+    let start : tie.Start = search in
+    let g = legal-range _ (start .pre .2) in
+    let few : weakCountOf (start .args .body .now) ≤ faulty (start .args .n) = omega (arith, after-faulty-of .faulty-of .ensures, else1 .if1 .left) in
+    sym (sym (weak-all (start .args .state .now) (start .args .n) (start .args .round) (start .args .body .now) (omega arith) few) ∙ and-fails-left _ (rw (after-wide .wide .ensures) at (failed (after-weak-ids-ok .weak-ids-ok .ensures) (c .if2 .taken))))
 
 unused-zero-requires : tie.Need-unused-zero-requires
-unused-zero-requires c κs = let g = legal-range _ (c .before .before .before .before .before .before .before .before .before .pre .2) in (c .before .before .before .before .before .before .before .before .before .pre .6, omega (arith, c .before .before .wide .ensures, c .before .before .before .before .before .before .faulty-of .ensures, c .before .before .before .before .if1 .left))
+unused-zero-requires c κs =
+    let after-wide : tie.After-wide = search in
+    let else1 : tie.Else1 = search in
+    let after-faulty-of : tie.After-faulty-of = search in
+    let start : tie.Start = search in
+    let g = legal-range _ (start .pre .2) in (start .pre .6, omega (arith, after-wide .wide .ensures, after-faulty-of .faulty-of .ensures, else1 .if1 .left))
 
 returns-3 : tie.Need-returns-3
 unfolding weakCountOf
-returns-3 c = let g = legal-range _ (c .before .before .before .before .before .before .before .before .before .before .pre .2) in
-    let few : weakCountOf (c .before .before .before .before .before .before .before .before .before .before .args .body .now) ≤ faulty (c .before .before .before .before .before .before .before .before .before .before .args .n) = omega (arith, c .before .before .before .before .before .before .before .faulty-of .ensures, c .before .before .before .before .before .if1 .left) in
-    rw (c .before .before .before .wide .ensures) at (c .unused-zero .ensures) ∙ sym (rw (rw (c .before .before .before .wide .ensures) at (passed (c .before .before .weak-ids-ok .ensures) (c .before .if2 .left))) at (sym (weak-all (c .before .before .before .before .before .before .before .before .before .before .args .state .now) (c .before .before .before .before .before .before .before .before .before .before .args .n) (c .before .before .before .before .before .before .before .before .before .before .args .round) (c .before .before .before .before .before .before .before .before .before .before .args .body .now) (omega arith) few)))
+returns-3 c =
+    let else2 : tie.Else2 = search in
+    let after-weak-ids-ok : tie.After-weak-ids-ok = search in
+    let after-wide : tie.After-wide = search in
+    let else1 : tie.Else1 = search in
+    let after-faulty-of : tie.After-faulty-of = search in
+    let start : tie.Start = search in
+    let g = legal-range _ (start .pre .2) in
+    let few : weakCountOf (start .args .body .now) ≤ faulty (start .args .n) = omega (arith, after-faulty-of .faulty-of .ensures, else1 .if1 .left) in
+    rw (after-wide .wide .ensures) at (c .unused-zero .ensures) ∙ sym (rw (rw (after-wide .wide .ensures) at (passed (after-weak-ids-ok .weak-ids-ok .ensures) (else2 .if2 .left))) at (sym (weak-all (start .args .state .now) (start .args .n) (start .args .round) (start .args .body .now) (omega arith) few)))
 
 pub weak-ok-spec : {M : Type 1} → statement M
 weak-ok-spec =

@@ -18,7 +18,10 @@ other-requires : tie.Need-other-requires
 other-requires c κs = search needs
 
 returns : tie.Need-returns
-returns c = c .other .ensures ∙ no-line (c .before .before .before .args .line .now) (c .before .if1 .taken)
+returns c =
+    let then1 : tie.Then1 = search in
+    let start : tie.Start = search in
+    c .other .ensures ∙ no-line (start .args .line .now) (then1 .if1 .taken)
 
 shared-slice-read-kind-of : tie.Need-shared-slice-read-kind-of
 shared-slice-read-kind-of c = search needs
@@ -33,21 +36,42 @@ other-requires-2 : tie.Need-other-requires-2
 other-requires-2 c κs = search needs
 
 returns-2 : tie.Need-returns-2
-returns-2 c = c .other2 .ensures ∙ no-kind (c .before .before .before .kind-of .result) (drop 1 (c .before .before .before .before .before .before .before .args .line .now)) (sym (c .before .before .word-count .ensures) ∙ c .before .if2 .taken) ∙ ap (λ (k : Kind). commandFrom k (drop 1 (c .before .before .before .before .before .before .before .args .line .now))) (c .before .before .before .kind-of .ensures)
+returns-2 c =
+    let then2 : tie.Then2 = search in
+    let after-word-count : tie.After-word-count = search in
+    let after-kind-of : tie.After-kind-of = search in
+    let start : tie.Start = search in
+    c .other2 .ensures ∙ no-kind (after-kind-of .kind-of .result) (drop 1 (start .args .line .now)) (sym (after-word-count .word-count .ensures) ∙ then2 .if2 .taken) ∙ ap (λ (k : Kind). commandFrom k (drop 1 (start .args .line .now))) (after-kind-of .kind-of .ensures)
 
 read-words-requires : tie.Need-read-words-requires
-read-words-requires c κs = (rw (c .before .word-count .ensures) (few-words (c .before .before .kind-of .result)), omega arith)
+read-words-requires c κs =
+    let after-word-count : tie.After-word-count = search in
+    let after-kind-of : tie.After-kind-of = search in
+    (rw (after-word-count .word-count .ensures) (few-words (after-kind-of .kind-of .result)), omega arith)
 
 other-requires-3 : tie.Need-other-requires-3
 other-requires-3 c κs = search needs
 
 returns-3 : tie.Need-returns-3
-returns-3 c = let e = rw (c .before .before .before .before .before .word-count .ensures) at (c .before .before .before .read-words .ensures) in
-    c .other3 .ensures ∙ no-command (c .before .before .before .before .before .before .kind-of .result) (drop 1 (c .before .before .before .before .before .before .before .before .before .before .args .line .now)) (c .before .before .before .read-words .result) e (c .before .if3 .taken) ∙ ap (λ (k : Kind). commandFrom k (drop 1 (c .before .before .before .before .before .before .before .before .before .before .args .line .now))) (c .before .before .before .before .before .before .kind-of .ensures)
+returns-3 c =
+    let then3 : tie.Then3 = search in
+    let after-read-words : tie.After-read-words = search in
+    let after-word-count : tie.After-word-count = search in
+    let after-kind-of : tie.After-kind-of = search in
+    let start : tie.Start = search in
+    let e = rw (after-word-count .word-count .ensures) at (after-read-words .read-words .ensures) in
+    c .other3 .ensures ∙ no-command (after-kind-of .kind-of .result) (drop 1 (start .args .line .now)) (after-read-words .read-words .result) e (then3 .if3 .taken) ∙ ap (λ (k : Kind). commandFrom k (drop 1 (start .args .line .now))) (after-kind-of .kind-of .ensures)
 
 returns-4 : tie.Need-returns-4
-returns-4 c = let e = rw (c .before .before .before .before .before .word-count .ensures) at (c .before .before .before .read-words .ensures) in
-    a-command (c .before .before .before .before .before .before .kind-of .result) (drop 1 (c .before .before .before .before .before .before .before .before .before .before .args .line .now)) (c .before .before .before .read-words .result) e (λ z. c .before .before .before .before .if2 .left (c .before .before .before .before .before .word-count .ensures ∙ z)) (c .before .if3 .left) ∙ ap (λ (k : Kind). commandFrom k (drop 1 (c .before .before .before .before .before .before .before .before .before .before .args .line .now))) (c .before .before .before .before .before .before .kind-of .ensures)
+returns-4 c =
+    let else3 : tie.Else3 = search in
+    let after-read-words : tie.After-read-words = search in
+    let else2 : tie.Else2 = search in
+    let after-word-count : tie.After-word-count = search in
+    let after-kind-of : tie.After-kind-of = search in
+    let start : tie.Start = search in
+    let e = rw (after-word-count .word-count .ensures) at (after-read-words .read-words .ensures) in
+    a-command (after-kind-of .kind-of .result) (drop 1 (start .args .line .now)) (after-read-words .read-words .result) e (λ z. else2 .if2 .left (after-word-count .word-count .ensures ∙ z)) (else3 .if3 .left) ∙ ap (λ (k : Kind). commandFrom k (drop 1 (start .args .line .now))) (after-kind-of .kind-of .ensures)
 
 pub parse-spec : {M : Type 1} → statement M
 parse-spec =

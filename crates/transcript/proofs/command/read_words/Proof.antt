@@ -27,7 +27,11 @@ no-words-requires : tie.Need-no-words-requires Inv-loop μ-loop
 no-words-requires c κs = search needs
 
 returns : tie.Need-returns Inv-loop μ-loop
-returns c = c .no-words .ensures ∙ scan-no _ _ (c .before .before .before .loop .inv .3 ∙ words-short _ _ (c .before .before .before .before .before .args .count - (c .before .before .before .loop .i + 1)) _ (omega arith) (c .before .if1 .taken))
+returns c =
+    let then1 : tie.Then1 Inv-loop μ-loop = search in
+    let at-loop : tie.At-loop Inv-loop μ-loop = search in
+    let start : tie.Start Inv-loop μ-loop = search in
+    c .no-words .ensures ∙ scan-no _ _ (at-loop .loop .inv .3 ∙ words-short _ _ (start .args .count - (at-loop .loop .i + 1)) _ (omega arith) (then1 .if1 .taken))
 
 shared-slice-read-if2 : tie.Need-shared-slice-read-if2 Inv-loop μ-loop
 shared-slice-read-if2 c = search needs
@@ -36,7 +40,12 @@ no-words-requires-2 : tie.Need-no-words-requires-2 Inv-loop μ-loop
 no-words-requires-2 c κs = search needs
 
 returns-2 : tie.Need-returns-2 Inv-loop μ-loop
-returns-2 c = c .no-words2 .ensures ∙ scan-no _ _ (c .before .before .before .before .before .loop .inv .3 ∙ words-apart _ _ (c .before .before .before .before .before .before .before .args .count - (c .before .before .before .before .before .loop .i + 1)) _ (omega arith) (c .before .before .before .if1 .left) (c .before .if2 .taken))
+returns-2 c =
+    let then2 : tie.Then2 Inv-loop μ-loop = search in
+    let else1 : tie.Else1 Inv-loop μ-loop = search in
+    let at-loop : tie.At-loop Inv-loop μ-loop = search in
+    let start : tie.Start Inv-loop μ-loop = search in
+    c .no-words2 .ensures ∙ scan-no _ _ (at-loop .loop .inv .3 ∙ words-apart _ _ (start .args .count - (at-loop .loop .i + 1)) _ (omega arith) (else1 .if1 .left) (then2 .if2 .taken))
 
 add-start : tie.Need-add-start Inv-loop μ-loop
 add-start c = search needs
@@ -51,7 +60,10 @@ part-numeral-start : tie.Need-part-numeral-start Inv-loop μ-loop
 part-numeral-start c = search needs
 
 part-numeral-end : tie.Need-part-numeral-end Inv-loop μ-loop
-part-numeral-end c = omega (arith, word-short (drop (c .before .before .before .before .before .loop .at + 1) (c .before .before .before .before .before .before .before .args .line .now)), length-drop (c .before .before .before .before .before .loop .at + 1) (c .before .before .before .before .before .before .before .args .line .now))
+part-numeral-end c =
+    let at-loop : tie.At-loop Inv-loop μ-loop = search in
+    let start : tie.Start Inv-loop μ-loop = search in
+    omega (arith, word-short (drop (at-loop .loop .at + 1) (start .args .line .now)), length-drop (at-loop .loop .at + 1) (start .args .line .now))
 
 numeral-requires : tie.Need-numeral-requires Inv-loop μ-loop
 numeral-requires c κs = search needs
@@ -60,8 +72,14 @@ no-words-requires-3 : tie.Need-no-words-requires-3 Inv-loop μ-loop
 no-words-requires-3 c κs = search needs
 
 returns-3 : tie.Need-returns-3 Inv-loop μ-loop
-returns-3 c = let e : c .before .before .numeral .result ≡ numeralValue (upToSpace (drop (c .before .before .before .before .before .before .before .before .before .loop .at + 1) (c .before .before .before .before .before .before .before .before .before .before .before .args .line .now))) = c .before .before .numeral .ensures ∙ ap numeralValue (part-word _ _ _ (c .before .before .before .before .word-end .ensures)) in
-    c .no-words3 .ensures ∙ scan-no _ _ (c .before .before .before .before .before .before .before .before .before .loop .inv .3 ∙ words-bad _ _ (c .before .before .before .before .before .before .before .before .before .before .before .args .count - (c .before .before .before .before .before .before .before .before .before .loop .i + 1)) _ (omega arith) (c .before .before .before .before .before .before .before .if1 .left) (omega arith))
+returns-3 c =
+    let after-numeral : tie.After-numeral Inv-loop μ-loop = search in
+    let after-word-end : tie.After-word-end Inv-loop μ-loop = search in
+    let else1 : tie.Else1 Inv-loop μ-loop = search in
+    let at-loop : tie.At-loop Inv-loop μ-loop = search in
+    let start : tie.Start Inv-loop μ-loop = search in
+    let e : after-numeral .numeral .result ≡ numeralValue (upToSpace (drop (at-loop .loop .at + 1) (start .args .line .now))) = after-numeral .numeral .ensures ∙ ap numeralValue (part-word _ _ _ (after-word-end .word-end .ensures)) in
+    c .no-words3 .ensures ∙ scan-no _ _ (at-loop .loop .inv .3 ∙ words-bad _ _ (start .args .count - (at-loop .loop .i + 1)) _ (omega arith) (else1 .if1 .left) (omega arith))
 
 cast-words : tie.Need-cast-words Inv-loop μ-loop
 cast-words c = search needs
@@ -79,24 +97,37 @@ loop-less : tie.Need-loop-less Inv-loop μ-loop
 loop-less c = search needs
 
 loop-again : tie.Need-loop-again Inv-loop μ-loop
-loop-again c = let e : c .before .numeral .result ≡ numeralValue (upToSpace (drop (c .before .before .before .before .before .before .before .before .loop .at + 1) (c .before .before .before .before .before .before .before .before .before .before .args .line .now))) = c .before .numeral .ensures ∙ ap numeralValue (part-word _ _ _ (c .before .before .before .word-end .ensures)) in
-    let p : c .before .before .before .before .before .before .before .before .before .before .args .count - c .before .before .before .before .before .before .before .before .loop .i ≡ suc (c .before .before .before .before .before .before .before .before .before .before .args .count - (c .before .before .before .before .before .before .before .before .loop .i + 1)) = omega arith in (
+loop-again c =
+    let after-numeral : tie.After-numeral Inv-loop μ-loop = search in
+    let after-word-end : tie.After-word-end Inv-loop μ-loop = search in
+    let else2 : tie.Else2 Inv-loop μ-loop = search in
+    let else1 : tie.Else1 Inv-loop μ-loop = search in
+    let at-loop : tie.At-loop Inv-loop μ-loop = search in
+    let start : tie.Start Inv-loop μ-loop = search in
+    let e : after-numeral .numeral .result ≡ numeralValue (upToSpace (drop (at-loop .loop .at + 1) (start .args .line .now))) = after-numeral .numeral .ensures ∙ ap numeralValue (part-word _ _ _ (after-word-end .word-end .ensures)) in
+    let p : start .args .count - at-loop .loop .i ≡ suc (start .args .count - (at-loop .loop .i + 1)) = omega arith in (
       omega arith,
       omega arith,
-      omega (arith, word-short (drop (c .before .before .before .before .before .before .before .before .loop .at + 1) (c .before .before .before .before .before .before .before .before .before .before .args .line .now)), length-drop (c .before .before .before .before .before .before .before .before .loop .at + 1) (c .before .before .before .before .before .before .before .before .before .before .args .line .now)),
-      c .before .before .before .before .before .before .before .before .loop .inv .3 ∙ words-next _ _ _ _ p (c .before .before .before .before .before .before .if1 .left) _ _ (c .before .before .before .word-end .ensures) e (c .if3 .left) (c .before .before .before .before .if2 .left),
-      placed-turn _ _ _ _ _ _ (c .before .before .before .before .before .before .before .before .loop .inv .4) (values-next _ _ _ _ p (c .before .before .before .before .before .before .if1 .left) _ _ (c .before .before .before .word-end .ensures) e (c .if3 .left)),
+      omega (arith, word-short (drop (at-loop .loop .at + 1) (start .args .line .now)), length-drop (at-loop .loop .at + 1) (start .args .line .now)),
+      at-loop .loop .inv .3 ∙ words-next _ _ _ _ p (else1 .if1 .left) _ _ (after-word-end .word-end .ensures) e (c .if3 .left) (else2 .if2 .left),
+      placed-turn _ _ _ _ _ _ (at-loop .loop .inv .4) (values-next _ _ _ _ p (else1 .if1 .left) _ _ (after-word-end .word-end .ensures) e (c .if3 .left)),
     )
 
 no-words-requires-4 : tie.Need-no-words-requires-4 Inv-loop μ-loop
 no-words-requires-4 c κs = search needs
 
 returns-4 : tie.Need-returns-4 Inv-loop μ-loop
-returns-4 c = c .no-words4 .ensures ∙ scan-no _ _ (c .before .before .before .loop .inv .3 ∙ words-more _ _ _ (omega arith) (c .before .before .before .loop .inv .2) (c .before .if4 .taken))
+returns-4 c =
+    let then4 : tie.Then4 Inv-loop μ-loop = search in
+    let at-loop : tie.At-loop Inv-loop μ-loop = search in
+    c .no-words4 .ensures ∙ scan-no _ _ (at-loop .loop .inv .3 ∙ words-more _ _ _ (omega arith) (at-loop .loop .inv .2) (then4 .if4 .taken))
 
 returns-5 : tie.Need-returns-5 Inv-loop μ-loop
-returns-5 c = let z : c .before .before .before .before .args .count - c .before .before .loop .i ≡ 0 = omega arith in
-    scan-yes _ _ _ (c .before .before .loop .inv .3 ∙ words-end _ _ _ z (c .if4 .left)) (c .before .before .loop .inv .4 ∙ ap (sets (c .before .before .loop .words) (c .before .before .loop .i)) (values-end _ _ z))
+returns-5 c =
+    let at-loop : tie.At-loop Inv-loop μ-loop = search in
+    let start : tie.Start Inv-loop μ-loop = search in
+    let z : start .args .count - at-loop .loop .i ≡ 0 = omega arith in
+    scan-yes _ _ _ (at-loop .loop .inv .3 ∙ words-end _ _ _ z (c .if4 .left)) (at-loop .loop .inv .4 ∙ ap (sets (at-loop .loop .words) (at-loop .loop .i)) (values-end _ _ z))
 
 pub read-words-spec : {M : Type 1} → statement M
 read-words-spec =

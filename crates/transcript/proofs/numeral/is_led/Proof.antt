@@ -15,7 +15,10 @@ shared-slice-read-result : tie.Need-shared-slice-read-result
 shared-slice-read-result c = search needs
 
 returns-3 : tie.Need-returns-3
-returns-3 c = led-more _ (c .before .before .if1 .left) (c .before .if2 .left)
+returns-3 c =
+    let else2 : tie.Else2 = search in
+    let else1 : tie.Else1 = search in
+    led-more _ (else1 .if1 .left) (else2 .if2 .left)
 
 pub is-led-spec : {M : Type 1} → statement M
 is-led-spec = tie.close (tie.spec returns returns-2 shared-slice-read-result returns-3)

@@ -25,7 +25,9 @@ is-led-requires : tie.Need-is-led-requires Inv-loop μ-loop
 is-led-requires c κs = search needs
 
 returns : tie.Need-returns Inv-loop μ-loop
-returns c = not-led _ (failed (c .before .is-led .ensures) (c .if1 .taken))
+returns c =
+    let after-is-led : tie.After-is-led Inv-loop μ-loop = search in
+    not-led _ (failed (after-is-led .is-led .ensures) (c .if1 .taken))
 
 loop-holds : tie.Need-loop-holds Inv-loop μ-loop
 loop-holds c = (omega arith, omega arith, refl, refl)
@@ -37,22 +39,35 @@ is-digit-requires : tie.Need-is-digit-requires Inv-loop μ-loop
 is-digit-requires c κs = search needs
 
 returns-2 : tie.Need-returns-2 Inv-loop μ-loop
-returns-2 c = not-digits _ (c .before .before .before .before .loop .inv .2 ∙ digits-stop _ _ (c .before .before .before .loop-test .taken) (failed (c .before .is-digit .ensures) (c .if2 .taken)))
+returns-2 c =
+    let after-is-digit : tie.After-is-digit Inv-loop μ-loop = search in
+    let in-loop : tie.In-loop Inv-loop μ-loop = search in
+    let at-loop : tie.At-loop Inv-loop μ-loop = search in
+    not-digits _ (at-loop .loop .inv .2 ∙ digits-stop _ _ (in-loop .loop-test .taken) (failed (after-is-digit .is-digit .ensures) (c .if2 .taken)))
 
 mul-value : tie.Need-mul-value Inv-loop μ-loop
 mul-value c = omega arith
 
 sub-wide : tie.Need-sub-wide Inv-loop μ-loop
-sub-wide c = digit-low _ (passed (c .before .is-digit .ensures) (c .if2 .left))
+sub-wide c =
+    let after-is-digit : tie.After-is-digit Inv-loop μ-loop = search in
+    digit-low _ (passed (after-is-digit .is-digit .ensures) (c .if2 .left))
 
 wide-requires : tie.Need-wide-requires Inv-loop μ-loop
 wide-requires c κs = search needs
 
 add-value : tie.Need-add-value Inv-loop μ-loop
-add-value c = omega (arith, digit-high _ (passed (c .before .before .is-digit .ensures) (c .before .if2 .left)))
+add-value c =
+    let else2 : tie.Else2 Inv-loop μ-loop = search in
+    let after-is-digit : tie.After-is-digit Inv-loop μ-loop = search in
+    omega (arith, digit-high _ (passed (after-is-digit .is-digit .ensures) (else2 .if2 .left)))
 
 returns-3 : tie.Need-returns-3 Inv-loop μ-loop
-returns-3 c = too-large _ (value-over _ (c .before .before .before .before .before .before .loop .i + 1) _ (value-turn _ _ _ _ (c .before .before .before .before .before .loop-test .taken) (c .before .wide .ensures) (c .before .before .before .before .before .before .loop .inv .3)) (c .if3 .taken))
+returns-3 c =
+    let after-wide : tie.After-wide Inv-loop μ-loop = search in
+    let in-loop : tie.In-loop Inv-loop μ-loop = search in
+    let at-loop : tie.At-loop Inv-loop μ-loop = search in
+    too-large _ (value-over _ (at-loop .loop .i + 1) _ (value-turn _ _ _ _ (in-loop .loop-test .taken) (after-wide .wide .ensures) (at-loop .loop .inv .3)) (c .if3 .taken))
 
 add-i : tie.Need-add-i Inv-loop μ-loop
 add-i c = search needs
@@ -61,11 +76,21 @@ loop-less : tie.Need-loop-less Inv-loop μ-loop
 loop-less c = search needs
 
 loop-again : tie.Need-loop-again Inv-loop μ-loop
-loop-again c = (omega arith, omega arith, c .before .before .before .before .before .before .loop .inv .2 ∙ digits-next _ _ (c .before .before .before .before .before .loop-test .taken) (passed (c .before .before .before .is-digit .ensures) (c .before .before .if2 .left)), value-turn _ _ _ _ (c .before .before .before .before .before .loop-test .taken) (c .before .wide .ensures) (c .before .before .before .before .before .before .loop .inv .3))
+loop-again c =
+    let after-wide : tie.After-wide Inv-loop μ-loop = search in
+    let else2 : tie.Else2 Inv-loop μ-loop = search in
+    let after-is-digit : tie.After-is-digit Inv-loop μ-loop = search in
+    let in-loop : tie.In-loop Inv-loop μ-loop = search in
+    let at-loop : tie.At-loop Inv-loop μ-loop = search in
+    (omega arith, omega arith, at-loop .loop .inv .2 ∙ digits-next _ _ (in-loop .loop-test .taken) (passed (after-is-digit .is-digit .ensures) (else2 .if2 .left)), value-turn _ _ _ _ (in-loop .loop-test .taken) (after-wide .wide .ensures) (at-loop .loop .inv .3))
 
 returns-4 : tie.Need-returns-4 Inv-loop μ-loop
-returns-4 c = let e = value-end _ _ _ (c .loop-test .left) (c .before .loop .inv .3) in
-    sym e ∙ a-numeral _ (passed (c .before .before .before .is-led .ensures) (c .before .before .if1 .left)) (digits-end _ _ (c .loop-test .left) (c .before .loop .inv .2)) (rw e (c .before .loop .inv .1))
+returns-4 c =
+    let at-loop : tie.At-loop Inv-loop μ-loop = search in
+    let else1 : tie.Else1 Inv-loop μ-loop = search in
+    let after-is-led : tie.After-is-led Inv-loop μ-loop = search in
+    let e = value-end _ _ _ (c .loop-test .left) (at-loop .loop .inv .3) in
+    sym e ∙ a-numeral _ (passed (after-is-led .is-led .ensures) (else1 .if1 .left)) (digits-end _ _ (c .loop-test .left) (at-loop .loop .inv .2)) (rw e (at-loop .loop .inv .1))
 
 pub numeral-spec : {M : Type 1} → statement M
 numeral-spec =

@@ -24,16 +24,24 @@ slice-aggregate-put-items-2 : tie.Need-slice-aggregate-put-items-2
 slice-aggregate-put-items-2 c = search needs
 
 put-items-requires : tie.Need-put-items-requires
-put-items-requires c κs = omega (arith, decimal-few (c .before .before .before .before .before .args .number))
+put-items-requires c κs =
+    let start : tie.Start = search in
+    omega (arith, decimal-few (start .args .number))
 
 slice-aggregate-put-byte : tie.Need-slice-aggregate-put-byte
 slice-aggregate-put-byte c = search needs
 
 put-byte-requires : tie.Need-put-byte-requires
-put-byte-requires c κs = omega (arith, decimal-few (c .before .before .before .before .before .before .before .before .args .number), items-few (c .before .before .before .before .before .before .before .before .args .current ∷ c .before .before .before .before .before .before .before .before .args .committed ∷ c .before .before .before .before .before .before .before .before .args .leaders ∷ c .before .before .before .before .before .before .before .before .args .journal ∷ []))
+put-byte-requires c κs =
+    let start : tie.Start = search in
+    omega (arith, decimal-few (start .args .number), items-few (start .args .current ∷ start .args .committed ∷ start .args .leaders ∷ start .args .journal ∷ []))
 
 returns : tie.Need-returns
-returns c = an-answer _ _ refl refl (c .before .before .before .before .before .before .before .before .put-number .ensures) (c .before .before .before .before .put-items .ensures) (c .before .put-byte .ensures)
+returns c =
+    let after-put-byte : tie.After-put-byte = search in
+    let after-put-items : tie.After-put-items = search in
+    let after-put-number : tie.After-put-number = search in
+    an-answer _ _ refl refl (after-put-number .put-number .ensures) (after-put-items .put-items .ensures) (after-put-byte .put-byte .ensures)
 
 pub answer-line-spec : {M : Type 1} → statement M
 answer-line-spec =

@@ -26,7 +26,10 @@ loop-holds : tie.Need-loop-holds Inv-loop μ-loop
 loop-holds c = (omega arith, refl, append-nil _)
 
 returns-2 : tie.Need-returns-2 Inv-loop μ-loop
-returns-2 c = (c .before .before .loop .inv .1, c .before .before .loop .inv .0, ap (λ (r : List ℕ). r ++ drop (c .before .before .loop .i) (c .before .before .loop .bytes)) (sym (digits-done (c .before .before .loop .i) _ (c .if2 .taken))) ∙ c .before .before .loop .inv .2 ∙ decimal-more _ (c .before .before .before .if1 .left))
+returns-2 c =
+    let at-loop : tie.At-loop Inv-loop μ-loop = search in
+    let else1 : tie.Else1 Inv-loop μ-loop = search in
+    (at-loop .loop .inv .1, at-loop .loop .inv .0, ap (λ (r : List ℕ). r ++ drop (at-loop .loop .i) (at-loop .loop .bytes)) (sym (digits-done (at-loop .loop .i) _ (c .if2 .taken))) ∙ at-loop .loop .inv .2 ∙ decimal-more _ (else1 .if1 .left))
 
 sub-i : tie.Need-sub-i Inv-loop μ-loop
 sub-i c = search needs
@@ -41,10 +44,16 @@ loop-less : tie.Need-loop-less Inv-loop μ-loop
 loop-less c = search needs
 
 loop-again : tie.Need-loop-again Inv-loop μ-loop
-loop-again c = (omega arith, search needs, digits-turn _ _ (c .before .before .before .loop .i - 1) (c .before .before .before .loop .i) _ _ (omega arith) (omega arith) (c .before .if2 .left) (c .last-digit .ensures) (c .before .before .before .loop .inv .2))
+loop-again c =
+    let else2 : tie.Else2 Inv-loop μ-loop = search in
+    let at-loop : tie.At-loop Inv-loop μ-loop = search in
+    (omega arith, search needs, digits-turn _ _ (at-loop .loop .i - 1) (at-loop .loop .i) _ _ (omega arith) (omega arith) (else2 .if2 .left) (c .last-digit .ensures) (at-loop .loop .inv .2))
 
 returns-3 : tie.Need-returns-3 Inv-loop μ-loop
-returns-3 c = (c .before .loop .inv .1, c .before .loop .inv .0, ap (λ (r : List ℕ). r ++ drop (c .before .loop .i) (c .before .loop .bytes)) (sym (digits-out (c .before .loop .i) (c .before .loop .rest) (omega arith))) ∙ c .before .loop .inv .2 ∙ decimal-more _ (c .before .before .if1 .left))
+returns-3 c =
+    let at-loop : tie.At-loop Inv-loop μ-loop = search in
+    let else1 : tie.Else1 Inv-loop μ-loop = search in
+    (at-loop .loop .inv .1, at-loop .loop .inv .0, ap (λ (r : List ℕ). r ++ drop (at-loop .loop .i) (at-loop .loop .bytes)) (sym (digits-out (at-loop .loop .i) (at-loop .loop .rest) (omega arith))) ∙ at-loop .loop .inv .2 ∙ decimal-more _ (else1 .if1 .left))
 
 pub digits-of-spec : {M : Type 1} → statement M
 digits-of-spec =

@@ -9,7 +9,9 @@ use Rattle.transcript.proofs.text.put_byte.Reads as put-byte-reads
 use Rattle.transcript.proofs.text.put_items.Reads as put-items-reads
 
 returns : tie.Need-returns
-returns c = no-list (c .before .before .before .args .out .now) (c .before .before .before .args .letter) (c .before .before .before .args .ids .now) (c .if1 .taken)
+returns c =
+    let start : tie.Start = search in
+    no-list (start .args .out .now) (start .args .letter) (start .args .ids .now) (c .if1 .taken)
 
 put-byte-requires : tie.Need-put-byte-requires
 put-byte-requires c κs = search needs
@@ -18,13 +20,20 @@ put-items-requires : tie.Need-put-items-requires
 put-items-requires c κs = search needs
 
 put-byte-requires-2 : tie.Need-put-byte-requires-2
-put-byte-requires-2 c κs = omega (arith, items-few (c .before .before .before .before .before .before .before .before .before .before .before .before .args .ids .now))
+put-byte-requires-2 c κs =
+    let start : tie.Start = search in
+    omega (arith, items-few (start .args .ids .now))
 
 same-length : tie.Need-same-length
 same-length c = search needs
 
 returns-2 : tie.Need-returns-2
-returns-2 c = a-list _ _ (c .before .before .before .before .before .before .before .before .before .before .before .before .if1 .left) (c .before .before .before .before .before .before .before .before .before .before .put-byte .ensures) (c .before .before .before .before .before .before .put-items .ensures) (c .before .before .put-byte2 .ensures)
+returns-2 c =
+    let after-put-byte2 : tie.After-put-byte2 = search in
+    let after-put-items : tie.After-put-items = search in
+    let after-put-byte : tie.After-put-byte = search in
+    let else1 : tie.Else1 = search in
+    a-list _ _ (else1 .if1 .left) (after-put-byte .put-byte .ensures) (after-put-items .put-items .ensures) (after-put-byte2 .put-byte2 .ensures)
 
 pub list-line-spec : {M : Type 1} → statement M
 list-line-spec =

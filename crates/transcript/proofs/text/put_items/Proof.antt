@@ -41,17 +41,24 @@ loop-less : tie.Need-loop-less Inv-loop μ-loop
 loop-less c = search needs
 
 loop-again : tie.Need-loop-again Inv-loop μ-loop
-loop-again c = (
-  omega arith,
-  omega (arith, c .before .before .before .before .before .before .before .put-byte .ensures .last, c .before .before .put-number .ensures .last, decimal-few (getD (c .before .before .before .before .before .before .before .before .before .before .before .before .before .args .numbers .now) (c .before .before .before .before .before .before .before .before .before .before .loop .i) 0)),
-  appended-item _ _ _ _ _ _ (c .before .before .before .before .before .before .before .before .before .loop-test .taken) (c .before .before .before .before .before .before .before .before .before .before .loop .inv .2) (c .before .before .before .before .before .before .before .put-byte .ensures) (c .before .before .put-number .ensures),
-)
+loop-again c =
+    let after-put-number : tie.After-put-number Inv-loop μ-loop = search in
+    let after-put-byte : tie.After-put-byte Inv-loop μ-loop = search in
+    let in-loop : tie.In-loop Inv-loop μ-loop = search in
+    let at-loop : tie.At-loop Inv-loop μ-loop = search in
+    let start : tie.Start Inv-loop μ-loop = search in (
+      omega arith,
+      omega (arith, after-put-byte .put-byte .ensures .last, after-put-number .put-number .ensures .last, decimal-few (getD (start .args .numbers .now) (at-loop .loop .i) 0)),
+      appended-item _ _ _ _ _ _ (in-loop .loop-test .taken) (at-loop .loop .inv .2) (after-put-byte .put-byte .ensures) (after-put-number .put-number .ensures),
+    )
 
 same-length : tie.Need-same-length Inv-loop μ-loop
 same-length c = search needs
 
 returns : tie.Need-returns Inv-loop μ-loop
-returns c = items-all _ _ _ _ (c .loop-test .left) (c .before .loop .inv .2)
+returns c =
+    let at-loop : tie.At-loop Inv-loop μ-loop = search in
+    items-all _ _ _ _ (c .loop-test .left) (at-loop .loop .inv .2)
 
 pub put-items-spec : {M : Type 1} → statement M
 put-items-spec =

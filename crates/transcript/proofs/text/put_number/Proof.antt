@@ -27,7 +27,10 @@ same-length : tie.Need-same-length
 same-length c = search needs
 
 returns : tie.Need-returns
-returns c = rw (digits-part _ _ _ (c .before .before .before .before .before .before .before .digits-of .ensures .0) (c .before .before .before .before .before .before .before .digits-of .ensures .2)) at (c .before .before .put-bytes .ensures)
+returns c =
+    let after-put-bytes : tie.After-put-bytes = search in
+    let after-digits-of : tie.After-digits-of = search in
+    rw (digits-part _ _ _ (after-digits-of .digits-of .ensures .0) (after-digits-of .digits-of .ensures .2)) at (after-put-bytes .put-bytes .ensures)
 
 pub put-number-spec : {M : Type 1} → statement M
 put-number-spec =

@@ -11,7 +11,9 @@ quorum-of-requires c κs = search needs
 
 returns : tie.Need-returns
 unfolding meets
-returns c = rw (c .before .quorum-of .ensures)
+returns c =
+    let after-quorum-of : tie.After-quorum-of = search in
+    rw (after-quorum-of .quorum-of .ensures)
 
 pub meets-quorum-spec : {M : Type 1} → statement M
 meets-quorum-spec = tie.close (tie.spec quorum-of-requires returns)

@@ -9,7 +9,9 @@ power-requires : tie.Need-power-requires
 power-requires c κs = search needs
 
 returns : tie.Need-returns
-returns c = rw (c .before .power .ensures)
+returns c =
+    let after-power : tie.After-power = search in
+    rw (after-power .power .ensures)
 
 pub with-spec : {M : Type 1} → statement M
 with-spec = tie.close (tie.spec power-requires returns)

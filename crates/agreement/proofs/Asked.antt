@@ -99,11 +99,13 @@ module _ (l : List ℕ) (size : length l ≡ 5864) (formed : wellFormed l ≡ tr
   hand-leaders = leaders-some l 0 asked
     where
       asked : numberOf (askLeaders l 0) ≡ 0
-      asked = unfold askLeaders in ap numberOf (sym (next _ _ (eq-eqb (length l) 5864 size) (next _ _ formed (next _ _ (le-leb 0 (leaderCount l) (omega arith)) done))))
+      asked = unfold askLeaders in ap numberOf
+          (sym (next _ _ (eq-eqb (length l) 5864 size) (next _ _ formed (next _ _ (le-leb 0 (leaderCount l) (omega arith)) done))))
 
   -- the journal
   pub hand-journal : handJournal l 0 ≡ journalList l
   hand-journal = journal-some l 0 asked
     where
       asked : numberOf (askJournal l 0) ≡ 0
-      asked = unfold askJournal in ap numberOf (sym (next _ _ (eq-eqb (length l) 5864 size) (next _ _ formed (next _ _ (le-leb 0 (journalCount l) (omega arith)) done))))
+      asked = unfold askJournal in ap numberOf
+          (sym (next _ _ (eq-eqb (length l) 5864 size) (next _ _ formed (next _ _ (le-leb 0 (journalCount l) (omega arith)) done))))

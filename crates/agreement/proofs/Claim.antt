@@ -26,7 +26,8 @@ use Rattle.commits.specs.Commit.{raiseRound, commitAll}
 use Rattle.ordering.specs.Calls.{addMember, putVertex, hear, vertexQuestions, firstQuestions, noteQuestions, takeBody, takeFirstBody, takeTimeout, takeNoVote}
 use Rattle.commits.proofs.Steps.{not-led}
 use Rattle.ordering.proofs.Marks.{sound-raise, sound-timeout, sound-no-vote}
-use Rattle.agreement.specs.Call.{Call, opening, vertex, firstMessage, timeout, noVote, status, askLeaderList, askJournalList, handLeaderList, handJournalList, outcomeOf, run, allowed, allAllowed}
+use Rattle.agreement.specs.Call.{Call, opening, vertex, firstMessage, timeout, noVote, status, askLeaderList, askJournalList, handLeaderList}
+use Rattle.agreement.specs.Call.{handJournalList, outcomeOf, run, allowed, allAllowed}
 use Rattle.agreement.specs.Model.{Model, empty, admit, follow, modelOf, dagOf}
 use Rattle.agreement.specs.Claim.{Premises, Matches, Agreed, AgreementClaim}
 use Rattle.agreement.proofs.Records.{records-none}
@@ -70,7 +71,8 @@ admit-more (handJournalList k) number m = inside-self m
 pub follow-more : (calls : List Call) (m : Model) (l : List ℕ) → Inside m (follow m l calls)
 unfolding follow
 follow-more [] m l = inside-self m
-follow-more (c ∷ calls) m l = inside-then (admit-more c (outcomeOf c l .number) m) (follow-more calls (admit c (outcomeOf c l .number) m) (outcomeOf c l .words))
+follow-more (c ∷ calls) m l = inside-then (admit-more c (outcomeOf c l .number) m) (follow-more calls (admit c (outcomeOf c l .number) m)
+    (outcomeOf c l .words))
 
 -- ---- a state just opened
 
@@ -110,7 +112,8 @@ module _ (n : ℕ) (a b : Model) (honest : ℕ → Bool) (g : legal n ≡ true) 
       → Follows n (addMember l (noVotesAt r) p) m
   no-vote-follows l m r p f e =
       let w = note-passed l r p (noVotesMask l r) e in
-      follows-alike n l (addMember l (noVotesAt r) p) m (note-calm l r 4 p (w .1) (w .2) (omega arith)) (sound-no-vote l (f .holds .sound) r p (w .1) (w .2) (w .3))
+      follows-alike n l (addMember l (noVotesAt r) p) m (note-calm l r 4 p (w .1) (w .2) (omega arith))
+      (sound-no-vote l (f .holds .sound) r p (w .1) (w .2) (w .3))
       (note-alike l r 4 p (w .1) (w .2) (omega arith) (omega arith)) f
 
   -- the model does not change
@@ -132,7 +135,8 @@ module _ (n : ℕ) (a b : Model) (honest : ℕ → Bool) (g : legal n ≡ true) 
 
       go : (numberOf why ≡ 0) ⊎ (numberOf why ≡ 0 → ⊥) → Either a b (admit (vertex rec) (outcome why l after .number) m)
           → Follows n (outcome why l after .words) (admit (vertex rec) (outcome why l after .number) m)
-      go (inl e) j = rw (words-yes why l after e, number-yes why l after e) (vertex-follows n a b honest g P l m rec (f .holds) e i (rw (number-yes why l after e) at j))
+      go (inl e) j = rw (words-yes why l after e, number-yes why l after e) (vertex-follows n a b honest g P l m rec (f .holds) e i
+          (rw (number-yes why l after e) at j))
       go (inr d) j = rw (words-no why l after d, number-no why l after d, vertex-out rec (numberOf why) m d) f
   step (firstMessage rec) l m ok f i j = go (decided why) j
     where
@@ -144,9 +148,11 @@ module _ (n : ℕ) (a b : Model) (honest : ℕ → Bool) (g : legal n ≡ true) 
 
       go : (numberOf why ≡ 0) ⊎ (numberOf why ≡ 0 → ⊥) → Either a b (admit (firstMessage rec) (outcome why l after .number) m)
           → Follows n (outcome why l after .words) (admit (firstMessage rec) (outcome why l after .number) m)
-      go (inl e) j = rw (words-yes why l after e, number-yes why l after e) (first-follows n a b honest g P l m rec (f .holds) e i (rw (number-yes why l after e) at j))
+      go (inl e) j = rw (words-yes why l after e, number-yes why l after e) (first-follows n a b honest g P l m rec (f .holds) e i
+          (rw (number-yes why l after e) at j))
       go (inr d) j = rw (words-no why l after d, number-no why l after d, first-out rec (numberOf why) m d) f
-  step (timeout r p) l m ok f i j = noted (firstNo (noteQuestions l r p (timeoutsMask l r))) l (raiseRound (addMember l (timeoutsAt r) p)) m f (timeout-follows l m r p f)
+  step (timeout r p) l m ok f i j = noted (firstNo (noteQuestions l r p (timeoutsMask l r))) l (raiseRound (addMember l (timeoutsAt r) p)) m f
+      (timeout-follows l m r p f)
   step (noVote r p) l m ok f i j = noted (firstNo (noteQuestions l r p (noVotesMask l r))) l (addMember l (noVotesAt r) p) m f (no-vote-follows l m r p f)
   step status l m ok f i j = f
   step (askLeaderList k) l m ok f i j = f

@@ -25,7 +25,8 @@ use Rattle.replica.proofs.Sound.{Sound, well-formed}
 use Rattle.replica.proofs.Dags.{held-vertex, held-id}
 use Rattle.replica.proofs.Parents.{round-in, parent-cases, parents-intro, weak-five}
 use Rattle.ordering.specs.Calls.{sameBody, vertexQuestions, firstQuestions, takeBody, takeFirstBody}
-use Rattle.agreement.specs.Call.{Call, opening, vertex, firstMessage, timeout, noVote, status, askLeaderList, askJournalList, handLeaderList, handJournalList, outcomeOf, allowed, allAllowed}
+use Rattle.agreement.specs.Call.{Call, opening, vertex, firstMessage, timeout, noVote, status, askLeaderList, askJournalList, handLeaderList}
+use Rattle.agreement.specs.Call.{handJournalList, outcomeOf, allowed, allAllowed}
 use Rattle.agreement.specs.Model.{Model, admit, follow}
 use Rattle.agreement.specs.Claim.{Premises}
 use Rattle.agreement.proofs.Family.{Inside, inside-self, inside-then, Either, either-before}
@@ -80,7 +81,8 @@ unfolding firsts
 heard-there l r p e = ap present (cond-true _ _ e)
 
 -- an admitted record's questions are passed over
-past-record : (n r p : ℕ) (body : List ℕ) (rest : List Question) → numberOf (bodyRefusal n r p body) ≡ 0 → firstNo rest ≡ firstNo (recordQuestions n r p body ++ rest)
+past-record : (n r p : ℕ) (body : List ℕ) (rest : List Question) → numberOf (bodyRefusal n r p body) ≡ 0
+    → firstNo rest ≡ firstNo (recordQuestions n r p body ++ rest)
 unfolding bodyRefusal
 past-record n r p body rest e =
     let q4 = both-yes _ _ _ (eqb-false 4 0 refl) e in
@@ -111,7 +113,8 @@ module _ (n : ℕ) (l : List ℕ) (m : Model) (h : Holds n l m) (r p : ℕ) (bod
   in-record rest = past-record (memberCount l) r p body rest (rw (h .members) ok) ∙ past-state l _ (h .sound)
 
   -- a parent is held in the model
-  held-in : (y : ℕ) → parentsIn (recordsOf (m .vertices)) r body ≡ true → isParent r body y ≡ true → held (recordsOf (m .vertices)) (idRound y) (idMember y) ≡ true
+  held-in : (y : ℕ) → parentsIn (recordsOf (m .vertices)) r body ≡ true → isParent r body y ≡ true
+      → held (recordsOf (m .vertices)) (idRound y) (idMember y) ≡ true
   unfolding parentsIn
   held-in y e d = ⊎-elim
       (λ w.
@@ -122,12 +125,14 @@ module _ (n : ℕ) (l : List ℕ) (m : Model) (h : Holds n l m) (r p : ℕ) (bod
       (λ w.
       let k : w .0 < 5 = omega (arith, w .1, weak-five (memberCount l) r p l body (h .sound .front .members) A) in
       ap (λ (t : ℕ). held v (idRound t) (idMember t)) (sym (w .2))
-      ∙ imp-elim (ltb (w .0) (weakCountOf body)) _ (all-elim 5 (λ i. not (ltb i (weakCountOf body)) || held v (idRound (weakOf body i)) (idMember (weakOf body i)))
+      ∙ imp-elim (ltb (w .0) (weakCountOf body)) _
+      (all-elim 5 (λ i. not (ltb i (weakCountOf body)) || held v (idRound (weakOf body i)) (idMember (weakOf body i)))
       (and-right (all 16 (λ q. not (has (strongOf body) q) || held v (r - 1) q)) _ e) (w .0) k) (lt-ltb (w .0) (weakCountOf body) (w .1)))
       (parent-cases r body y d)
 
   -- a vertex has the number 0
-  vertex-passes : held (recordsOf (m .vertices)) r p ≡ false → parentsIn (recordsOf (m .vertices)) r body ≡ true → numberOf (firstNo (vertexQuestions l r p body)) ≡ 0
+  vertex-passes : held (recordsOf (m .vertices)) r p ≡ false → parentsIn (recordsOf (m .vertices)) r body ≡ true
+      → numberOf (firstNo (vertexQuestions l r p body)) ≡ 0
   vertex-passes new there =
       let few : p < 16 = omega (arith, A .source-low, h .sound .front .high) in
       let free : (roundOk r && has (heldMask l r) p) ≡ false = sym (held-vertex l (h .sound .size) r p few) ∙ ap present (h .vertex r p) ∙ new in
@@ -141,7 +146,8 @@ module _ (n : ℕ) (l : List ℕ) (m : Model) (h : Holds n l m) (r p : ℕ) (bod
   first-passes new = ap numberOf (sym (next _ _ (ap not off) done ∙ in-record _))
     where
       off : has (heardMask l r) p ≡ false
-      off = ⊎-elim (λ d. never (heard-there l r p (and-both (round-in r (A .round-low) (A .round-high)) d)) (h .first r p ∙ new)) (λ d. d) (which (has (heardMask l r) p))
+      off = ⊎-elim (λ d. never (heard-there l r p (and-both (round-in r (A .round-low) (A .round-high)) d)) (h .first r p ∙ new)) (λ d. d)
+          (which (has (heardMask l r) p))
 
 -- ---- the model
 
@@ -152,7 +158,8 @@ module _ (n : ℕ) (l : List ℕ) (m : Model) (h : Holds n l m) where
   admit-taken (vertex rec) e =
       let ok : numberOf (bodyRefusal n (roundOf rec) (sourceOf rec) (bodyOf rec)) ≡ 0 = eqb-true _ 0 (and-left _ _ e) in
       let rest = and-right (eqb (numberOf (bodyRefusal n (roundOf rec) (sourceOf rec) (bodyOf rec))) 0) _ e in
-      ap (λ (k : ℕ). admit (vertex rec) k m) (number-yes _ l _ (vertex-passes n l m h (roundOf rec) (sourceOf rec) (bodyOf rec) ok (not-true _ (and-left _ _ rest))
+      ap (λ (k : ℕ). admit (vertex rec) k m)
+      (number-yes _ l _ (vertex-passes n l m h (roundOf rec) (sourceOf rec) (bodyOf rec) ok (not-true _ (and-left _ _ rest))
       (and-right (not (held (recordsOf (m .vertices)) (roundOf rec) (sourceOf rec))) _ rest)))
   admit-taken (firstMessage rec) e =
       let ok : numberOf (bodyRefusal n (roundOf rec) (sourceOf rec) (bodyOf rec)) ≡ 0 = eqb-true _ 0 (and-left _ _ e) in
@@ -195,7 +202,8 @@ dry-more (c ∷ calls) m = inside-then (admit-more c 0 m) (dry-more calls (admit
 
 module _ (n : ℕ) (a b : Model) (honest : ℕ → Bool) (g : legal n ≡ true) (P : Premises n a b honest) where
   -- the calls on a state that follows m make the model that they make of m alone
-  pub dry-follow : (calls : List Call) (l : List ℕ) (m : Model) → Follows n l m → allTaken n m calls ≡ true → Either a b (dry m calls) → follow m l calls ≡ dry m calls
+  pub dry-follow : (calls : List Call) (l : List ℕ) (m : Model) → Follows n l m → allTaken n m calls ≡ true → Either a b (dry m calls)
+      → follow m l calls ≡ dry m calls
   unfolding allTaken dry follow
   dry-follow [] l m f e i = refl
   dry-follow (c ∷ calls) l m f e i =

@@ -40,7 +40,8 @@ use Rattle.agreement.proofs.Records.{records-here, records-there, by-re
 use Rattle.agreement.proofs.Family.{Either, Part, partDag, family}
 use Rattle.agreement.proofs.Tracking.{At, at-grow, at-commit}
 use Rattle.agreement.proofs.Asked.{vertex-yes, first-yes}
-use Rattle.ordering.proofs.Writing.{Calm, calm-members, calm-committed, calm-leaders, calm-journal, raise-calm, raise-alike, hear-calm, hear-vertices, hear-other, hear-here, hear-vote, put-calm, put-firsts, put-here, put-other}
+use Rattle.ordering.proofs.Writing.{Calm, calm-members, calm-committed, calm-leaders, calm-journal, raise-calm, raise-alike, hear-calm, hear-vertices}
+use Rattle.ordering.proofs.Writing.{hear-other, hear-here, hear-vote, put-calm, put-firsts, put-here, put-other}
 
 -- the state l holds what the model m does
 pub record Holds (n : ℕ) (l : List ℕ) (m : Model) : Type 0 where
@@ -102,7 +103,8 @@ module _ (n : ℕ) (l k : List ℕ) (m : Model) (C : Calm l k) (S : Sound k) whe
     follows-alike f = record {
       holds = holds-alike (f .holds);
       over = λ q a b.
-          ap₂ (λ (v w : Records). committed n (record { vertex = v; first = w }) q) (vertices-same A) (firsts-same A) ∙ f .over q (omega (arith, calm-committed C)) b;
+          ap₂ (λ (v w : Records). committed n (record { vertex = v; first = w }) q) (vertices-same A) (firsts-same A)
+          ∙ f .over q (omega (arith, calm-committed C)) b;
     }
 
 -- ---- over the family of models within a or within b
@@ -160,7 +162,8 @@ module _ (n : ℕ) (a b : Model) (honest : ℕ → Bool) (g : legal n ≡ true) 
 
   -- ---- an admitted vertex
 
-  module _ (l : List ℕ) (m : Model) (rec : List ℕ) (h : Holds n l m) (ok : numberOf (firstNo (vertexQuestions l (roundOf rec) (sourceOf rec) (bodyOf rec))) ≡ 0) where
+  module _ (l : List ℕ) (m : Model) (rec : List ℕ) (h : Holds n l m)
+      (ok : numberOf (firstNo (vertexQuestions l (roundOf rec) (sourceOf rec) (bodyOf rec))) ≡ 0) where
     -- the model with it
     abbrev more : Model
     more = record { n = m .n; vertices = rec ∷ m .vertices; firsts = m .firsts }
@@ -179,7 +182,8 @@ module _ (n : ℕ) (a b : Model) (honest : ℕ → Bool) (g : legal n ≡ true) 
 
     -- the state stays sound
     put-sound : Sound put
-    put-sound = let w = vertex-yes l (roundOf rec) (sourceOf rec) (bodyOf rec) ok in sound-put l (h .sound) (roundOf rec) (sourceOf rec) (bodyOf rec) (w .0) (w .2)
+    put-sound = let w = vertex-yes l (roundOf rec) (sourceOf rec) (bodyOf rec) ok in sound-put l (h .sound) (roundOf rec) (sourceOf rec) (bodyOf rec)
+        (w .0) (w .2)
 
     -- the lists stay
     calm : Calm l put
@@ -194,7 +198,8 @@ module _ (n : ℕ) (a b : Model) (honest : ℕ → Bool) (g : legal n ≡ true) 
     -- the vertices are those of the model
     put-vertex : (s q : ℕ) → vertices put s q ≡ recordsOf (rec ∷ m .vertices) s q
     put-vertex = by-record rec (λ s q. vertices put s q ≡ recordsOf (rec ∷ m .vertices) s q)
-        (put-here l (roundOf rec) (sourceOf rec) (bodyOf rec) (h .sound .size) (A .round-low) (A .round-high) few (A .size) ∙ sym (records-here rec (m .vertices)))
+        (put-here l (roundOf rec) (sourceOf rec) (bodyOf rec) (h .sound .size) (A .round-low) (A .round-high) few (A .size)
+        ∙ sym (records-here rec (m .vertices)))
         (λ s q e. put-other l (roundOf rec) (sourceOf rec) (bodyOf rec) (h .sound .size) (A .round-low) (A .round-high) few (A .size) small s q e
         ∙ h .vertex s q ∙ sym (records-there rec (m .vertices) s q e))
       where
@@ -226,7 +231,8 @@ module _ (n : ℕ) (a b : Model) (honest : ℕ → Bool) (g : legal n ≡ true) 
 
   -- ---- an admitted first message
 
-  module _ (l : List ℕ) (m : Model) (rec : List ℕ) (h : Holds n l m) (ok : numberOf (firstNo (firstQuestions l (roundOf rec) (sourceOf rec) (bodyOf rec))) ≡ 0) where
+  module _ (l : List ℕ) (m : Model) (rec : List ℕ) (h : Holds n l m)
+      (ok : numberOf (firstNo (firstQuestions l (roundOf rec) (sourceOf rec) (bodyOf rec))) ≡ 0) where
     -- the model with it
     abbrev further : Model
     further = record { n = m .n; vertices = m .vertices; firsts = rec ∷ m .firsts }
@@ -290,7 +296,8 @@ module _ (n : ℕ) (a b : Model) (honest : ℕ → Bool) (g : legal n ≡ true) 
           sound = heard-sound;
           members = calm-members heard-calm ∙ h .members;
           vertex = λ s q.
-              ap (λ (v : Records). v s q) (hear-vertices l (roundOf rec) (sourceOf rec) (bodyOf rec) (h .sound .size) (B .round-low) (B .round-high)) ∙ h .vertex s q;
+              ap (λ (v : Records). v s q) (hear-vertices l (roundOf rec) (sourceOf rec) (bodyOf rec) (h .sound .size) (B .round-low) (B .round-high))
+              ∙ h .vertex s q;
           first = heard-first;
           vote = heard-vote;
           lists = calm-lists n l after further heard-calm heard-sound (h .sound)

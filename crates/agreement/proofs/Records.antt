@@ -40,7 +40,8 @@ unfolding recordsOf
 find-in [] r p h = absurd (false≢true h)
 find-in (x ∷ l) r p h = go (which (eqb (roundOf x) r && eqb (sourceOf x) p)) (find-in l r p)
   where
-    go : ((eqb (roundOf x) r && eqb (sourceOf x) p) ≡ true) ⊎ ((eqb (roundOf x) r && eqb (sourceOf x) p) ≡ false) → (present (recordsOf l r p) ≡ true → Found l r p)
+    go : ((eqb (roundOf x) r && eqb (sourceOf x) p) ≡ true) ⊎ ((eqb (roundOf x) r && eqb (sourceOf x) p) ≡ false)
+        → (present (recordsOf l r p) ≡ true → Found l r p)
         → Found (x ∷ l) r p
     go (inl e) ih = record {
       rec = x;
@@ -54,7 +55,8 @@ find-in (x ∷ l) r p h = go (which (eqb (roundOf x) r && eqb (sourceOf x) p)) (
         record { rec = f .rec; there = List·Memᴰ·tail (f .there); round = f .round; source = f .source; body = cond-false _ _ e ∙ f .body }
 
 -- a record of the list with a body is found, or another of its round and source
-pub in-find : (x : List ℕ) (l : List (List ℕ)) → In x l → ((y : List ℕ) → In y l → present (bodyOf y) ≡ true) → present (recordsOf l (roundOf x) (sourceOf x)) ≡ true
+pub in-find : (x : List ℕ) (l : List (List ℕ)) → In x l → ((y : List ℕ) → In y l → present (bodyOf y) ≡ true)
+    → present (recordsOf l (roundOf x) (sourceOf x)) ≡ true
 unfolding recordsOf
 in-find x [] h b = absurd (List·Memᴰ·not-nil h)
 in-find x (y ∷ l) h b = go (which (eqb (roundOf y) (roundOf x) && eqb (sourceOf y) (sourceOf x))) (List·Memᴰ·cases-cons h)
@@ -67,7 +69,8 @@ in-find x (y ∷ l) h b = go (which (eqb (roundOf y) (roundOf x) && eqb (sourceO
     go (inr e) (inr m) ih = rw e (ih m)
 
 -- what holds of a record's own round and source, and of all others
-pub by-record : (x : List ℕ) (C : ℕ → ℕ → Type 0) → C (roundOf x) (sourceOf x) → ((r p : ℕ) → (eqb (roundOf x) r && eqb (sourceOf x) p) ≡ false → C r p) → (r p : ℕ) → C r p
+pub by-record : (x : List ℕ) (C : ℕ → ℕ → Type 0) → C (roundOf x) (sourceOf x)
+    → ((r p : ℕ) → (eqb (roundOf x) r && eqb (sourceOf x) p) ≡ false → C r p) → (r p : ℕ) → C r p
 by-record x C here there r p = go (which (eqb (roundOf x) r && eqb (sourceOf x) p))
   where
     go : ((eqb (roundOf x) r && eqb (sourceOf x) p) ≡ true) ⊎ ((eqb (roundOf x) r && eqb (sourceOf x) p) ≡ false) → C r p

@@ -98,7 +98,8 @@ same-records l m e d = records-ext (recordsOf l) (recordsOf m) (λ r p. go r p (
         ap₂ (recordsOf l) (sym (f .round)) (sym (f .source)) ∙ same-eq _ _ (every-in (agree l m) k t (f .rec) (f .there))
         ∙ ap₂ (recordsOf m) (f .round) (f .source)
 
-    go : (r p : ℕ) → (present (recordsOf l r p) ≡ true) ⊎ (present (recordsOf l r p) ≡ false) → (present (recordsOf m r p) ≡ true) ⊎ (present (recordsOf m r p) ≡ false)
+    go : (r p : ℕ) → (present (recordsOf l r p) ≡ true) ⊎ (present (recordsOf l r p) ≡ false)
+        → (present (recordsOf m r p) ≡ true) ⊎ (present (recordsOf m r p) ≡ false)
         → recordsOf l r p ≡ recordsOf m r p
     go r p (inl x) y = by l r p e (find-in l r p x)
     go r p (inr x) (inl y) = by m r p d (find-in m r p y)
@@ -108,7 +109,8 @@ same-records l m e d = records-ext (recordsOf l) (recordsOf m) (λ r p. go r p (
 
 -- every call is taken
 all-taken : (i : Bool) → allTaken 4 (empty 4) (callsOf i) ≡ true
-unfolding callsOf vertexOf firstOf early late allTaken taken parentsIn recordsOf legal leader has within meets strongOf timeoutsOf noVotesOf weakCountOf weakOf bodyRefusal firstNo roundOk masksOk strongOk lacksLeader quorumIf timeoutsOk noVotesOk weakIdOk rises slotOk weakOk all ones
+unfolding callsOf vertexOf firstOf early late allTaken taken parentsIn recordsOf legal leader has within meets strongOf timeoutsOf noVotesOf
+    weakCountOf weakOf bodyRefusal firstNo roundOk masksOk strongOk lacksLeader quorumIf timeoutsOk noVotesOk weakIdOk rises slotOk weakOk all ones
 all-taken true = refl
 all-taken false = refl
 
@@ -215,8 +217,10 @@ start-follows = rw (open-yes (opened 4) 4 opening-four .1) (opened-follows 4 fou
 -- the calls make these models
 model-made : (i : Bool) → modelFor i ≡ made i
 unfolding made
-model-made true = dry-follow 4 (made true) (made false) honest four made-premises (callsOf true) start (empty 4) start-follows (all-taken true) (inl (inside-self _))
-model-made false = dry-follow 4 (made true) (made false) honest four made-premises (callsOf false) start (empty 4) start-follows (all-taken false) (inr (inside-self _))
+model-made true = dry-follow 4 (made true) (made false) honest four made-premises (callsOf true) start (empty 4) start-follows (all-taken true)
+    (inl (inside-self _))
+model-made false = dry-follow 4 (made true) (made false) honest four made-premises (callsOf false) start (empty 4) start-follows (all-taken false)
+    (inr (inside-self _))
 
 -- so the premises hold
 premises : Premises 4 (modelFor true) (modelFor false) honest

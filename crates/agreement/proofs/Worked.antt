@@ -23,16 +23,19 @@ use Rattle.protocol.specs.Paths.{path, historyUpTo}
 use Rattle.protocol.specs.Chain.{chain, walk}
 use Rattle.protocol.proofs.Laws.{records-ext}
 use Rattle.replica.specs.Layout.{stateSize, timeoutsAt, noVotesAt}
-use Rattle.replica.specs.State.{memberCount, currentRound, committedRound, leaderCount, journalCount, heardMask, timeoutsMask, noVotesMask, leaderList, journalList, vertices, firsts}
+use Rattle.replica.specs.State.{memberCount, currentRound, committedRound, leaderCount, journalCount, heardMask, timeoutsMask, noVotesMask}
+use Rattle.replica.specs.State.{leaderList, journalList, vertices, firsts}
 use Rattle.replica.specs.WellFormed.{isParent, missing, parentsHeld, wellFormed}
 use Rattle.replica.specs.Outcome.{Outcome, outcome}
 use Rattle.replica.specs.Lists.{opened, openState, stateQuestions, askLeaders, askJournal, handLeaders, handJournal}
 use Rattle.replica.proofs.Sound.{Sound, sound, well-formed}
 use Rattle.replica.proofs.Opened.{opened-sound}
-use Rattle.commits.specs.Commit.{passable, highestPassable, raiseRound, appendLeader, appendLeaders, enter, enterAll, orderLeader, orderLeaders, commit, committable, lowest, commitUpTo}
+use Rattle.commits.specs.Commit.{passable, highestPassable, raiseRound, appendLeader, appendLeaders, enter, enterAll, orderLeader, orderLeaders}
+use Rattle.commits.specs.Commit.{commit, committable, lowest, commitUpTo}
 use Rattle.ordering.specs.Calls.{addMember, sameBody, placeQuestions, putVertex, takeBody, hear, takeFirstBody, takeTimeout, takeNoVote}
 use Rattle.ordering.proofs.Kept.{keeps}
-use Rattle.agreement.specs.Call.{Call, opening, vertex, firstMessage, timeout, noVote, status, askLeaderList, askJournalList, handLeaderList, handJournalList, reading, outcomeOf, run}
+use Rattle.agreement.specs.Call.{Call, opening, vertex, firstMessage, timeout, noVote, status, askLeaderList, askJournalList, handLeaderList}
+use Rattle.agreement.specs.Call.{handJournalList, reading, outcomeOf, run}
 use Rattle.agreement.specs.Worked.{Seen, seen, Row, zeros, allAdmitted, ending, Passes, rows, Worked}
 use Rattle.agreement.proofs.Asked.{open-yes, open-no, open-taken, hand-leaders, hand-journal}
 use Rattle.agreement.proofs.Dry.{past-state}
@@ -98,7 +101,9 @@ shortVertex l rec =
 -- of a first message
 shortFirst : List ℕ → List ℕ → Refusal
 shortFirst l rec =
-    firstNo (recordQuestions (memberCount l) (roundOf rec) (sourceOf rec) (bodyOf rec) ++ ((not (has (heardMask l (roundOf rec)) (sourceOf rec)), Duplicate) ∷ []))
+    firstNo
+    (recordQuestions (memberCount l) (roundOf rec) (sourceOf rec) (bodyOf rec)
+    ++ ((not (has (heardMask l (roundOf rec)) (sourceOf rec)), Duplicate) ∷ []))
 
 -- of a timeout or a no-vote
 shortNote : List ℕ → ℕ → ℕ → ℕ → Refusal
@@ -242,7 +247,8 @@ end-is x e =
     ∙ ap shortSeen (short-is (run (opened 4) before) (w .1) (x .last) ∙ ap (shortOf (x .last)) (w .0))
 
 -- its calls before the last are admitted where the test says so of those after the opening
-calls-admitted : (x : Row) → x .calls ≡ opening 4 ∷ drop 1 (x .calls) → shortAdmitted (opened 4) (drop 1 (x .calls)) ≡ true → allAdmitted zeros (x .calls) ≡ true
+calls-admitted : (x : Row) → x .calls ≡ opening 4 ∷ drop 1 (x .calls) → shortAdmitted (opened 4) (drop 1 (x .calls)) ≡ true
+    → allAdmitted zeros (x .calls) ≡ true
 unfolding allAdmitted
 calls-admitted x e h =
     let before = drop 1 (x .calls) in
@@ -275,7 +281,8 @@ computed : Row → Bool × Seen
 computed x = (shortAdmitted (opened 4) (drop 1 (x .calls)), shortEnd x)
 
 ends : map computed later ≡ map (λ (x : Row). (true, x .end)) later
-unfolding later rows computed shortAdmitted shortEnd shortSeen shortOf shortVertex shortFirst shortNote shortList shortRun opened outcome legal leader has within meets
+unfolding later rows computed shortAdmitted shortEnd shortSeen shortOf shortVertex shortFirst shortNote shortList shortRun opened outcome legal leader
+    has within meets
     firstNo strongOf timeoutsOf noVotesOf weakCountOf weakOf roundOk masksOk strongOk lacksLeader quorumIf timeoutsOk noVotesOk weakIdOk rises
     slotOk weakOk all any count select least committed path historyUpTo chain walk vertices firsts isParent missing parentsHeld passable
     highestPassable raiseRound appendLeader appendLeaders enter enterAll orderLeader orderLeaders line listed byList commitBy shortCommits

@@ -57,12 +57,20 @@ pub leaders-given : (l : List ℕ) (k : ℕ) → numberOf (askLeaders l k) ≡ 0
     → Handed l (record { number = 0; start = 200 + k; length = leaderCount l - k }) (leadersPart l k) (handLeaders l k)
 leaders-given l k e =
     let a = leaders-asked l k e in
-    let c = counts l (a .1) in
-    (part-given (askLeaders l k) 200 k (leaderCount l) e, given-words l 200 k (leaderCount l) (a .2) (omega (arith, a .0, c .0)) ∙ sym (leaders-some l k e), omega (arith, a .0, a .2, c .0))
+    let c = counts l (a .1) in (
+      part-given (askLeaders l k) 200 k (leaderCount l) e,
+      given-words l 200 k (leaderCount l) (a .2) (omega (arith, a .0, c .0))
+          ∙ sym (leaders-some l k e),
+      omega (arith, a .0, a .2, c .0),
+    )
 
 pub journal-given : (l : List ℕ) (k : ℕ) → numberOf (askJournal l k) ≡ 0
     → Handed l (record { number = 0; start = 232 + k; length = journalCount l - k }) (journalPart l k) (handJournal l k)
 journal-given l k e =
     let a = journal-asked l k e in
-    let c = counts l (a .1) in
-    (part-given (askJournal l k) 232 k (journalCount l) e, given-words l 232 k (journalCount l) (a .2) (omega (arith, a .0, c .1)) ∙ sym (journal-some l k e), omega (arith, a .0, a .2, c .1))
+    let c = counts l (a .1) in (
+      part-given (askJournal l k) 232 k (journalCount l) e,
+      given-words l 232 k (journalCount l) (a .2) (omega (arith, a .0, c .1))
+          ∙ sym (journal-some l k e),
+      omega (arith, a .0, a .2, c .1),
+    )

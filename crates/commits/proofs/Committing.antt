@@ -48,7 +48,8 @@ pub record Ordering (n : ℕ) (l₀ : List ℕ) (mask r : ℕ) (l : List ℕ) : 
   pub room : Room l
   pub is : l ≡ orderLeaders (vertices l₀) l₀ (select r (has mask))
 
-module _ (n : ℕ) (l₀ : List ℕ) (e : n ≡ memberCount l₀) (mask : ℕ) (there : (r : ℕ) → r < 32 → has mask r ≡ true → held (vertices l₀) r (leader n r) ≡ true) where
+module _ (n : ℕ) (l₀ : List ℕ) (e : n ≡ memberCount l₀) (mask : ℕ) (there : (r : ℕ) → r < 32 → has mask r ≡ true
+    → held (vertices l₀) r (leader n r) ≡ true) where
   pub ordering-start : Standing l₀ → Room l₀ → has mask 0 ≡ false → Ordering n l₀ mask 1 l₀
   ordering-start S R z = record {
     alike = alike-self l₀;
@@ -64,7 +65,8 @@ module _ (n : ℕ) (l₀ : List ℕ) (e : n ≡ memberCount l₀) (mask : ℕ) (
   pub ordering-members : (r : ℕ) (l : List ℕ) → Ordering n l₀ mask r l → n ≡ memberCount l
   ordering-members r l o = e ∙ sym (o .alike .members)
 
-  pub ordering-in : (r : ℕ) (l m : List ℕ) → Ordering n l₀ mask r l → r < 32 → has mask r ≡ true → m ≡ orderLeader (vertices l) l r → Ordering n l₀ mask (r + 1) m
+  pub ordering-in : (r : ℕ) (l m : List ℕ) → Ordering n l₀ mask r l → r < 32 → has mask r ≡ true → m ≡ orderLeader (vertices l) l r
+      → Ordering n l₀ mask (r + 1) m
   ordering-in r l m o b h d =
       let k : held (vertices l) r (leader (memberCount l) r) ≡ true = rw (ordering-members r l o) at (ordering-held r l o b h) in
       let A = leader-alike l (o .standing) (o .room) r k in
@@ -104,7 +106,8 @@ pub enter-head : (l : List ℕ) (y j : ℕ) → j < 4 → getD (enter l y) j 0 �
 unfolding enter
 enter-head l y j h =
     let a = set l (orderedAt (idRound y)) (add (orderedMask l (idRound y)) (idMember y)) in
-    getD-set-other (set a (232 + journalCount l) y) 4 j (journalCount l + 1) 0 (λ e. omega arith) ∙ getD-set-other a (232 + journalCount l) j y 0 (λ e. omega arith)
+    getD-set-other (set a (232 + journalCount l) y) 4 j (journalCount l + 1) 0 (λ e. omega arith)
+    ∙ getD-set-other a (232 + journalCount l) j y 0 (λ e. omega arith)
     ∙ getD-set-other l (orderedAt (idRound y)) j (add (orderedMask l (idRound y)) (idMember y)) 0 (λ e. omega arith)
 
 enter-all-head : (ys l : List ℕ) (j : ℕ) → j < 4 → getD (enterAll l ys) j 0 ≡ getD l j 0
@@ -149,7 +152,8 @@ quiet-leader l r h =
     quiet-then (quiet-list l (200 + leaderCount l) (leaderId (memberCount l) r) (omega arith) (omega arith))
     (quiet-head (set l (200 + leaderCount l) (leaderId (memberCount l) r)) 3 (leaderCount l + 1) (omega arith) (omega arith))
 
-pub quiet-leaders : (rs l : List ℕ) → length l ≡ 5864 → leaderCount l + length rs < 400 → Quiet l (appendLeaders l rs) × (leaderCount (appendLeaders l rs) ≡ leaderCount l + length rs)
+pub quiet-leaders : (rs l : List ℕ) → length l ≡ 5864 → leaderCount l + length rs < 400 → Quiet l (appendLeaders l rs)
+    × (leaderCount (appendLeaders l rs) ≡ leaderCount l + length rs)
 unfolding appendLeaders
 quiet-leaders [] l s h = (record { alike = alike-self l; ordered = λ r a b. refl; journal = refl }, omega arith)
 quiet-leaders (r ∷ rs) l s h =
@@ -159,7 +163,12 @@ quiet-leaders (r ∷ rs) l s h =
     (quiet-then q (w .0), w .1 ∙ omega arith)
 
 pub quiet-room : {l m : List ℕ} → Quiet l m → Room l → Room m
-quiet-room {l} {m} q R = omega (arith, R, q .journal, count-cong idLimit (orderedId m) (orderedId l) (λ y h. and-cong {a = roundOk (idRound y)} refl (λ e. same y e)))
+quiet-room {l} {m} q R = omega (
+  arith,
+  R,
+  q .journal,
+  count-cong idLimit (orderedId m) (orderedId l) (λ y h. and-cong {a = roundOk (idRound y)} refl (λ e. same y e)),
+)
   where
     same : (y : ℕ) → roundOk (idRound y) ≡ true → has (orderedMask m (idRound y)) (idMember y) ≡ has (orderedMask l (idRound y)) (idMember y)
     same y e = let h = round-range (idRound y) e in ap (λ (x : ℕ). has x (idMember y)) (q .ordered (idRound y) (h .0) (h .1))
@@ -177,16 +186,19 @@ pub record Led (n mask : ℕ) (l : List ℕ) : Type 0 where
 pub record Taken (l : List ℕ) (n q mask : ℕ) : Type 0 where
   pub none : has mask 0 ≡ false
   pub led : (m : List ℕ) → m ≡ appendLeaders l (select 32 (has mask)) → Led n mask (set m 2 q)
-  pub done : (m o : List ℕ) → m ≡ appendLeaders l (select 32 (has mask)) → o ≡ orderLeaders (vertices (set m 2 q)) (set m 2 q) (select 32 (has mask)) → o ≡ commit l q
+  pub done : (m o : List ℕ) → m ≡ appendLeaders l (select 32 (has mask)) → o ≡ orderLeaders (vertices (set m 2 q)) (set m 2 q) (select 32 (has mask))
+      → o ≡ commit l q
 
-module _ (n : ℕ) (l : List ℕ) (S : Standing l) (R : Room l) (e : n ≡ memberCount l) (few : leaderCount l ≤ committedRound l) (q : ℕ) (low : committedRound l < q) (high : q ≤ 31)
+module _ (n : ℕ) (l : List ℕ) (S : Standing l) (R : Room l) (e : n ≡ memberCount l) (few : leaderCount l ≤ committedRound l) (q : ℕ)
+    (low : committedRound l < q) (high : q ≤ 31)
     (there : held (vertices l) q (leader n q) ≡ true) (mask : ℕ) (is : select 32 (has mask) ≡ chain n (vertices l) (committedRound l) q) where
   -- a round that is taken is in the chain
   in-chain : (r : ℕ) → r < 32 → has mask r ≡ true → among (chain n (vertices l) (committedRound l) q) r ≡ true
   in-chain r h t = ap (λ (x : List ℕ). among x r) (sym is) ∙ among-select 32 (has mask) r ∙ rw (lt-ltb r 32 h, t)
 
   taken-none : has mask 0 ≡ false
-  taken-none = ⊎-elim (λ t. absurd (omega (arith, chain-bounds n (vertices l) (committedRound l) q 0 (in-chain 0 (omega arith) t) .0))) (λ t. t) (which (has mask 0))
+  taken-none = ⊎-elim (λ t. absurd (omega (arith, chain-bounds n (vertices l) (committedRound l) q 0 (in-chain 0 (omega arith) t) .0))) (λ t. t)
+      (which (has mask 0))
 
   taken-held : (r : ℕ) → r < 32 → has mask r ≡ true → held (vertices l) r (leader n r) ≡ true
   taken-held r h t = chain-held n (vertices l) (committedRound l) q r there (in-chain r h t)
@@ -198,7 +210,9 @@ module _ (n : ℕ) (l : List ℕ) (S : Standing l) (R : Room l) (e : n ≡ membe
       let w = quiet-leaders (select 32 (has mask)) l (S .size) (omega arith) in
       (quiet-then (w .0) (quiet-head (appendLeaders l (select 32 (has mask))) 2 q (omega arith) (omega arith)), omega (arith, w .1))
 
-  committed-is : (m : List ℕ) → m ≡ orderLeaders (vertices (set (appendLeaders l (select 32 (has mask))) 2 q)) (set (appendLeaders l (select 32 (has mask))) 2 q) (select 32 (has mask)) → m ≡ commit l q
+  committed-is : (m : List ℕ)
+      → m ≡ orderLeaders (vertices (set (appendLeaders l (select 32 (has mask))) 2 q)) (set (appendLeaders l (select 32 (has mask))) 2 q)
+      (select 32 (has mask)) → m ≡ commit l q
   unfolding commit
   committed-is m d =
       d ∙ ap (λ (v : Records). orderLeaders v (set (appendLeaders l (select 32 (has mask))) 2 q) (select 32 (has mask))) (vertices-same (quiet-led .0 .alike))

@@ -88,7 +88,8 @@ module _ (n : ℕ) (l : List ℕ) (S : Standing l) (R : Room l) (e : n ≡ membe
       let size : length (soFar y) ≡ 5864 = E .alike .size ∙ S .size in
       let space = room-for (soFar y) y (E .room) (b .0) (b .1) fresh in
       let kept : (z : ℕ) → y + 1 ≤ z → orderedId (enter (soFar y) y) z ≡ orderedId l z =
-      λ z k. entered-ordered (soFar y) y size (b .0) (b .1) space z ∙ rw (ne-eqb y z (λ d. omega arith)) (or-false (orderedId (soFar y) z) ∙ E .later z (omega arith))
+      λ z k. entered-ordered (soFar y) y size (b .0) (b .1) space z
+      ∙ rw (ne-eqb y z (λ d. omega arith)) (or-false (orderedId (soFar y) z) ∙ E .later z (omega arith))
       in
       record {
         alike = subst (λ (x : List ℕ). Alike l x) (so-far-in y h) (alike-then (E .alike) (alike-enter (soFar y) y (b .0) (b .1) space));
@@ -119,7 +120,8 @@ module _ (n : ℕ) (l : List ℕ) (S : Standing l) (R : Room l) (e : n ≡ membe
   -- the first 16 numbers are no ids
   pub start : l ≡ soFar 16
   unfolding soFarIn
-  start = enter-none l ∙ ap (enterAll l) (sym (select-none 16 wanted (λ y k. ⊎-elim (λ h. absurd (omega (arith, wanted-range y h .0))) (λ h. h) (which (wanted y)))))
+  start = enter-none l
+      ∙ ap (enterAll l) (sym (select-none 16 wanted (λ y k. ⊎-elim (λ h. absurd (omega (arith, wanted-range y h .0))) (λ h. h) (which (wanted y)))))
 
   -- one id, by the mask of its round
   step : (y mask : ℕ) → has mask (idMember y) ≡ history n (vertices l) r (leader n r) y → orderId (soFar y) mask y ≡ soFar (y + 1)
@@ -129,7 +131,8 @@ module _ (n : ℕ) (l : List ℕ) (S : Standing l) (R : Room l) (e : n ≡ membe
       same : orderedId (soFar y) y ≡ orderedId l y
       same = entering y .later y (omega arith)
 
-      go : (orderedId l y ≡ true) ⊎ (orderedId l y ≡ false) → (history n (vertices l) r (leader n r) y ≡ true) ⊎ (history n (vertices l) r (leader n r) y ≡ false)
+      go : (orderedId l y ≡ true) ⊎ (orderedId l y ≡ false)
+          → (history n (vertices l) r (leader n r) y ≡ true) ⊎ (history n (vertices l) r (leader n r) y ≡ false)
           → orderId (soFar y) mask y ≡ soFar (y + 1)
       go (inl a) b = sym (order-old (soFar y) mask y (same ∙ a)) ∙ so-far-out y (and-fails-left _ (ap not a))
       go (inr a) (inl b) = sym (order-new (soFar y) mask y (h ∙ b) (same ∙ a)) ∙ so-far-in y (and-both (ap not a) b)
@@ -147,9 +150,11 @@ module _ (n : ℕ) (l : List ℕ) (S : Standing l) (R : Room l) (e : n ≡ membe
   finish = ap (λ (m : ℕ). enterAll l (select 528 (λ y. not (orderedId l y) && history m (vertices l) r (leader m r) y))) e
 
   -- the mask of an id's round, in the history's masks
-  mask-of : (y : ℕ) → 16 ≤ y → y < 528 → has (getD (historyMasks n (vertices l) r (leader n r)) (idRound y - 1) 0) (idMember y) ≡ history n (vertices l) r (leader n r) y
+  mask-of : (y : ℕ) → 16 ≤ y → y < 528 → has (getD (historyMasks n (vertices l) r (leader n r)) (idRound y - 1) 0) (idMember y)
+      ≡ history n (vertices l) r (leader n r) y
   mask-of y low high =
-      history-claim n (vertices l) (rw e (S .members)) (rw e (S .formed)) r (leader n r) there (idRound y) (idMember y) (omega arith) (omega arith) (omega arith)
+      history-claim n (vertices l) (rw e (S .members)) (rw e (S .formed)) r (leader n r) there (idRound y) (idMember y) (omega arith) (omega arith)
+      (omega arith)
       ∙ ap (history n (vertices l) r (leader n r)) (id-split y)
 
   -- the ids of a round below its member k, by the round's mask

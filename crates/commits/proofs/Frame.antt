@@ -1,4 +1,5 @@
--- What a change of the lists, the counts or the ordered masks leaves as it was: the vertices, the first messages, and what the commits rely on. Assumes nothing.
+-- What a change of the lists, the counts or the ordered masks leaves as it was: the vertices, the first messages, and what the commits rely on.
+-- Assumes nothing.
 use mathlib.Core.Path.{_≡_, refl, sym, ap, ap₂, _∙_}
 use mathlib.Core.Bool.{Bool, true, false, cond, not, _&&_, _||_, or-false}
 use mathlib.Core.Logic.{_⊎_, inl, inr, ⊎-elim}
@@ -21,7 +22,8 @@ use Rattle.protocol.specs.Dag.{Records, Dag}
 use Rattle.protocol.specs.Chain.{leaderId}
 use Rattle.protocol.proofs.Laws.{records-ext, well-formed-cong}
 use Rattle.replica.specs.Layout.{masksAt, cellAt, orderedAt, heldAt, heardAt, votesAt}
-use Rattle.replica.specs.State.{memberCount, committedRound, leaderCount, journalCount, heldMask, heardMask, votesMask, orderedMask, cell, vertices, firsts, dag, orderedId}
+use Rattle.replica.specs.State.{memberCount, committedRound, leaderCount, journalCount, heldMask, heardMask, votesMask, orderedMask, cell, vertices}
+use Rattle.replica.specs.State.{firsts, dag, orderedId}
 use Rattle.commits.specs.Commit.{appendLeader, appendLeaders, enter, enterAll, orderLeader, orderLeaders}
 use Rattle.commits.specs.Standing.{Standing, Room}
 
@@ -202,4 +204,10 @@ count-grow (suc k) s t y l e h = go (eq-or-lt-of-le (le-of-suc-le-suc l)) (λ m.
 -- entering an id that is not ordered leaves room for the rest
 pub room-kept : (l : List ℕ) (y : ℕ) → length l ≡ 5864 → 16 ≤ y → y < 528 → journalCount l < 512 → orderedId l y ≡ false → Room l → Room (enter l y)
 room-kept l y size low high room e R =
-    omega (arith, R, entered-count l y size low high room, count-grow 528 (orderedId l) (orderedId (enter l y)) y high e (entered-ordered l y size low high room))
+    omega (
+      arith,
+      R,
+      entered-count l y size low high room,
+      count-grow 528 (orderedId l) (orderedId (enter l y)) y high e
+          (entered-ordered l y size low high room),
+    )

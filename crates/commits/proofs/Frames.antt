@@ -74,7 +74,8 @@ standing-kept K l l′ p k f g S =
       low = rw n (S .low);
       high = rw n (S .high);
       formed = rw (n, v) (S .formed);
-      words = λ r q i a b c d. ap (λ (x : Records). getD (x r q) i 0) v ∙ S .words r q i a b c d ∙ sym (p .same (cellAt r q + i) (g (cellAt r q + i) (omega arith)));
+      words = λ r q i a b c d. ap (λ (x : Records). getD (x r q) i 0) v ∙ S .words r q i a b c d
+          ∙ sym (p .same (cellAt r q + i) (g (cellAt r q + i) (omega arith)));
       held-low = λ r a b. rw (n, p .same (heldAt r) (f r 0 a b (omega arith))) (S .held-low r a b);
       votes-low = λ r a b. rw (n, p .same (votesAt r) (f r 2 a b (omega arith))) (S .votes-low r a b);
       votes-heard = λ r q a b h. ap (λ (m : ℕ). has m q) (p .same (heardAt r) (f r 1 a b (omega arith)))

@@ -27,14 +27,16 @@ use Rattle.protocol.proofs.History.{Named, named-up, history-held}
 use Rattle.protocol.proofs.Chain.{chain-held}
 use Rattle.protocol.proofs.Laws.{chain-length}
 use Rattle.replica.specs.Layout.{stateSize, orderedAt}
-use Rattle.replica.specs.State.{memberCount, committedRound, leaderCount, journalCount, orderedMask, leaderWord, journalWord, leaderList, journalList, vertices, firsts, orderedId}
+use Rattle.replica.specs.State.{memberCount, committedRound, leaderCount, journalCount, orderedMask, leaderWord, journalWord, leaderList, journalList}
+use Rattle.replica.specs.State.{vertices, firsts, orderedId}
 use Rattle.replica.proofs.Sound.{Sound, leader-length, journal-length, leaders-few}
 use Rattle.replica.proofs.Dags.{round-ok, dag-well-formed}
 use Rattle.replica.proofs.Keeping.{Keeps, keeps-refl, keeps-trans, keeps-less, keeps-set, leader-list-kept, journal-list-kept, ordered-id-kept}
 use Rattle.commits.specs.Commit.{appendLeader, appendLeaders, enter, enterAll, orderLeader, orderLeaders, taken, commit}
 use Rattle.commits.specs.Standing.{Standing, Room}
 use Rattle.commits.proofs.Ground.{room, room-limit}
-use Rattle.commits.proofs.Frames.{OffLeaders, OffJournal, OffLists, keeps-leader, keeps-entry, leaders-lists, journal-lists, lists-standing, lists-vertices, lists-firsts}
+use Rattle.commits.proofs.Frames.{OffLeaders, OffJournal, OffLists, keeps-leader, keeps-entry, leaders-lists, journal-lists, lists-standing}
+use Rattle.commits.proofs.Frames.{lists-vertices, lists-firsts}
 
 -- ---- words set one after the other
 
@@ -143,7 +145,8 @@ module _ (l : List ℕ) (y : ℕ) (size : length l ≡ stateSize) (low : 1 ≤ i
   enter-ordered z = go (which (roundOk (idRound z))) (which (eqb (idRound y) (idRound z)))
     where
       members : idRound y ≡ idRound z → eqb (idMember y) (idMember z) ≡ eqb y z
-      members e = bool-ext (λ d. eq-eqb y z (omega (arith, eqb-true (idMember y) (idMember z) d))) (λ d. eq-eqb (idMember y) (idMember z) (ap idMember (eqb-true y z d)))
+      members e = bool-ext (λ d. eq-eqb y z (omega (arith, eqb-true (idMember y) (idMember z) d))) (λ d. eq-eqb (idMember y) (idMember z)
+          (ap idMember (eqb-true y z d)))
 
       apart : (idRound y ≡ idRound z → ⊥) → eqb y z ≡ false
       apart h = ne-eqb y z (λ e. h (ap idRound e))
@@ -159,7 +162,8 @@ module _ (l : List ℕ) (y : ℕ) (size : length l ≡ stateSize) (low : 1 ≤ i
       go (inl e) (inr d) =
           let w = round-range (idRound z) e in
           let h = eqb-false (idRound y) (idRound z) d in
-          rw (e, apart h) (ap (λ (m : ℕ). has m (idMember z)) (mask-other (idRound z) (w .0) (w .1) h) ∙ sym (or-false (has (orderedMask l (idRound z)) (idMember z))))
+          rw (e, apart h) (ap (λ (m : ℕ). has m (idMember z)) (mask-other (idRound z) (w .0) (w .1) h)
+          ∙ sym (or-false (has (orderedMask l (idRound z)) (idMember z))))
 
   -- the ordered masks stay below a bound that is above y's member
   pub enter-low : (k : ℕ) → idMember y < k → ((r : ℕ) → 1 ≤ r → r ≤ 32 → orderedMask l r < 2 ^ k) → (r : ℕ) → 1 ≤ r → r ≤ 32 → orderedMask (enter l y) r < 2 ^ k
@@ -182,7 +186,8 @@ module _ (l : List ℕ) (y : ℕ) (size : length l ≡ stateSize) (low : 1 ≤ i
           drop-set-lt 232 (set (set l (orderedAt (idRound y)) (add (orderedMask l (idRound y)) (idMember y))) (232 + journalCount l) y) 4
           (journalCount l + 1) (omega arith)
           ∙ drop-set-add 232 (set l (orderedAt (idRound y)) (add (orderedMask l (idRound y)) (idMember y))) (journalCount l) y
-          ∙ ap (λ (xs : List ℕ). set xs (journalCount l) y) (drop-set-lt 232 l (orderedAt (idRound y)) (add (orderedMask l (idRound y)) (idMember y)) (omega arith))
+          ∙ ap (λ (xs : List ℕ). set xs (journalCount l) y) (drop-set-lt 232 l (orderedAt (idRound y)) (add (orderedMask l (idRound y)) (idMember y))
+          (omega arith))
 
   enter-rest : (i : ℕ) → journalCount l + 1 ≤ i → journalWord (enter l y) i ≡ journalWord l i
   unfolding enter
@@ -330,7 +335,8 @@ module _ (n : ℕ) (v : Records) (g : legal n ≡ true) (W : WellFormed n v) whe
         entered = entered-trans l l₁ (orderLeaders v l₁ rs) (new l r e size R k) (rest .ids) one (rest .entered);
         extends = sym (append-assoc (journalList l) (new l r e size R k) (rest .ids)) ∙ ap (λ (j : List ℕ). j ++ rest .ids) (sym (one .list)) ∙ rest .extends
             ∙ ap (λ (j : List ℕ). extend n v j rs) (one .list ∙ ap (λ (x : List ℕ). journalList l ++ x) (new-fresh l r e size R k N));
-        named = λ y d. ⊎-elim (λ c. new-among l r e size R k y c .0) (λ c. rest .named y c) (or-cases _ _ (sym (among-append (new l r e size R k) (rest .ids) y) ∙ d));
+        named = λ y d. ⊎-elim (λ c. new-among l r e size R k y c .0) (λ c. rest .named y c)
+            (or-cases _ _ (sym (among-append (new l r e size R k) (rest .ids) y) ∙ d));
       }
 
 -- ---- a commit
@@ -513,7 +519,8 @@ entered-standing : (l xs l′ : List ℕ) → Entered l xs l′ → Standing l �
 entered-standing l xs l′ E T = lists-standing l l′ (journal-lists l l′ (E .kept)) T
 
 -- by an id that is not ordered yet
-pub standing-enter : (l : List ℕ) (y : ℕ) → Standing l → Room l → 1 ≤ idRound y → idRound y ≤ 32 → orderedId l y ≡ false → Standing (enter l y) × Room (enter l y)
+pub standing-enter : (l : List ℕ) (y : ℕ) → Standing l → Room l → 1 ≤ idRound y → idRound y ≤ 32 → orderedId l y ≡ false → Standing (enter l y)
+    × Room (enter l y)
 standing-enter l y T R a b new = let E = enter-one l y (T .size) R a b new in (entered-standing l (y ∷ []) (enter l y) E T, E .room)
 
 -- by several

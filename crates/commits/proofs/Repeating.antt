@@ -62,8 +62,10 @@ module _ (l : List ℕ) (G : Going l) (q : ℕ) (c : Committable l q) where
   unfolding commit
   commit-alike =
       let Q = led .0 in
-      let w = ordered-kept (taken l q) (set (appendLeaders l (taken l q)) 2 q) (vertices l) (sym (vertices-same (Q .alike))) (standing-kept (Q .alike) (G .standing))
-      (quiet-room Q (G .room)) (λ r m. rw (vertices-same (Q .alike), Q .alike .members) (chain-held (memberCount l) (vertices l) (committedRound l) q r (c .there) m))
+      let w = ordered-kept (taken l q) (set (appendLeaders l (taken l q)) 2 q) (vertices l) (sym (vertices-same (Q .alike))) (standing-kept (Q .alike)
+      (G .standing))
+      (quiet-room Q (G .room))
+      (λ r m. rw (vertices-same (Q .alike), Q .alike .members) (chain-held (memberCount l) (vertices l) (committedRound l) q r (c .there) m))
       in
       (alike-then (Q .alike) (w .0), w .1)
 
@@ -71,7 +73,8 @@ module _ (l : List ℕ) (G : Going l) (q : ℕ) (c : Committable l q) where
   pub commit-round : committedRound (commit l q) ≡ q
   unfolding commit
   commit-round =
-      let w = quiet-leaders (taken l q) l (G .standing .size) (omega (arith, G .few, c .high, chain-length (memberCount l) (vertices l) (committedRound l) q (omega (arith, c .low)))) in
+      let w = quiet-leaders (taken l q) l (G .standing .size)
+      (omega (arith, G .few, c .high, chain-length (memberCount l) (vertices l) (committedRound l) q (omega (arith, c .low)))) in
       order-head (vertices l) (taken l q) (set (appendLeaders l (taken l q)) 2 q) 2 (omega arith)
       ∙ getD-set-same (appendLeaders l (taken l q)) 2 q 0 (omega (arith, w .0 .alike .size, G .standing .size))
 
@@ -138,7 +141,8 @@ onward-next l₀ l m q o e h d =
       alike = alike-then (o .alike) (commit-alike l (o .going) q c .0);
       left = o .left - 1;
       enough = omega (arith, o .enough, commit-round l (o .going) q c, c .low);
-      is = o .is ∙ commit-next l (o .left) (omega arith) (omega (arith, o .enough, c .low, c .high)) ∙ ap (λ (x : ℕ). commitUpTo (commit l x) (o .left - 1)) (sym e);
+      is = o .is ∙ commit-next l (o .left) (omega arith) (omega (arith, o .enough, c .low, c .high))
+          ∙ ap (λ (x : ℕ). commitUpTo (commit l x) (o .left - 1)) (sym e);
     })
 
 pub onward-end : (l₀ l : List ℕ) → Onward l₀ l → 32 ≤ lowest l → l ≡ commitUpTo l₀ 31

@@ -22,7 +22,8 @@ use Rattle.protocol.specs.Dag.{Dag, present, held, votes, enough, committed}
 use Rattle.protocol.specs.Chain.{leaderId}
 use Rattle.protocol.proofs.History.{id-round, id-member}
 use Rattle.replica.specs.Layout.{cellAt}
-use Rattle.replica.specs.State.{memberCount, committedRound, leaderCount, journalCount, heldMask, heardMask, votesMask, orderedMask, cell, vertices, firsts, dag, orderedId}
+use Rattle.replica.specs.State.{memberCount, committedRound, leaderCount, journalCount, heldMask, heardMask, votesMask, orderedMask, cell, vertices}
+use Rattle.replica.specs.State.{firsts, dag, orderedId}
 use Rattle.replica.specs.WellFormed.{subset}
 use Rattle.replica.proofs.Laws.{subset-has}
 use Rattle.replica.proofs.Parents.{round-in}
@@ -86,7 +87,8 @@ pub record Appending (n : ℕ) (l₀ : List ℕ) (taken r : ℕ) (l : List ℕ) 
   pub few : leaderCount l ≤ 32 + r
   pub is : l ≡ appendLeaders l₀ (select r (has taken))
 
-pub appending-start : (n : ℕ) (l : List ℕ) (taken : ℕ) → length l ≡ 5864 → n ≡ memberCount l → leaderCount l ≤ 32 → has taken 0 ≡ false → Appending n l taken 1 l
+pub appending-start : (n : ℕ) (l : List ℕ) (taken : ℕ) → length l ≡ 5864 → n ≡ memberCount l → leaderCount l ≤ 32 → has taken 0 ≡ false
+    → Appending n l taken 1 l
 appending-start n l taken s m f e =
     record { size = s; members = m; few = omega arith; is = append-none l ∙ ap (appendLeaders l) (sym (select-out 0 (has taken) e ∙ select-zero (has taken))) }
 
@@ -200,7 +202,8 @@ first-votes l S n q p e low high = go (which (has (votesMask l (suc q)) p)) (whi
     in′ : roundOk (suc q) ≡ true
     in′ = round-in (suc q) (omega arith) (omega arith)
 
-    go : (has (votesMask l (suc q)) p ≡ true) ⊎ (has (votesMask l (suc q)) p ≡ false) → (has (heardMask l (suc q)) p ≡ true) ⊎ (has (heardMask l (suc q)) p ≡ false)
+    go : (has (votesMask l (suc q)) p ≡ true) ⊎ (has (votesMask l (suc q)) p ≡ false)
+        → (has (heardMask l (suc q)) p ≡ true) ⊎ (has (heardMask l (suc q)) p ≡ false)
         → votes n q (firsts l (suc q) p) ≡ has (votesMask l (suc q)) p
     go (inl a) (inl b) = rw (in′, b, a, ← e, sub-one (suc q)) (has-one (leader n q) (leader n q) ∙ eq-eqb (leader n q) (leader n q) refl)
     go (inl a) (inr b) = never (S .votes-heard (suc q) p (omega arith) (omega arith) a) b
@@ -227,7 +230,8 @@ pub not-led : (n : ℕ) (d : Dag) (q : ℕ) → held (d .vertex) q (leader n q) 
 unfolding committed
 not-led n d q e = sym (and-fails-left _ e)
 
-pub by-messages : (n : ℕ) (d : Dag) (q : ℕ) → held (d .vertex) q (leader n q) ≡ true → enough n (λ p. votes n q (d .first (suc q) p)) ≡ true → true ≡ committed n d q
+pub by-messages : (n : ℕ) (d : Dag) (q : ℕ) → held (d .vertex) q (leader n q) ≡ true → enough n (λ p. votes n q (d .first (suc q) p)) ≡ true
+    → true ≡ committed n d q
 unfolding committed
 by-messages n d q e h = sym (and-both e (or-right (enough n (λ p. votes n q (d .vertex (suc q) p))) h))
 
@@ -247,7 +251,8 @@ unfolding committable
 committable-low l q h = and-fails-left _ (le-ltb (committedRound l) q h)
 
 -- a vertex votes exactly if the strong mask in its cell has the leader
-pub vertex-vote : (l : List ℕ) → Standing l → (n q p at : ℕ) → q ≤ 31 → p < 16 → at ≡ cellAt (q + 1) p → has (getD l at 0) (leader n q) ≡ votes n q (vertices l (suc q) p)
+pub vertex-vote : (l : List ℕ) → Standing l → (n q p at : ℕ) → q ≤ 31 → p < 16 → at ≡ cellAt (q + 1) p
+    → has (getD l at 0) (leader n q) ≡ votes n q (vertices l (suc q) p)
 vertex-vote l S n q p at high few e =
     ap (λ (x : ℕ). has x (leader n q)) (ap (λ (x : ℕ). getD l x 0) e ∙ sym (strong-word l S (q + 1) p (omega arith) (omega arith) few))
     ∙ ap (λ (x : ℕ). votes n q (vertices l x p)) (add-one q)

@@ -38,7 +38,13 @@ select-first (suc k) t s u l e z o = go (eq-or-lt-of-le (le-of-suc-le-suc l)) (�
   where
     go : (t ≡ k) ⊎ (t < k) → (t < k → select k s ≡ t ∷ select k u) → select (suc k) s ≡ t ∷ select (suc k) u
     go (inl q) ih =
-        rw (select-none k s (λ i m. o i (λ d. omega arith) ∙ z i (omega arith)), select-none k u (λ i m. z i (omega arith)), ap s (sym q) ∙ e, z k (omega arith))
+        rw (
+          select-none k s (λ i m. o i (λ d. omega arith) ∙ z i (omega arith)),
+          select-none k u (λ i m. z i (omega arith)),
+          ap s (sym q)
+              ∙ e,
+          z k (omega arith),
+        )
         (ap (λ (x : ℕ). x ∷ []) (sym q))
     go (inr m) ih = ap₂ _++_ (ih m) (ap (λ (b : Bool). cond b (k ∷ []) []) (o k (λ d. omega arith)))
 

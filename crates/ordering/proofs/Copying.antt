@@ -5,7 +5,8 @@ use Prim.Native.Nat.{ℕ, _+_, _-_, _≤_, _<_}
 use native.Mathlib.Numerals.{add-one}
 use native.Mathlib.Omega.{arith}
 use lib.ListN.{length, getD, take, drop, set, List·getD-append}
-use lib.Seq.{take-suc, take-suc-set, take-all, take-at, drop-at, drop-drop, drop-append-le, getD-take, getD-drop, length-take-le, paste, length-paste-head, take-paste, drop-paste}
+use lib.Seq.{take-suc, take-suc-set, take-all, take-at, drop-at, drop-drop, drop-append-le, getD-take, getD-drop, length-take-le, paste}
+use lib.Seq.{length-paste-head, take-paste, drop-paste}
 
 -- a turn of a loop that copies
 pub take-copied : (d s : List ℕ) (i : ℕ) → i < length d → i < length s → take i d ≡ take i s → take (i + 1) (set d i (getD s i 0)) ≡ take (i + 1) s

@@ -35,7 +35,8 @@ commits-grow zero l S = (omega arith, omega arith)
 commits-grow (suc k) l S = go (which (ltb (lowest l) 32)) (commits-grow k (commit l (lowest l)))
   where
     go : (ltb (lowest l) 32 ≡ true) ⊎ (ltb (lowest l) 32 ≡ false)
-        → (Sound (commit l (lowest l)) → (leaderCount (commit l (lowest l)) ≤ leaderCount (commitUpTo (commit l (lowest l)) k)) × (journalCount (commit l (lowest l)) ≤ journalCount (commitUpTo (commit l (lowest l)) k)))
+        → (Sound (commit l (lowest l)) → (leaderCount (commit l (lowest l)) ≤ leaderCount (commitUpTo (commit l (lowest l)) k))
+        × (journalCount (commit l (lowest l)) ≤ journalCount (commitUpTo (commit l (lowest l)) k)))
         → (leaderCount l ≤ leaderCount (commitUpTo l (suc k))) × (journalCount l ≤ journalCount (commitUpTo l (suc k)))
     go (inl e) ih =
         let w = committable-round l (lowest l) (least-sat 32 (committable l) (ltb-true _ _ e)) in

@@ -25,7 +25,8 @@ use Rattle.protocol.proofs.History.{id-round, id-member}
 use Rattle.protocol.proofs.Chain.{chain-some, chain-held, walk-rising}
 use Rattle.protocol.proofs.Journal.{extend-once}
 use Rattle.replica.specs.Layout.{stateSize, heldAt}
-use Rattle.replica.specs.State.{memberCount, committedRound, heldMask, orderedMask, timeoutsMask, noVotesMask, leaderList, journalList, vertices, dag, heldId, orderedId}
+use Rattle.replica.specs.State.{memberCount, committedRound, heldMask, orderedMask, timeoutsMask, noVotesMask, leaderList, journalList, vertices, dag}
+use Rattle.replica.specs.State.{heldId, orderedId}
 use Rattle.replica.specs.WellFormed.{wellFormed}
 use Rattle.replica.specs.Outcome.{outcome}
 use Rattle.replica.proofs.Sound.{Sound, Leaders, Journal, Led, led-append, led-more, sound, well-formed}
@@ -84,7 +85,8 @@ module _ (l : List ℕ) (S : Sound l) (q : ℕ) (above : committedRound l < q) (
   taken-led : Led (memberCount l) (heldId l) (committedRound l) (map (leaderId (memberCount l)) (taken l q)) q
   taken-led = rw (chain-some (memberCount l) (vertices l) (committedRound l) q above)
       (led-rising (memberCount l) (heldId l) (omega (arith, S .front .low)) (S .front .high) (committedRound l) (q - 1) q
-      (walk (memberCount l) (vertices l) (committedRound l) q (q - 1)) (walk-rising (memberCount l) (vertices l) (committedRound l) q (q - 1) (omega arith)) (omega arith)
+      (walk (memberCount l) (vertices l) (committedRound l) q (q - 1))
+      (walk-rising (memberCount l) (vertices l) (committedRound l) q (q - 1) (omega arith)) (omega arith)
       (λ r e. there r (chain-held (memberCount l) (vertices l) (committedRound l) q r h
       (ap (λ (x : List ℕ). among x r) (chain-some (memberCount l) (vertices l) (committedRound l) q above) ∙ e))))
     where
@@ -109,7 +111,8 @@ module _ (l : List ℕ) (S : Sound l) (q : ℕ) (above : committedRound l < q) (
     ordered-held = now-held;
     few = omega (arith, C .room, room-limit (commit l q));
     alone = ap once (C .extends) ∙ extend-once (memberCount l) (vertices l) (journalList l) (taken l q) (S .journal .alone);
-    names = λ y. ap (λ (j : List ℕ). among j y) (C .journal) ∙ among-append (journalList l) (C .ids) y ∙ ap (λ (b : Bool). b || among (C .ids) y) (S .journal .names y)
+    names = λ y. ap (λ (j : List ℕ). among j y) (C .journal) ∙ among-append (journalList l) (C .ids) y
+        ∙ ap (λ (b : Bool). b || among (C .ids) y) (S .journal .names y)
         ∙ sym (C .ordered y);
     rest = λ i a b. C .journal-rest i a b ∙ S .journal .rest i (omega (arith, C .journal-count)) b;
   }
@@ -186,7 +189,8 @@ module _ (l : List ℕ) (S : Sound l) where
   pub sound-vertex : (r p : ℕ) (body : List ℕ) → numberOf (firstNo (vertexQuestions l r p body)) ≡ 0 → Sound (commitAll (raiseRound (putVertex l r p body)))
   sound-vertex r p body e =
       let w = record-passed l r p body (placeQuestions l r p body) e in
-      sound-commits 31 (raiseRound (putVertex l r p body)) (sound-raise (putVertex l r p body) (sound-put l S r p body (w .2) (parents-passed l r p body (w .3))))
+      sound-commits 31 (raiseRound (putVertex l r p body))
+      (sound-raise (putVertex l r p body) (sound-put l S r p body (w .2) (parents-passed l r p body (w .3))))
 
   -- after an admitted first message
   pub sound-first : (r p : ℕ) (body : List ℕ) → numberOf (firstNo (firstQuestions l r p body)) ≡ 0 → Sound (commitAll (hear l r p body))

@@ -21,7 +21,8 @@ use Rattle.replica.specs.Layout.{masksAt, heldAt, heardAt, votesAt, timeoutsAt,
 use Rattle.replica.specs.State.{memberCount, currentRound, heldMask, heardMask, votesMask, cell, heldId}
 use Rattle.replica.specs.WellFormed.{parentsHeld}
 use Rattle.replica.proofs.Sound.{Masks, Cells, Sound}
-use Rattle.replica.proofs.Keeping.{Keeps, keeps-set, keeps-part, parents-more, front-kept, masks-kept, cells-kept, held-kept, held-id-kept, leaders-kept, journal-kept}
+use Rattle.replica.proofs.Keeping.{Keeps, keeps-set, keeps-part, parents-more, front-kept, masks-kept, cells-kept, held-kept, held-id-kept}
+use Rattle.replica.proofs.Keeping.{leaders-kept, journal-kept}
 use Rattle.commits.specs.Commit.{passable, highestPassable, raiseRound}
 use Rattle.ordering.specs.Calls.{addMember, putVertex, hear}
 use Rattle.ordering.proofs.Copying.{paste-before, paste-after, paste-part}
@@ -52,7 +53,8 @@ sound-round l x a b S = record {
   };
   masks = masks-kept K l l′ p (λ e. omega arith) (λ r i c d k e. omega arith) (S .masks);
   cells = cells-kept K l l′ p held (λ j c e. omega arith) (λ e. omega arith) (S .cells);
-  leaders = leaders-kept K l l′ p (λ e. omega arith) (λ e. omega arith) (λ e. omega arith) (λ j c d e. omega arith) (λ y e. held-id-kept K l l′ p held y ∙ e) (S .leaders);
+  leaders = leaders-kept K l l′ p (λ e. omega arith) (λ e. omega arith) (λ e. omega arith) (λ j c d e. omega arith)
+      (λ y e. held-id-kept K l l′ p held y ∙ e) (S .leaders);
   journal = journal-kept K l l′ p (λ r c d e. omega arith) (λ e. omega arith) (λ e. omega arith) (λ j c d e. omega arith)
       (λ r q c d e. held-kept K l l′ p held r q c d ∙ e) (S .journal);
 }
@@ -160,7 +162,8 @@ module _ (l : List ℕ) (S : Sound l) (r p : ℕ) (low : 1 ≤ r) (high : r ≤ 
     note-low j h = rw note-members (add-low l (masksAt r + i) p note-fits (memberCount l) j few h)
 
     -- where the votes are within heard, the masks are as they should be
-    note-masks : ((s q : ℕ) → 1 ≤ s → s ≤ 32 → has (votesMask (addMember l (masksAt r + i) p) s) q ≡ true → has (heardMask (addMember l (masksAt r + i) p) s) q ≡ true)
+    note-masks : ((s q : ℕ) → 1 ≤ s → s ≤ 32 → has (votesMask (addMember l (masksAt r + i) p) s) q ≡ true
+        → has (heardMask (addMember l (masksAt r + i) p) s) q ≡ true)
         → votesMask (addMember l (masksAt r + i) p) 1 ≡ 0 → Masks (addMember l (masksAt r + i) p)
     note-masks f g = record {
       held-low = λ s a b. note-low (heldAt s) (S .masks .held-low s a b);
@@ -224,12 +227,14 @@ sound-hear l S r p body A = go (which (votes (memberCount l) (r - 1) body))
 
     go : (votes (memberCount l) (r - 1) body ≡ true) ⊎ (votes (memberCount l) (r - 1) body ≡ false) → Sound (hear l r p body)
     go (inl e) =
-        rw e (sound-votes (addMember l (heardAt r) p) H r p (A .round-low) (A .round-high) (rw members (A .source-low)) (later e) (add-there l (heardAt r) p fits))
+        rw e (sound-votes (addMember l (heardAt r) p) H r p (A .round-low) (A .round-high) (rw members (A .source-low)) (later e)
+        (add-there l (heardAt r) p fits))
     go (inr e) = rw e H
 
 -- ---- a vertex
 
-module _ (l : List ℕ) (S : Sound l) (r p : ℕ) (body : List ℕ) (ok : numberOf (bodyRefusal (memberCount l) r p body) ≡ 0) (there : parentsHeld l r body ≡ true) where
+module _ (l : List ℕ) (S : Sound l) (r p : ℕ) (body : List ℕ) (ok : numberOf (bodyRefusal (memberCount l) r p body) ≡ 0)
+    (there : parentsHeld l r body ≡ true) where
   A : Admitted (memberCount l) r p body
   A = admitted (memberCount l) r p body ok
 
@@ -373,7 +378,8 @@ module _ (l : List ℕ) (S : Sound l) (r p : ℕ) (body : List ℕ) (ok : number
               let d = eqb-false (cellAt s q) (cellAt r p) e in
               ap (parentsHeld l s) (cell-same s q d) ∙ S .cells .parents s q a b k (old s q a b d h)
 
-      zeros : (s q i : ℕ) → 1 ≤ s → s ≤ 32 → q < 16 → i < 10 → has (heldMask (putVertex l r p body) s) q ≡ false → getD (putVertex l r p body) (cellAt s q + i) 0 ≡ 0
+      zeros : (s q i : ℕ) → 1 ≤ s → s ≤ 32 → q < 16 → i < 10 → has (heldMask (putVertex l r p body) s) q ≡ false
+          → getD (putVertex l r p body) (cellAt s q + i) 0 ≡ 0
       zeros s q i a b k m h = go (which (eqb (cellAt s q) (cellAt r p)))
         where
           go : (eqb (cellAt s q) (cellAt r p) ≡ true) ⊎ (eqb (cellAt s q) (cellAt r p) ≡ false) → getD (putVertex l r p body) (cellAt s q + i) 0 ≡ 0
@@ -396,6 +402,9 @@ module _ (l : List ℕ) (S : Sound l) (r p : ℕ) (body : List ℕ) (ok : number
     cells = put-cells;
     leaders = leaders-kept OffVertex l (putVertex l r p body) put-keeps (λ e. omega arith, λ b c. omega arith) (λ e. omega arith, λ b c. omega arith)
         (λ e. omega arith, λ b c. omega arith) (λ j a b. (λ e. omega (arith, low, high), λ c d. omega arith)) put-id (S .leaders);
-    journal = journal-kept OffVertex l (putVertex l r p body) put-keeps (λ s a b. off-mask s 5 a b (omega arith) (omega arith)) (λ e. omega arith, λ b c. omega arith)
+    journal = journal-kept OffVertex l (putVertex l r p body) put-keeps (λ s a b. off-mask s 5 a b (omega arith) (omega arith)) (
+      λ e. omega arith,
+      λ b c. omega arith,
+    )
         (λ e. omega arith, λ b c. omega arith) (λ j a b. (λ e. omega (arith, low, high), λ c d. omega arith)) put-more (S .journal);
   }

@@ -68,7 +68,8 @@ module _ (n r p : ℕ) (l body : List ℕ) (group : legal n ≡ true) (a : Admit
       (omega arith, omega (arith, a .round-high), hi)
 
   -- one more of group g: no parent there, or a held one
-  pub looked-more : (g j : ℕ) → g < 2 → Looked n r l body g j → (parentAt r body g j ≡ 0) ⊎ (heldId l (parentAt r body g j) ≡ true) → Looked n r l body g (j + 1)
+  pub looked-more : (g j : ℕ) → g < 2 → Looked n r l body g j → (parentAt r body g j ≡ 0) ⊎ (heldId l (parentAt r body g j) ≡ true)
+      → Looked n r l body g (j + 1)
   looked-more g j b w h = record { passed = w .passed; weak = more-weak; strong = more-strong }
     where
       more-weak : g ≡ 0 → (i : ℕ) → i < j + 1 → i < weakCountOf body → heldId l (weakOf body i) ≡ true
@@ -111,11 +112,13 @@ module _ (n r p : ℕ) (l body : List ℕ) (group : legal n ≡ true) (a : Admit
 
   -- all parents are held
   pub none-missing : Passed n r l body 2 → 528 ≡ least idLimit (missing l r body)
-  none-missing w = sym (least-none idLimit (missing l r body) (any-false idLimit (missing l r body) (λ y k. ⊎-elim (λ e. held-parent y e) (not-parent y) (which (isParent r body y)))))
+  none-missing w = sym (least-none idLimit (missing l r body)
+      (any-false idLimit (missing l r body) (λ y k. ⊎-elim (λ e. held-parent y e) (not-parent y) (which (isParent r body y)))))
     where
       held-parent : (y : ℕ) → isParent r body y ≡ true → missing l r body y ≡ false
       held-parent y e = ⊎-elim
-          (λ s. not-missing y (ap (heldId l) (strong-id y (s .0)) ∙ w .strong (omega arith) (idMember y) (has-bound n (strongOf body) (idMember y) (a .strong-low) (s .1)) (s .1)))
+          (λ s. not-missing y (ap (heldId l) (strong-id y (s .0))
+          ∙ w .strong (omega arith) (idMember y) (has-bound n (strongOf body) (idMember y) (a .strong-low) (s .1)) (s .1)))
           (λ q. not-missing y (ap (heldId l) (sym (q .2)) ∙ w .weak (omega arith) (q .0) (q .1)))
           (parent-cases r body y e)
         where
@@ -147,7 +150,8 @@ module _ (n r p : ℕ) (l body : List ℕ) (group : legal n ≡ true) (a : Admit
       here c = and-both (weak-parent r body j c) (ap not (rw (at-weak j) at h))
 
       lower : (y : ℕ) → y < weakOf body j → j < weakCountOf body → missing l r body y ≡ false
-      lower y q c = ⊎-elim (λ e. ⊎-elim (λ s. absurd (omega (arith, s .0, weak-id j c .2))) (λ t. below (t .0) (t .1) (t .2)) (parent-cases r body y e)) (not-parent y) (which (isParent r body y))
+      lower y q c = ⊎-elim (λ e. ⊎-elim (λ s. absurd (omega (arith, s .0, weak-id j c .2))) (λ t. below (t .0) (t .1) (t .2))
+          (parent-cases r body y e)) (not-parent y) (which (isParent r body y))
         where
           below : (i : ℕ) → i < weakCountOf body → weakOf body i ≡ y → missing l r body y ≡ false
           below i ci e = ⊎-elim

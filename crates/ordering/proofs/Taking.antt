@@ -18,7 +18,8 @@ use Rattle.replica.specs.Outcome.{Outcome, told, refusedBy, admitted}
 use Rattle.replica.specs.declared.answer.Answer.{Answer}
 use Rattle.replica.proofs.Sound.{Sound, well-formed}
 use Rattle.commits.specs.Commit.{raiseRound, commitAll}
-use Rattle.ordering.specs.Calls.{addMember, placeQuestions, vertexQuestions, putVertex, takeBody, takeVertex, firstQuestions, hear, takeFirstBody, takeFirstMessage, noteQuestions, takeTimeout, takeNoVote}
+use Rattle.ordering.specs.Calls.{addMember, placeQuestions, vertexQuestions, putVertex, takeBody, takeVertex, firstQuestions, hear}
+use Rattle.ordering.specs.Calls.{takeFirstBody, takeFirstMessage, noteQuestions, takeTimeout, takeNoVote}
 use Rattle.ordering.proofs.Turns.{outcome-refused, outcome-admitted, record-passed, parents-passed, note-passed}
 use Rattle.ordering.proofs.Heard.{hear-body}
 use Rattle.ordering.proofs.Counts.{same-growth, no-growth}
@@ -62,7 +63,8 @@ pub record VertexTaken (l rec : List ℕ) : Type 0 where
   pub part : length (take 10 (drop 2 rec)) ≡ 10
   pub put : (m : List ℕ) → m ≡ putVertex l (roundOf rec) (sourceOf rec) (take 10 (drop 2 rec)) → Ready (memberCount l) m
   pub raised : (m r : List ℕ) → m ≡ putVertex l (roundOf rec) (sourceOf rec) (take 10 (drop 2 rec)) → r ≡ raiseRound m → Ready (memberCount l) r
-  pub done : (m r : List ℕ) (o : Outcome) → m ≡ putVertex l (roundOf rec) (sourceOf rec) (take 10 (drop 2 rec)) → r ≡ raiseRound m → o ≡ admitted r (commitAll r) → o ≡ takeVertex l rec
+  pub done : (m r : List ℕ) (o : Outcome) → m ≡ putVertex l (roundOf rec) (sourceOf rec) (take 10 (drop 2 rec)) → r ≡ raiseRound m
+      → o ≡ admitted r (commitAll r) → o ≡ takeVertex l rec
 
 module _ (l rec : List ℕ) (why : Refusal) (e : why ≡ firstNo (vertexQuestions l (roundOf rec) (sourceOf rec) (bodyOf rec))) where
   pub vertex-refused : (numberOf why ≡ 0 → ⊥) → (a : Answer) → a ≡ refusedBy why → told a l ≡ takeVertex l rec
@@ -70,7 +72,8 @@ module _ (l rec : List ℕ) (why : Refusal) (e : why ≡ firstNo (vertexQuestion
   vertex-refused h a d = told-refused l a why d ∙ outcome-refused why _ l _ e h
 
   module _ (h : numberOf why ≡ 0) where
-    passed : Sound l × Admitted (memberCount l) (roundOf rec) (sourceOf rec) (bodyOf rec) × (numberOf (bodyRefusal (memberCount l) (roundOf rec) (sourceOf rec) (bodyOf rec)) ≡ 0)
+    passed : Sound l × Admitted (memberCount l) (roundOf rec) (sourceOf rec) (bodyOf rec)
+        × (numberOf (bodyRefusal (memberCount l) (roundOf rec) (sourceOf rec) (bodyOf rec)) ≡ 0)
         × (numberOf (firstNo (placeQuestions l (roundOf rec) (sourceOf rec) (bodyOf rec))) ≡ 0)
     passed = record-passed l (roundOf rec) (sourceOf rec) (bodyOf rec) (placeQuestions l (roundOf rec) (sourceOf rec) (bodyOf rec)) (sym (ap numberOf e) ∙ h)
 
@@ -84,12 +87,14 @@ module _ (l rec : List ℕ) (why : Refusal) (e : why ≡ firstNo (vertexQuestion
     calm = put-calm l (roundOf rec) (sourceOf rec) (bodyOf rec) (passed .0 .size) (passed .1 .round-low) (passed .1 .round-high) few (passed .1 .size)
 
     put-sound : Sound (putVertex l (roundOf rec) (sourceOf rec) (bodyOf rec))
-    put-sound = sound-put l (passed .0) (roundOf rec) (sourceOf rec) (bodyOf rec) (passed .2) (parents-passed l (roundOf rec) (sourceOf rec) (bodyOf rec) (passed .3))
+    put-sound = sound-put l (passed .0) (roundOf rec) (sourceOf rec) (bodyOf rec) (passed .2) (parents-passed l (roundOf rec) (sourceOf rec)
+        (bodyOf rec) (passed .3))
 
     calm-raised : Calm l (raiseRound (putVertex l (roundOf rec) (sourceOf rec) (bodyOf rec)))
     calm-raised = calm-then calm (raise-calm _)
 
-    done : takeVertex l rec ≡ admitted (raiseRound (putVertex l (roundOf rec) (sourceOf rec) (bodyOf rec))) (commitAll (raiseRound (putVertex l (roundOf rec) (sourceOf rec) (bodyOf rec))))
+    done : takeVertex l rec ≡ admitted (raiseRound (putVertex l (roundOf rec) (sourceOf rec) (bodyOf rec)))
+        (commitAll (raiseRound (putVertex l (roundOf rec) (sourceOf rec) (bodyOf rec))))
     unfolding takeBody
     done = sym (calm-growth calm-raised _ ∙ outcome-admitted why _ l _ e h)
 
@@ -114,7 +119,8 @@ pub record FirstTaken (l rec : List ℕ) : Type 0 where
   pub long : length rec ≡ 12
   pub strong : roundOf rec ≡ 1 → getD rec 2 0 ≡ 0
   pub heard : (m : List ℕ) → m ≡ hear l (roundOf rec) (sourceOf rec) (getD rec 2 0 ∷ []) → Ready (memberCount l) m
-  pub done : (m : List ℕ) (o : Outcome) → m ≡ hear l (roundOf rec) (sourceOf rec) (getD rec 2 0 ∷ []) → o ≡ admitted m (commitAll m) → o ≡ takeFirstMessage l rec
+  pub done : (m : List ℕ) (o : Outcome) → m ≡ hear l (roundOf rec) (sourceOf rec) (getD rec 2 0 ∷ []) → o ≡ admitted m (commitAll m)
+      → o ≡ takeFirstMessage l rec
 
 module _ (l rec : List ℕ) (why : Refusal) (e : why ≡ firstNo (firstQuestions l (roundOf rec) (sourceOf rec) (bodyOf rec))) where
   pub first-refused : (numberOf why ≡ 0 → ⊥) → (a : Answer) → a ≡ refusedBy why → told a l ≡ takeFirstMessage l rec
@@ -128,7 +134,8 @@ module _ (l rec : List ℕ) (why : Refusal) (e : why ≡ firstNo (firstQuestions
     calm-heard : Calm l (hear l (roundOf rec) (sourceOf rec) (bodyOf rec))
     calm-heard = hear-calm l (roundOf rec) (sourceOf rec) (bodyOf rec) (first-passed .0 .size) (first-passed .1 .round-low) (first-passed .1 .round-high)
 
-    first-done : admitted (hear l (roundOf rec) (sourceOf rec) (bodyOf rec)) (commitAll (hear l (roundOf rec) (sourceOf rec) (bodyOf rec))) ≡ takeFirstMessage l rec
+    first-done : admitted (hear l (roundOf rec) (sourceOf rec) (bodyOf rec)) (commitAll (hear l (roundOf rec) (sourceOf rec) (bodyOf rec)))
+        ≡ takeFirstMessage l rec
     unfolding takeFirstBody
     first-done = calm-growth calm-heard _ ∙ outcome-admitted why _ l _ e h
 
@@ -139,18 +146,21 @@ module _ (l rec : List ℕ) (why : Refusal) (e : why ≡ firstNo (firstQuestions
       admit = first-passed .1;
       long = omega (arith, first-passed .1 .size, length-drop 2 rec);
       strong = λ z. sym (getD-drop 2 rec 0 0) ∙ first-passed .1 .strong-first z;
-      heard = λ m d. rw (d, hear-body l (roundOf rec) (sourceOf rec) rec) (ready _ _ (sound-hear l (first-passed .0) (roundOf rec) (sourceOf rec) (bodyOf rec) (first-passed .1)) (calm-count calm-heard));
+      heard = λ m d. rw (d, hear-body l (roundOf rec) (sourceOf rec) rec)
+          (ready _ _ (sound-hear l (first-passed .0) (roundOf rec) (sourceOf rec) (bodyOf rec) (first-passed .1)) (calm-count calm-heard));
       done = λ m o d f. f ∙ rw (d, hear-body l (roundOf rec) (sourceOf rec) rec) first-done;
     }
 
 -- ---- a timeout and a no-vote
 
 module _ (l : List ℕ) (r p : ℕ) (why : Refusal) where
-  pub timeout-refused : why ≡ firstNo (noteQuestions l r p (timeoutsMask l r)) → (numberOf why ≡ 0 → ⊥) → (a : Answer) → a ≡ refusedBy why → told a l ≡ takeTimeout l r p
+  pub timeout-refused : why ≡ firstNo (noteQuestions l r p (timeoutsMask l r)) → (numberOf why ≡ 0 → ⊥) → (a : Answer) → a ≡ refusedBy why
+      → told a l ≡ takeTimeout l r p
   unfolding takeTimeout
   timeout-refused e h a d = told-refused l a why d ∙ outcome-refused why _ l _ e h
 
-  pub no-vote-refused : why ≡ firstNo (noteQuestions l r p (noVotesMask l r)) → (numberOf why ≡ 0 → ⊥) → (a : Answer) → a ≡ refusedBy why → told a l ≡ takeNoVote l r p
+  pub no-vote-refused : why ≡ firstNo (noteQuestions l r p (noVotesMask l r)) → (numberOf why ≡ 0 → ⊥) → (a : Answer) → a ≡ refusedBy why
+      → told a l ≡ takeNoVote l r p
   unfolding takeNoVote
   no-vote-refused e h a d = told-refused l a why d ∙ outcome-refused why _ l _ e h
 

@@ -77,9 +77,11 @@ module _ (l rec : List ℕ) (rest : List Question) where
       → r ≡ firstNo (recordQuestions (memberCount l) (roundOf rec) (sourceOf rec) (bodyOf rec) ++ rest) → r ≡ firstNo asked
   past-state why r e h d = d ∙ front-yes (stateQuestions l) _ (state-numbered l) (sym (ap numberOf e) ∙ h)
 
-  at-record : (why r : Refusal) → why ≡ firstNo (stateQuestions l) → numberOf why ≡ 0 → r ≡ recordRefusal (memberCount l) rec → (numberOf r ≡ 0 → ⊥) → r ≡ firstNo asked
+  at-record : (why r : Refusal) → why ≡ firstNo (stateQuestions l) → numberOf why ≡ 0 → r ≡ recordRefusal (memberCount l) rec → (numberOf r ≡ 0 → ⊥)
+      → r ≡ firstNo asked
   unfolding bodyRefusal
-  at-record why r e h d k = past-state why r e h (d ∙ front-no (recordQuestions (memberCount l) (roundOf rec) (sourceOf rec) (bodyOf rec)) rest (λ x. k (ap numberOf d ∙ x)))
+  at-record why r e h d k = past-state why r e h (d
+      ∙ front-no (recordQuestions (memberCount l) (roundOf rec) (sourceOf rec) (bodyOf rec)) rest (λ x. k (ap numberOf d ∙ x)))
 
   past-record : (why r s : Refusal) → why ≡ firstNo (stateQuestions l) → numberOf why ≡ 0 → r ≡ recordRefusal (memberCount l) rec → numberOf r ≡ 0
       → s ≡ firstNo rest → s ≡ firstNo asked
@@ -102,7 +104,8 @@ pub record RecordKnown (l rec : List ℕ) (rest : List Question) : Type 0 where
   pub long : length rec ≡ 12
   pub whole : take 10 (drop 2 rec) ≡ bodyOf rec
   pub body : numberOf (bodyRefusal (memberCount l) (roundOf rec) (sourceOf rec) (take 10 (drop 2 rec))) ≡ 0
-  pub last : (s : Refusal) → s ≡ firstNo rest → s ≡ firstNo (stateQuestions l ++ (recordQuestions (memberCount l) (roundOf rec) (sourceOf rec) (bodyOf rec) ++ rest))
+  pub last : (s : Refusal) → s ≡ firstNo rest
+      → s ≡ firstNo (stateQuestions l ++ (recordQuestions (memberCount l) (roundOf rec) (sourceOf rec) (bodyOf rec) ++ rest))
 
 module _ (l rec : List ℕ) (rest : List Question) (why : Refusal) (e : why ≡ firstNo (stateQuestions l)) (h : numberOf why ≡ 0) where
   pub state-known : StateKnown l rec rest
@@ -127,7 +130,8 @@ module _ (l rec : List ℕ) (rest : List Question) (why : Refusal) (e : why ≡ 
 
 pub missing-found : (l : List ℕ) (r : ℕ) (body : List ℕ) (x : ℕ) → x ≡ least idLimit (missing l r body) → x < 528 → parentsHeld l r body ≡ false
 unfolding parentsHeld
-missing-found l r body x e h = ap not (any-intro idLimit (missing l r body) (least idLimit (missing l r body)) (omega arith) (least-sat idLimit (missing l r body) (omega arith)))
+missing-found l r body x e h = ap not (any-intro idLimit (missing l r body) (least idLimit (missing l r body)) (omega arith)
+    (least-sat idLimit (missing l r body) (omega arith)))
 
 pub none-lacking : (l : List ℕ) (r : ℕ) (body : List ℕ) (x : ℕ) → x ≡ least idLimit (missing l r body) → 528 ≤ x → parentsHeld l r body ≡ true
 unfolding parentsHeld
@@ -142,7 +146,8 @@ module _ (l : List ℕ) (r p : ℕ) (body : List ℕ) where
   pub place-other : has (heldMask l r) p ≡ true → sameBody l r p body ≡ false → Conflict ≡ firstNo (placeQuestions l r p body)
   place-other h e = next _ _ (ap not (and-fails-right (has (heldMask l r) p) e)) (stop _ _ (ap not h))
 
-  pub place-lacking : (x : ℕ) → has (heldMask l r) p ≡ false → x ≡ least idLimit (missing l r body) → x < 528 → MissingParent x ≡ firstNo (placeQuestions l r p body)
+  pub place-lacking : (x : ℕ) → has (heldMask l r) p ≡ false → x ≡ least idLimit (missing l r body) → x < 528
+      → MissingParent x ≡ firstNo (placeQuestions l r p body)
   place-lacking x h e k =
       ap MissingParent e
       ∙ next _ _ (ap not (and-fails-left (sameBody l r p body) h)) (next _ _ (ap not h) (stop _ _ (missing-found l r body x e k)))
@@ -162,7 +167,9 @@ module _ (l : List ℕ) (r p mask : ℕ) (why : Refusal) (e : why ≡ firstNo (s
   pub note-state : (numberOf why ≡ 0 → ⊥) → why ≡ firstNo (noteQuestions l r p mask)
   note-state h = e ∙ front-no (stateQuestions l) _ (λ d. h (ap numberOf e ∙ d))
 
-  past-note : (s : Refusal) → numberOf why ≡ 0 → s ≡ firstNo ((roundOk r, Round) ∷ (ltb p (memberCount l), Source) ∷ (not (has mask p), Duplicate) ∷ []) → s ≡ firstNo (noteQuestions l r p mask)
+  past-note : (s : Refusal) → numberOf why ≡ 0
+      → s ≡ firstNo ((roundOk r, Round) ∷ (ltb p (memberCount l), Source) ∷ (not (has mask p), Duplicate) ∷ [])
+      → s ≡ firstNo (noteQuestions l r p mask)
   past-note s h d = d ∙ front-yes (stateQuestions l) _ (state-numbered l) (sym (ap numberOf e) ∙ h)
 
   pub note-round : numberOf why ≡ 0 → roundOk r ≡ false → Round ≡ firstNo (noteQuestions l r p mask)

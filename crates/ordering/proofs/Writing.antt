@@ -17,7 +17,8 @@ use Rattle.record.proofs.Masks.{has-add, has-add-same, has-zero, has-one, has-b
 use Rattle.record.proofs.Turn.{round-range}
 use Rattle.protocol.specs.Dag.{present, votes}
 use Rattle.replica.specs.Layout.{masksAt, heldAt, heardAt, votesAt, cellAt}
-use Rattle.replica.specs.State.{memberCount, currentRound, committedRound, leaderCount, journalCount, heldMask, heardMask, votesMask, leaderList, journalList, cell, vertices, firsts}
+use Rattle.replica.specs.State.{memberCount, currentRound, committedRound, leaderCount, journalCount, heldMask, heardMask, votesMask, leaderList}
+use Rattle.replica.specs.State.{journalList, cell, vertices, firsts}
 use Rattle.replica.proofs.Parents.{round-in}
 use Rattle.replica.proofs.Keeping.{Keeps, keeps-part, vertices-kept}
 use Rattle.commits.specs.Commit.{highestPassable, raiseRound}
@@ -84,7 +85,8 @@ module _ {l m : List ℕ} (C : Calm l m) where
 
   -- the journal
   pub calm-journal : journalCount l ≤ 512 → journalList m ≡ journalList l
-  calm-journal few = rw (C .head 4 (omega arith) (λ e. omega arith)) (part-same l m 232 (journalCount l) (C .size) (λ j a b. C .lists j (omega arith) (omega arith)))
+  calm-journal few = rw (C .head 4 (omega arith) (λ e. omega arith)) (part-same l m 232 (journalCount l) (C .size)
+      (λ j a b. C .lists j (omega arith) (omega arith)))
 
 -- ---- where the vertices and the first messages stay
 
@@ -205,7 +207,8 @@ module _ (l : List ℕ) (r p : ℕ) (body : List ℕ) (size : length l ≡ 5864)
           rw (← same) (firsts-by l (hear l r p body) members r q (λ a b. ap (λ (m : ℕ). has m q) heard-mask ∙ plus (heardMask l r))
           (λ a b. ap (λ (m : ℕ). has m q) votes-mask ∙ chosen (votes (memberCount l) (r - 1) body) (plus (votesMask l r))))
         where
-          chosen : (b : Bool) → has (add (votesMask l r) p) q ≡ has (votesMask l r) q → has (cond b (add (votesMask l r) p) (votesMask l r)) q ≡ has (votesMask l r) q
+          chosen : (b : Bool) → has (add (votesMask l r) p) q ≡ has (votesMask l r) q
+              → has (cond b (add (votesMask l r) p) (votesMask l r)) q ≡ has (votesMask l r) q
           chosen true h = h
           chosen false h = refl
       go (inr d) =
@@ -315,11 +318,13 @@ module _ (l : List ℕ) (r p : ℕ) (body : List ℕ) (size : length l ≡ 5864)
   -- the vertex is there
   pub put-here : vertices (putVertex l r p body) r p ≡ body
   unfolding vertices
-  put-here = cond-true _ _ (and-both (round-in r low high) (ap (λ (m : ℕ). has m p) (put-before (heldAt r) (omega arith) ∙ mark-here) ∙ has-add-same (heldMask l r) p))
+  put-here = cond-true _ _ (and-both (round-in r low high) (ap (λ (m : ℕ). has m p) (put-before (heldAt r) (omega arith) ∙ mark-here)
+      ∙ has-add-same (heldMask l r) p))
       ∙ ap (λ (x : List ℕ). take 10 (drop (cellAt r p) x)) put-is ∙ paste-part marked (cellAt r p) body 10 fits long
 
   -- any other stays, where no mask has a bit at 16 or above
-  pub put-other : ((s : ℕ) → 1 ≤ s → s ≤ 32 → heldMask l s < 2 ^ 16) → (s q : ℕ) → (eqb r s && eqb p q) ≡ false → vertices (putVertex l r p body) s q ≡ vertices l s q
+  pub put-other : ((s : ℕ) → 1 ≤ s → s ≤ 32 → heldMask l s < 2 ^ 16) → (s q : ℕ) → (eqb r s && eqb p q) ≡ false
+      → vertices (putVertex l r p body) s q ≡ vertices l s q
   unfolding vertices
   put-other small s q e = cond-cong (and-cong {a = roundOk s} refl (λ d. let w = round-range s d in bit (w .0) (w .1) (which (eqb r s))))
       (λ d. same d) refl
@@ -328,7 +333,8 @@ module _ (l : List ℕ) (r p : ℕ) (body : List ℕ) (size : length l ≡ 5864)
       bit a b (inl d) =
           let k : eqb p q ≡ false = ⊎-elim (λ t. never (and-both d t) e) (λ t. t) (which (eqb p q)) in
           let h : r ≡ s = eqb-true r s d in
-          rw (← h) (ap (λ (m : ℕ). has m q) (put-before (heldAt r) (omega arith) ∙ mark-here) ∙ has-add (heldMask l r) p q ∙ rw k (or-false (has (heldMask l r) q)))
+          rw (← h) (ap (λ (m : ℕ). has m q) (put-before (heldAt r) (omega arith) ∙ mark-here) ∙ has-add (heldMask l r) p q
+          ∙ rw k (or-false (has (heldMask l r) q)))
       bit a b (inr d) =
           let h : r ≡ s → ⊥ = eqb-false r s d in
           ap (λ (m : ℕ). has m q) (put-before (heldAt s) (omega arith) ∙ mark-other (heldAt s) (λ t. h (omega arith)))

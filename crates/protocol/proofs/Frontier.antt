@@ -115,4 +115,5 @@ parents-has v r m (suc k) q = go (which (has m k)) (parents-has v r m k q)
 -- the claim for programs that keep one mask for each round
 pub parents-claim : (n : ℕ) → ParentsClaim n
 parents-claim n v W r p t m lp lt l h q lq =
-    parents-has v (suc t) m n q ∙ any-cong n _ _ (λ x lx. ap (λ (b : Bool). b && has (strongOf (v (suc t) x)) q) (h x lx)) ∙ sym (path-step n v W r p t q lp lq lt l)
+    parents-has v (suc t) m n q ∙ any-cong n _ _ (λ x lx. ap (λ (b : Bool). b && has (strongOf (v (suc t) x)) q) (h x lx))
+    ∙ sym (path-step n v W r p t q lp lq lt l)

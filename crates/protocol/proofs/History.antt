@@ -132,7 +132,9 @@ module _ (n : ℕ) (v : Records) where
         step zero lj pj = absurd (not-suc-le-zero pj)
         step (suc j) lj pj =
             by-weak j t q i _ li
-            (rw (id-split (weakOf (v t q) i)) at (by-self j (idRound (weakOf (v t q) i)) (idMember (weakOf (v t q) i)) (omega (arith, E .weak-low t q i li .0, E .weak-low t q i li .1))))
+            (rw (id-split (weakOf (v t q) i))
+            at (by-self j (idRound (weakOf (v t q) i)) (idMember (weakOf (v t q) i))
+            (omega (arith, E .weak-low t q i li .0, E .weak-low t q i li .1))))
 
 -- ---- what a history names
 

@@ -95,7 +95,8 @@ module _ (n : ℕ) (v : Records) where
 
 -- what is fresh, by the masks of the history
 pub fresh-masks : (n : ℕ) (v : Records) → legal n ≡ true → WellFormed n v → (j : List ℕ) (r : ℕ) → held v r (leader n r) ≡ true
-    → fresh n v j r ≡ select idLimit (λ y. not (among j y) && (leb 1 (idRound y) && has (getD (historyMasks n v r (leader n r)) (idRound y - 1) 0) (idMember y)))
+    → fresh n v j r
+    ≡ select idLimit (λ y. not (among j y) && (leb 1 (idRound y) && has (getD (historyMasks n v r (leader n r)) (idRound y - 1) 0) (idMember y)))
 unfolding fresh
 fresh-masks n v g W j r h = select-cong idLimit _ _ (λ y l. ap (λ (b : Bool). not (among j y) && b) (same y l (which (leb 1 (idRound y)))))
   where
@@ -105,4 +106,5 @@ fresh-masks n v g W j r h = select-cong idLimit _ _ (λ y l. ap (λ (b : Bool). 
         rw e (ap (history n v r (leader n r)) (sym (id-split y))
         ∙ sym (history-claim n v g W r (leader n r) h (idRound y) (idMember y) (leb-true 1 (idRound y) e) (omega arith) (omega arith)))
     same y l (inr e) = rw e (⊎-elim
-        (λ d. absurd (omega (arith, leb-false 1 (idRound y) e, history-held n v g W r (leader n r) y h d .low))) (λ d. d) (which (history n v r (leader n r) y)))
+        (λ d. absurd (omega (arith, leb-false 1 (idRound y) e, history-held n v g W r (leader n r) y h d .low))) (λ d. d)
+        (which (history n v r (leader n r) y)))

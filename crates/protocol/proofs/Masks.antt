@@ -90,8 +90,10 @@ pub joinWeak-marked : (h body : List ℕ) (k s q : ℕ) → length h ≡ 32 → 
 unfolding joinWeak weakParent any
 joinWeak-marked h body zero s q z b l = sym (or-false (marked h s q))
 joinWeak-marked h body (suc k) s q z b l =
-    join-marked (joinWeak h body k) (idRound (weakOf body k)) (2 ^ idMember (weakOf body k)) s q (joinWeak-length h body k ∙ z) (b k (omega arith) .0) (b k (omega arith) .1) l
-    ∙ ap₂ _||_ (joinWeak-marked h body k s q z (λ i li. b i (omega arith)) l) (ap (λ (x : Bool). eqb (idRound (weakOf body k)) s && x) (has-one (idMember (weakOf body k)) q))
+    join-marked (joinWeak h body k) (idRound (weakOf body k)) (2 ^ idMember (weakOf body k)) s q (joinWeak-length h body k ∙ z) (b k (omega arith) .0)
+    (b k (omega arith) .1) l
+    ∙ ap₂ _||_ (joinWeak-marked h body k s q z (λ i li. b i (omega arith)) l) (ap (λ (x : Bool). eqb (idRound (weakOf body k)) s && x)
+    (has-one (idMember (weakOf body k)) q))
     ∙ or-assoc (marked h s q) _ _
 
 module _ (n : ℕ) (v : Records) (high : n ≤ 16) (E : Edges n v) where
@@ -140,7 +142,8 @@ module _ (n : ℕ) (v : Records) (high : n ≤ 16) (E : Edges n v) where
   joinRound-marked h r (suc k) s q z l u ls = go (which (marked h r k)) (joinRound-marked h r k r k z l u (omega arith)) (joinRound-marked h r k s q z l u ls)
     where
       go : (marked h r k ≡ true) ⊎ (marked h r k ≡ false) → marked (joinRound v h r k) r k ≡ (marked h r k || parentsOf h r k r k)
-          → marked (joinRound v h r k) s q ≡ (marked h s q || parentsOf h r k s q) → marked (joinRound v h r (suc k)) s q ≡ (marked h s q || parentsOf h r (suc k) s q)
+          → marked (joinRound v h r k) s q ≡ (marked h s q || parentsOf h r k s q)
+          → marked (joinRound v h r (suc k)) s q ≡ (marked h s q || parentsOf h r (suc k) s q)
       go (inl e) here ih =
           rw (here ∙ or-left _ e, e)
           (joinParents-marked (joinRound v h r k) r k s q (joinRound-length v h r k ∙ z) l u ls
@@ -203,7 +206,8 @@ module _ (n : ℕ) (v : Records) (high : n ≤ 16) (E : Edges n v) where
       next s q ls e = ⊎-elim (λ d. S s q ls d)
           (λ d.
           let w = any-elim n (λ x. marked h (suc (suc k)) x && parent (v (suc (suc k)) x) (suc (suc k)) s q) d in
-          closed (suc (suc k)) (w .0) s q (w .1) (S (suc (suc k)) (w .0) (omega arith) (and-left _ _ (w .2))) (and-right (marked h (suc (suc k)) (w .0)) _ (w .2)))
+          closed (suc (suc k)) (w .0) s q (w .1) (S (suc (suc k)) (w .0) (omega arith) (and-left _ _ (w .2)))
+          (and-right (marked h (suc (suc k)) (w .0)) _ (w .2)))
           (or-cases _ _ (sym (joinRound-marked h (suc (suc k)) n s q z (omega arith) u ls) ∙ e))
 
   -- closed masks have the history of each vertex that they have
@@ -268,7 +272,8 @@ module _ (n : ℕ) (v : Records) (high : n ≤ 16) (E : Edges n v) where
     unfolding historyMasks first-masks
     masks-history t q lt lq = bool-ext
         (fill-sound (λ s q. history n v r p (idOf s q)) history-closed (r - 1) first-masks first-length (omega arith) start t q lt)
-        (λ e. rw (id-round t q lq, id-member t q lq) at (closed-history (fill n v first-masks (r - 1)) (fill-closed (r - 1) first-masks first-length (omega arith) top) r r p (idOf t q) hr lp
+        (λ e. rw (id-round t q lq, id-member t q lq)
+        at (closed-history (fill n v first-masks (r - 1)) (fill-closed (r - 1) first-masks first-length (omega arith) top) r r p (idOf t q) hr lp
         (fill-keeps (r - 1) first-masks first-length (omega arith) r p lr (first-marked r p lr ∙ and-both (eq-eqb r r refl) (eq-eqb p p refl))) e))
       where
         start : (s q : ℕ) → 1 ≤ s → marked first-masks s q ≡ true → history n v r p (idOf s q) ≡ true
@@ -330,7 +335,8 @@ module _ (n : ℕ) (v : Records) (g : legal n ≡ true) (W : WellFormed n v) whe
       back : ((m : ℕ) → m < n → has (strongOf (v (suc r) p)) m ≡ true → history n cut r m (idOf t q) ≡ path n v r m t q)
           → path n v (suc r) p t q ≡ true → history n cut (suc r) p (idOf t q) ≡ true
       back ih e = ⊎-elim
-          (λ d. let b : p ≡ q = path-here n v (suc r) p q (rw d at e) in let y : idOf (suc r) p ≡ idOf t q = omega arith in rw y at (by-self n cut (suc r) (suc r) p (omega arith)))
+          (λ d. let b : p ≡ q = path-here n v (suc r) p q (rw d at e) in let y : idOf (suc r) p
+          ≡ idOf t q = omega arith in rw y at (by-self n cut (suc r) (suc r) p (omega arith)))
           (λ l.
           let w = first-edge n v r p t q (omega arith) e in
           by-strong n cut r (suc r) p (w .0) (idOf t q) (w .1) (rw (cut-strong (v (suc r) p)) (w .2)) (simp unary-clauses (ih (w .0) (w .1) (w .2) ∙ w .3)))

@@ -116,13 +116,15 @@ module _ (n : ℕ) {I : Type 0} (dag : I → Dag) (honest : ℕ → Bool) (P : P
       → has (strongOf (dag j .vertex (suc q) (leader n (suc q)))) (leader n q) ≡ true
   next i j q l c h = go (which (has (strongOf (dag j .vertex (suc q) (leader n (suc q)))) (leader n q)))
     where
-      go : (has (strongOf (dag j .vertex (suc q) (leader n (suc q)))) (leader n q) ≡ true) ⊎ (has (strongOf (dag j .vertex (suc q) (leader n (suc q)))) (leader n q) ≡ false)
+      go : (has (strongOf (dag j .vertex (suc q) (leader n (suc q)))) (leader n q) ≡ true)
+          ⊎ (has (strongOf (dag j .vertex (suc q) (leader n (suc q)))) (leader n q) ≡ false)
           → has (strongOf (dag j .vertex (suc q) (leader n (suc q)))) (leader n q) ≡ true
       go (inl e) = e
       go (inr e) =
           let v = voters i q c in
           let a = P .well-formed j .admitted (suc q) (leader n (suc q)) h in
-          let w = honest-meet (v .0) (has (noVotesOf (dag j .vertex (suc q) (leader n (suc q))))) (v .1) (a .no-vote-quorum (omega arith) (simp unary-clauses e) refl) in
+          let w = honest-meet (v .0) (has (noVotesOf (dag j .vertex (suc q) (leader n (suc q))))) (v .1) (a .no-vote-quorum (omega arith)
+          (simp unary-clauses e) refl) in
           absurd (P .no-both i j q (w .0) (leader n (suc q)) (w .4) (v .2 (w .0) (w .2)) (w .3))
 
   -- every vertex two rounds above a committed leader has a path to it
@@ -132,7 +134,8 @@ module _ (n : ℕ) {I : Type 0} (dag : I → Dag) (honest : ℕ → Bool) (P : P
       let W = P .well-formed j in
       let v = voters i q c in
       let w = honest-meet (v .0) (has (strongOf (dag j .vertex (suc (suc q)) p))) (v .1) (W .admitted (suc (suc q)) p h .strong-later (omega arith)) in
-      let e : votes n q (dag j .vertex (suc q) (w .0)) ≡ true = voter-votes i j q (w .0) (w .4) (parent-held n _ W (suc q) p (w .0) (w .3)) (v .2 (w .0) (w .2)) in
+      let e : votes n q (dag j .vertex (suc q) (w .0)) ≡ true = voter-votes i j q (w .0) (w .4) (parent-held n _ W (suc q) p (w .0) (w .3))
+      (v .2 (w .0) (w .2)) in
       path-edge n (dag j .vertex) (suc q) p (w .0) q (leader n q) (omega arith) (w .1) (w .3)
       (path-edge n (dag j .vertex) q (w .0) (leader n q) q (leader n q) (omega arith) (leader-low q) e
       (path-self n (dag j .vertex) q (leader n q) l (parent-held n _ W q (w .0) (leader n q) e)))

@@ -58,12 +58,14 @@ every-found : (t : ℕ → ℕ → List ℕ → Bool) (l : List (List ℕ)) → 
     → (r p : ℕ) → present (recordsOf l r p) ≡ true → t r p (recordsOf l r p) ≡ true
 unfolding every recordsOf
 every-found t [] e r p h = absurd (false≢true h)
-every-found t (x ∷ l) e r p h = go (which (eqb (roundOf x) r && eqb (sourceOf x) p)) (every-found t l (and-right (t (roundOf x) (sourceOf x) (bodyOf x)) _ e) r p)
+every-found t (x ∷ l) e r p h = go (which (eqb (roundOf x) r && eqb (sourceOf x) p))
+    (every-found t l (and-right (t (roundOf x) (sourceOf x) (bodyOf x)) _ e) r p)
   where
     go : ((eqb (roundOf x) r && eqb (sourceOf x) p) ≡ true) ⊎ ((eqb (roundOf x) r && eqb (sourceOf x) p) ≡ false)
         → (present (recordsOf l r p) ≡ true → t r p (recordsOf l r p) ≡ true) → t r p (recordsOf (x ∷ l) r p) ≡ true
     go (inl d) ih =
-        rw (d, ← eqb-true (roundOf x) r (and-left _ _ d), ← eqb-true (sourceOf x) p (and-right (eqb (roundOf x) r) _ d)) (and-left (t (roundOf x) (sourceOf x) (bodyOf x)) _ e)
+        rw (d, ← eqb-true (roundOf x) r (and-left _ _ d), ← eqb-true (sourceOf x) p (and-right (eqb (roundOf x) r) _ d))
+        (and-left (t (roundOf x) (sourceOf x) (bodyOf x)) _ e)
     go (inr d) ih = rw d (ih (rw d at h))
 
 -- what is found in a list is found in a longer one
@@ -168,7 +170,8 @@ module _ (l : List (List ℕ)) where
         imp-elim _ _ (all-elim 4 _ (and-left _ _ (rest r p h)) m k) s;
     weak-held = λ r p i c.
         let h = weak-present _ i c in
-        imp-elim _ _ (all-elim 1 _ (and-right (all 4 (λ m. imp (has (strongOf (recordsOf l r p)) m) (held (recordsOf l) (r - 1) m))) _ (rest r p h)) i (omega (arith, ok r p h .weak-few)))
+        imp-elim _ _ (all-elim 1 _ (and-right (all 4 (λ m. imp (has (strongOf (recordsOf l r p)) m) (held (recordsOf l) (r - 1) m))) _ (rest r p h)) i
+        (omega (arith, ok r p h .weak-few)))
         (lt-ltb i _ c);
   }
     where
@@ -204,7 +207,8 @@ all-told true false = refl
 all-told false true = refl
 all-told false false = refl
 
-one-record : (i j : Bool) (r p : ℕ) → honest p ≡ true → present (dag i .first r p) ≡ true → held (dag j .vertex) r p ≡ true → dag i .first r p ≡ dag j .vertex r p
+one-record : (i j : Bool) (r p : ℕ) → honest p ≡ true → present (dag i .first r p) ≡ true → held (dag j .vertex) r p ≡ true
+    → dag i .first r p ≡ dag j .vertex r p
 unfolding dag told
 one-record i j r p g h k =
     same-eq _ _ (imp-elim (held (dag j .vertex) r p) _ (imp-elim (honest p) _ (every-found (told j) (firstOf i) (all-told i j) r p h) g) k)
@@ -231,7 +235,8 @@ no-both i j r p m g v s =
     let k : p < 4 = has-bound 4 _ p (formed j .admitted (suc r) m h .no-votes-low) s in
     let t = all-elim 4 (λ q. imp (has (noVotesOf (recordsOf (vertexOf j) (suc r) m)) q) (imp (honest q) (silent i (suc r) q)))
     (every-found (apart i) (vertexOf j) (all-apart i j) (suc r) m h) p k in
-    let u : not (votes 4 r (dag i .vertex (suc r) p) || votes 4 r (dag i .first (suc r) p)) ≡ true = simp unary-clauses at (imp-elim (honest p) _ (imp-elim _ _ t s) g) in
+    let u : not (votes 4 r (dag i .vertex (suc r) p) || votes 4 r (dag i .first (suc r) p))
+    ≡ true = simp unary-clauses at (imp-elim (honest p) _ (imp-elim _ _ t s) g) in
     never (⊎-elim (λ x. or-left _ x) (λ x. or-right (votes 4 r (dag i .vertex (suc r) p)) x) v) (not-true _ u)
 
 -- ---- the journals, by the masks of the histories

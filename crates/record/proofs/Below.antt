@@ -10,7 +10,8 @@ use native.Mathlib.Omega.{arith}
 use lib.Dec.{ltb}
 use borrow.Author.Tests.{ltb-true, ltb-false}
 use Rattle.record.specs.Below.{all, any, count, select, least}
-use Rattle.record.proofs.Booleans.{which, and-left, and-right, and-both, and-fails-left, and-fails-right, or-cases, or-left, or-right, bool-ext, cond-false}
+use Rattle.record.proofs.Booleans.{which, and-left, and-right, and-both, and-fails-left, and-fails-right, or-cases, or-left, or-right}
+use Rattle.record.proofs.Booleans.{bool-ext, cond-false}
 
 -- ---- all
 
@@ -48,12 +49,15 @@ all-cong (suc k) s t h = ap₂ _&&_ (all-cong k s t (λ i l. h i (omega arith)))
 -- two tests at once, and the numbers below a + b as those below a and b more
 pub all-and : (k : ℕ) (s t : ℕ → Bool) → all k (λ i. s i && t i) ≡ (all k s && all k t)
 all-and k s t = bool-ext
-    (λ e. and-both (all-intro k s (λ i l. and-left (s i) (t i) (all-elim k (λ i. s i && t i) e i l))) (all-intro k t (λ i l. and-right (s i) (t i) (all-elim k (λ i. s i && t i) e i l))))
-    (λ e. all-intro k (λ i. s i && t i) (λ i l. and-both (all-elim k s (and-left (all k s) (all k t) e) i l) (all-elim k t (and-right (all k s) (all k t) e) i l)))
+    (λ e. and-both (all-intro k s (λ i l. and-left (s i) (t i) (all-elim k (λ i. s i && t i) e i l)))
+    (all-intro k t (λ i l. and-right (s i) (t i) (all-elim k (λ i. s i && t i) e i l))))
+    (λ e. all-intro k (λ i. s i && t i)
+    (λ i l. and-both (all-elim k s (and-left (all k s) (all k t) e) i l) (all-elim k t (and-right (all k s) (all k t) e) i l)))
 
 pub all-join : (a b : ℕ) (t : ℕ → Bool) → all (a + b) t ≡ (all a t && all b (λ i. t (a + i)))
 all-join a b t = bool-ext
-    (λ e. and-both (all-intro a t (λ i l. all-elim (a + b) t e i (omega arith))) (all-intro b (λ i. t (a + i)) (λ i l. all-elim (a + b) t e (a + i) (omega arith))))
+    (λ e. and-both (all-intro a t (λ i l. all-elim (a + b) t e i (omega arith)))
+    (all-intro b (λ i. t (a + i)) (λ i l. all-elim (a + b) t e (a + i) (omega arith))))
     (λ e. all-intro (a + b) t (λ i l. go e i l (which (ltb i a))))
   where
     go : (all a t && all b (λ i. t (a + i))) ≡ true → (i : ℕ) → i < a + b → (ltb i a ≡ true) ⊎ (ltb i a ≡ false) → t i ≡ true

@@ -150,7 +150,8 @@ pub mask-ext : (k a b : ℕ) → a < 2 ^ k → b < 2 ^ k → ((p : ℕ) → p < 
 mask-ext zero a b la lb h = lt-one la ∙ sym (lt-one lb)
 mask-ext (suc k) a b la lb h =
     let low : a % 2 ≡ b % 2 = sym (has-low a) ∙ ap (λ (t : Bool). cond t 1 0) (h 0 (omega arith)) ∙ has-low b in
-    let high : a / 2 ≡ b / 2 = mask-ext k (a / 2) (b / 2) (omega arith) (omega arith) (λ p l. sym (has-suc a p) ∙ h (suc p) (omega arith) ∙ has-suc b p) in
+    let high : a / 2 ≡ b / 2 = mask-ext k (a / 2) (b / 2) (omega arith) (omega arith) (λ p l. sym (has-suc a p) ∙ h (suc p) (omega arith)
+    ∙ has-suc b p) in
     omega arith
 
 -- ---- counting
@@ -164,7 +165,8 @@ pub ones-count : (k m : ℕ) → m < 2 ^ k → ones m ≡ count k (has m)
 unfolding count
 ones-count zero m h = ap ones (lt-one h) ∙ ones-zero
 ones-count (suc k) m h =
-    ones-step m ∙ ap₂ _+_ (sym (has-low m)) (ones-count k (m / 2) (omega arith) ∙ count-cong k (has (m / 2)) (λ i. has m (suc i)) (λ i l. sym (has-suc m i)))
+    ones-step m
+    ∙ ap₂ _+_ (sym (has-low m)) (ones-count k (m / 2) (omega arith) ∙ count-cong k (has (m / 2)) (λ i. has m (suc i)) (λ i l. sym (has-suc m i)))
     ∙ sym (count-low k (has m))
 
 -- a mask below 2 ^ n that meets the quorum has so many members

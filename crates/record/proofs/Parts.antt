@@ -14,8 +14,10 @@ use Rattle.record.specs.Below.{all}
 use Rattle.record.specs.Members.{faulty, leader, within, meets, idRound, idMember}
 use Rattle.record.specs.Refusals.{numberOf}
 use Rattle.record.specs.Layout.{strongOf, timeoutsOf, noVotesOf, weakCountOf, weakOf}
-use Rattle.record.specs.Questions.{masksOk, strongOk, lacksLeader, quorumIf, timeoutsOk, noVotesOk, masksAdmitted, weakIdOk, rises, slotOk, weakOk, bodyRefusal}
-use Rattle.record.proofs.Booleans.{which, and-left, and-right, and-both, and-fails-left, and-fails-right, bool-ext, cond-true, cond-false, or-left, or-right}
+use Rattle.record.specs.Questions.{masksOk, strongOk, lacksLeader, quorumIf, timeoutsOk, noVotesOk, masksAdmitted, weakIdOk, rises, slotOk}
+use Rattle.record.specs.Questions.{weakOk, bodyRefusal}
+use Rattle.record.proofs.Booleans.{which, and-left, and-right, and-both, and-fails-left, and-fails-right, bool-ext, cond-true, cond-false}
+use Rattle.record.proofs.Booleans.{or-left, or-right}
 use Rattle.record.proofs.Below.{all-intro, all-elim}
 use Rattle.record.proofs.Masks.{or-zero, lt-within}
 use Rattle.record.proofs.Turn.{next, done, known, both-yes}
@@ -30,7 +32,8 @@ module _ (n round source : ℕ) (body : List ℕ) where
   -- where the previous leader is lacking
   pub masks-lacking : strongOk n round (strongOf body) ≡ true → lacksLeader n round (strongOf body) ≡ true
       → masksAdmitted n round source body
-      ≡ ((within n (strongOf body) && (within n (timeoutsOf body) && within n (noVotesOf body))) && (meets n (timeoutsOf body) && quorumIf n (eqb source (leader n round)) (noVotesOf body)))
+      ≡ ((within n (strongOf body) && (within n (timeoutsOf body) && within n (noVotesOf body)))
+      && (meets n (timeoutsOf body) && quorumIf n (eqb source (leader n round)) (noVotesOf body)))
   unfolding masksAdmitted masksOk timeoutsOk noVotesOk quorumIf
   masks-lacking s k = rw (s, k)
 
@@ -45,7 +48,9 @@ module _ (n round source : ℕ) (body : List ℕ) where
       (λ e. let both = and-left (eqb (timeoutsOf body) 0 && eqb (noVotesOf body) 0) _ e in
       let x : timeoutsOf body ≡ 0 = eqb-true _ _ (and-left _ _ both) in
       let y : noVotesOf body ≡ 0 = eqb-true _ _ (and-right (eqb (timeoutsOf body) 0) _ both) in
-      and-both (and-both (and-right (eqb (timeoutsOf body) 0 && eqb (noVotesOf body) 0) _ e) (and-both (lt-within n (timeoutsOf body) (omega (arith, pow-pos n))) (lt-within n (noVotesOf body) (omega (arith, pow-pos n))))) both))
+      and-both
+      (and-both (and-right (eqb (timeoutsOf body) 0 && eqb (noVotesOf body) 0) _ e)
+      (and-both (lt-within n (timeoutsOf body) (omega (arith, pow-pos n))) (lt-within n (noVotesOf body) (omega (arith, pow-pos n))))) both))
 
   -- a body that 4 to 6 do not refuse is admitted exactly if its masks and its weak ids are
   pub admitted-parts : 1 ≤ round → round ≤ 32 → source < n → length body ≡ 10
@@ -66,16 +71,19 @@ module _ (n round source : ℕ) (body : List ℕ) where
           let q11 = both-yes _ _ _ (eqb-false 11 0 refl) (q10 .1) in
           and-both (and-both (q7 .0) (and-both (q8 .0) (and-both (q9 .0) (q10 .0)))) (q11 .0)
 
-      back : ((masksOk n body && (strongOk n round (strongOf body) && (timeoutsOk n round body && noVotesOk n round source body))) && weakOk n round body) ≡ true
+      back : ((masksOk n body && (strongOk n round (strongOf body) && (timeoutsOk n round body && noVotesOk n round source body)))
+          && weakOk n round body) ≡ true
           → eqb (numberOf (bodyRefusal n round source body)) 0 ≡ true
       back e =
           let a = and-left (masksOk n body && (strongOk n round (strongOf body) && (timeoutsOk n round body && noVotesOk n round source body))) _ e in
           let b = and-right (masksOk n body) _ a in
           let c = and-right (strongOk n round (strongOf body)) _ b in
           eq-eqb _ 0 (sym (ap numberOf (known n round source body low high member size
-          (next _ _ (and-left (masksOk n body) _ a) (next _ _ (and-left (strongOk n round (strongOf body)) _ b) (next _ _ (and-left (timeoutsOk n round body) _ c)
+          (next _ _ (and-left (masksOk n body) _ a)
+          (next _ _ (and-left (strongOk n round (strongOf body)) _ b) (next _ _ (and-left (timeoutsOk n round body) _ c)
           (next _ _ (and-right (timeoutsOk n round body) _ c)
-          (next _ _ (and-right (masksOk n body && (strongOk n round (strongOf body) && (timeoutsOk n round body && noVotesOk n round source body))) _ e) done))))))))
+          (next _ _ (and-right (masksOk n body && (strongOk n round (strongOf body) && (timeoutsOk n round body && noVotesOk n round source body))) _
+          e) done))))))))
 
 -- ---- the weak ids
 
@@ -91,7 +99,8 @@ weak-parts n round body few = ap (λ (b : Bool). leb (weakCountOf body) (faulty 
     (all-intro 5 _ (λ i l. unused i (all-elim 5 (slotOk n round body) e i l) (which (ltb i (weakCountOf body))))))
     (λ e. all-intro 5 (slotOk n round body) (λ i l. slot i
     (all-elim (weakCountOf body) (λ i. rises body i && weakIdOk n round (weakOf body i)) (and-left _ _ e) i)
-    (all-elim 5 (λ i. ltb i (weakCountOf body) || eqb (weakOf body i) 0) (and-right (all (weakCountOf body) (λ i. rises body i && weakIdOk n round (weakOf body i))) _ e) i l)
+    (all-elim 5 (λ i. ltb i (weakCountOf body) || eqb (weakOf body i) 0)
+    (and-right (all (weakCountOf body) (λ i. rises body i && weakIdOk n round (weakOf body i))) _ e) i l)
     (which (ltb i (weakCountOf body))))))
   where
     unused : (i : ℕ) → cond (ltb i (weakCountOf body)) (rises body i && weakIdOk n round (weakOf body i)) (eqb (weakOf body i) 0) ≡ true
@@ -99,7 +108,8 @@ weak-parts n round body few = ap (λ (b : Bool). leb (weakCountOf body) (faulty 
     unused i e (inl h) = or-left (eqb (weakOf body i) 0) h
     unused i e (inr h) = or-right (ltb i (weakCountOf body)) (sym (cond-false _ _ h) ∙ e)
 
-    slot : (i : ℕ) → (i < weakCountOf body → (rises body i && weakIdOk n round (weakOf body i)) ≡ true) → (ltb i (weakCountOf body) || eqb (weakOf body i) 0) ≡ true
+    slot : (i : ℕ) → (i < weakCountOf body → (rises body i && weakIdOk n round (weakOf body i)) ≡ true)
+        → (ltb i (weakCountOf body) || eqb (weakOf body i) 0) ≡ true
         → (ltb i (weakCountOf body) ≡ true) ⊎ (ltb i (weakCountOf body) ≡ false)
         → cond (ltb i (weakCountOf body)) (rises body i && weakIdOk n round (weakOf body i)) (eqb (weakOf body i) 0) ≡ true
     slot i u z (inl h) = cond-true _ _ h ∙ u (ltb-true i (weakCountOf body) h)

@@ -12,7 +12,8 @@ use Rattle.record.specs.Below.{all, count}
 use Rattle.record.specs.Members.{faulty, quorum, leader, has, within, meets, idRound, idMember}
 use Rattle.record.specs.Refusals.{numberOf, Question, firstNo}
 use Rattle.record.specs.Layout.{strongOf, timeoutsOf, noVotesOf, weakCountOf, weakOf}
-use Rattle.record.specs.Questions.{roundOk, masksOk, strongOk, lacksLeader, quorumIf, timeoutsOk, noVotesOk, weakIdOk, rises, slotOk, weakOk, recordQuestions, bodyRefusal}
+use Rattle.record.specs.Questions.{roundOk, masksOk, strongOk, lacksLeader, quorumIf, timeoutsOk, noVotesOk, weakIdOk, rises, slotOk, weakOk}
+use Rattle.record.specs.Questions.{recordQuestions, bodyRefusal}
 use Rattle.record.specs.Admitted.{Admitted, AdmittedLaw}
 use Rattle.record.specs.declared.refusal.Refusal.{Refusal}
 use Rattle.record.specs.declared.refusal.Refusal.the-variants.{None}
@@ -58,7 +59,8 @@ wanted-not n lack leads mask e = sym (cond-false _ _ (ap (λ (b : Bool). lack &&
 
 -- ---- an admitted record
 
-pub both-yes : (t : Bool) (why : Refusal) (rest : List Question) → (numberOf why ≡ 0 → ⊥) → numberOf (firstNo ((t, why) ∷ rest)) ≡ 0 → (t ≡ true) × (numberOf (firstNo rest) ≡ 0)
+pub both-yes : (t : Bool) (why : Refusal) (rest : List Question) → (numberOf why ≡ 0 → ⊥) → numberOf (firstNo ((t, why) ∷ rest)) ≡ 0 → (t ≡ true)
+    × (numberOf (firstNo rest) ≡ 0)
 unfolding firstNo
 both-yes true why rest h e = (refl, e)
 both-yes false why rest h e = absurd (h e)

@@ -15,7 +15,8 @@ use Rattle.record.proofs.Turn.{both-yes}
 use Rattle.replica.specs.State.{currentRound, committedRound, leaderCount, journalCount, leaderList, journalList}
 use Rattle.replica.specs.WellFormed.{wellFormed}
 use Rattle.replica.specs.Outcome.{Outcome, told, refusedBy, outcome}
-use Rattle.replica.specs.Lists.{headOf, statusOf, openQuestions, opened, openState, stateQuestions, listQuestions, Head, headIf, askLeaders, askJournal, handLeaders, handJournal}
+use Rattle.replica.specs.Lists.{headOf, statusOf, openQuestions, opened, openState, stateQuestions, listQuestions, Head, headIf, askLeaders}
+use Rattle.replica.specs.Lists.{askJournal, handLeaders, handJournal}
 use Rattle.replica.specs.declared.answer.Answer.{Answer}
 
 -- ---- what the number 0 says
@@ -117,7 +118,14 @@ abbrev headed : ℕ → List ℕ → Head
 headed x l = record { number = x; currentRound = currentRound l; committedRound = committedRound l; leaderCount = leaderCount l; journalCount = journalCount l }
 
 pub head-done : (l : List ℕ) (why : Refusal) → why ≡ firstNo (stateQuestions l) → numberOf why ≡ 0
-    → headOf (record { refusal = why; «current_round» = currentRound l; «committed_round» = committedRound l; «leader_count» = leaderCount l; «journal_count» = journalCount l }) ≡ statusOf l
+    → headOf
+    (record {
+      refusal = why;
+      «current_round» = currentRound l;
+      «committed_round» = committedRound l;
+      «leader_count» = leaderCount l;
+      «journal_count» = journalCount l;
+    }) ≡ statusOf l
 unfolding headIf
 head-done l why e sure =
     ap (λ (x : ℕ). headed x l) sure ∙ sym (cond-true _ _ (eq-eqb (numberOf why) 0 sure)) ∙ ap (λ (r : Refusal). headIf r l) e

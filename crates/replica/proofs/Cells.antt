@@ -67,7 +67,8 @@ round-empty l r e = cells-zero l r 0 16 ∙ all-cong 16 _ _ (λ p b. sym (cell-e
 pub round-rest : (l : List ℕ) (r n : ℕ) → n ≤ 16 → heldMask l r < 2 ^ n
     → (all n (cellOk l r) && all (10 * (16 - n)) (λ i. eqb (getD l (cellAt r n + i) 0) 0)) ≡ all 16 (cellOk l r)
 round-rest l r n h w =
-    ap (λ (b : Bool). all n (cellOk l r) && b) (cells-zero l r n (16 - n) ∙ all-cong (16 - n) _ _ (λ p b. sym (cell-empty l r (n + p) (beyond p (which (has (heldMask l r) (n + p)))))))
+    ap (λ (b : Bool). all n (cellOk l r) && b) (cells-zero l r n (16 - n)
+    ∙ all-cong (16 - n) _ _ (λ p b. sym (cell-empty l r (n + p) (beyond p (which (has (heldMask l r) (n + p)))))))
     ∙ sym (all-join n (16 - n) (cellOk l r)) ∙ ap (λ (m : ℕ). all m (cellOk l r)) whole
   where
     whole : n + (16 - n) ≡ 16

@@ -167,7 +167,8 @@ first-vote l q p a b f = go (which (has (votesMask l (suc q)) p)) (which (has (h
     ok : roundOk (suc q) ≡ true
     ok = round-ok (suc q) (omega arith) (omega arith)
 
-    go : (has (votesMask l (suc q)) p ≡ true) ⊎ (has (votesMask l (suc q)) p ≡ false) → (has (heardMask l (suc q)) p ≡ true) ⊎ (has (heardMask l (suc q)) p ≡ false)
+    go : (has (votesMask l (suc q)) p ≡ true) ⊎ (has (votesMask l (suc q)) p ≡ false)
+        → (has (heardMask l (suc q)) p ≡ true) ⊎ (has (heardMask l (suc q)) p ≡ false)
         → votes (memberCount l) q (firsts l (suc q) p) ≡ has (votesMask l (suc q)) p
     go (inl v) d = rw (ok, f v, v, sub-one (suc q)) (has-one (leader (memberCount l) q) (leader (memberCount l) q) ∙ eq-eqb (leader (memberCount l) q) _ refl)
     go (inr v) (inl h) = rw (ok, h, v) (has-zero (leader (memberCount l) q))

@@ -53,7 +53,13 @@ has-subset k a b l h =
 pub join-within : (n a b c d e f : ℕ) → within n (bitOr (bitOr (bitOr (bitOr (bitOr a b) c) d) e) f)
     ≡ (within n a && (within n b && (within n c && (within n d && (within n e && within n f)))))
 join-within n a b c d e f =
-    rw (within-or n (bitOr (bitOr (bitOr (bitOr a b) c) d) e) f, within-or n (bitOr (bitOr (bitOr a b) c) d) e, within-or n (bitOr (bitOr a b) c) d, within-or n (bitOr a b) c, within-or n a b)
+    rw (
+      within-or n (bitOr (bitOr (bitOr (bitOr a b) c) d) e) f,
+      within-or n (bitOr (bitOr (bitOr a b) c) d) e,
+      within-or n (bitOr (bitOr a b) c) d,
+      within-or n (bitOr a b) c,
+      within-or n a b,
+    )
     (six (within n a) (within n b) (within n c) (within n d) (within n e) (within n f))
   where
     six : (a b c d e f : Bool) → (((((a && b) && c) && d) && e) && f) ≡ (a && (b && (c && (d && (e && f)))))

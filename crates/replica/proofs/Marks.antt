@@ -20,7 +20,8 @@ use Rattle.record.proofs.Turn.{round-range}
 use Rattle.protocol.specs.Journal.{idLimit, among}
 use Rattle.replica.specs.State.{memberCount, journalCount, orderedMask, journalWord, journalList, orderedId}
 use Rattle.replica.specs.WellFormed.{eachRound, masksWithin, entryOk, journalOk}
-use Rattle.replica.proofs.Words.{id-same, ordered-id, masks-small, legal-pow, journal-length, journal-at, journal-whole, among-none, among-more, among-index, index-among}
+use Rattle.replica.proofs.Words.{id-same, ordered-id, masks-small, legal-pow, journal-length, journal-at, journal-whole, among-none}
+use Rattle.replica.proofs.Words.{among-more, among-index, index-among}
 
 -- the marks after i entries: bit p of mask r is set if the id of round r + 1 and member p is among them
 pub record Marked (l : List ℕ) (i : ℕ) (marks : List ℕ) : Type 0 where
@@ -48,14 +49,16 @@ pub marked-more : (l : List ℕ) (i : ℕ) (marks : List ℕ) (x at : ℕ) → l
     → Marked l (i + 1) (set marks at (bitOr (getD marks at 0) (2 ^ idMember x)))
 marked-more l i marks x at e f h ex m a b d = record {
   long = length-set marks at _ ∙ m .long;
-  small = λ r k. ⊎-elim (λ t. small-same r (eqb-true r at t) k) (λ t. rw (getD-set-other marks at r (bitOr (getD marks at 0) (2 ^ idMember x)) 0 (eqb-false r at t)) (m .small r k)) (which (eqb r at));
+  small = λ r k. ⊎-elim (λ t. small-same r (eqb-true r at t) k)
+      (λ t. rw (getD-set-other marks at r (bitOr (getD marks at 0) (2 ^ idMember x)) 0 (eqb-false r at t)) (m .small r k)) (which (eqb r at));
   same = λ r p k q. ⊎-elim (λ t. same-same r p (eqb-true r at t) q) (λ t. same-other r p k q (eqb-false r at t)) (which (eqb r at));
 }
   where
     low : at < 32
     low = omega arith
 
-    added : (p : ℕ) → p < 16 → (r : ℕ) → among (take (i + 1) (journalList l)) (idOf (r + 1) p) ≡ (among (take i (journalList l)) (idOf (r + 1) p) || eqb x (idOf (r + 1) p))
+    added : (p : ℕ) → p < 16 → (r : ℕ)
+        → among (take (i + 1) (journalList l)) (idOf (r + 1) p) ≡ (among (take i (journalList l)) (idOf (r + 1) p) || eqb x (idOf (r + 1) p))
     added p q r =
         among-more (journalList l) i (idOf (r + 1) p) (omega (arith, journal-length l e f))
         ∙ ap (λ (z : ℕ). among (take i (journalList l)) (idOf (r + 1) p) || eqb z (idOf (r + 1) p)) (journal-at l i h ∙ sym ex)
@@ -98,7 +101,8 @@ unfolding newId
 entry-new l i a b = and-both a (ap not b)
 
 -- a new id is as it should be if it is ordered
-pub new-ordered : (l : List ℕ) (i : ℕ) → newId l i ≡ true → (roundOk (idRound (journalWord l i)) ≡ true → has (orderedMask l (idRound (journalWord l i))) (idMember (journalWord l i)) ≡ true)
+pub new-ordered : (l : List ℕ) (i : ℕ) → newId l i ≡ true
+    → (roundOk (idRound (journalWord l i)) ≡ true → has (orderedMask l (idRound (journalWord l i))) (idMember (journalWord l i)) ≡ true)
     → entryOk l i ≡ true
 unfolding newId entryOk
 new-ordered l i e h =
@@ -140,7 +144,8 @@ abbrev pub named : List ℕ → ℕ → Bool
 named l y = not (orderedId l y) || among (journalList l) y
 
 -- an entry of the journal is ordered
-pub among-ordered : (l : List ℕ) (y : ℕ) → length l ≡ 5864 → journalCount l ≤ 512 → all (journalCount l) (entryOk l) ≡ true → among (journalList l) y ≡ true → orderedId l y ≡ true
+pub among-ordered : (l : List ℕ) (y : ℕ) → length l ≡ 5864 → journalCount l ≤ 512 → all (journalCount l) (entryOk l) ≡ true
+    → among (journalList l) y ≡ true → orderedId l y ≡ true
 among-ordered l y e f h a =
     let w = among-index (journalList l) y a in
     let k : w .0 < journalCount l = omega (arith, journal-length l e f) in
@@ -166,8 +171,11 @@ entries-decide l marks e g w f h m =
         let q = round-range (idRound y) (and-left _ _ o) in
         let k : (idRound y - 1) + 1 ≡ idRound y = omega arith in
         let low : idRound y - 1 < 32 = omega arith in
-        let eq : getD marks (idRound y - 1) 0 ≡ orderedMask l (idRound y - 1 + 1) = eqb-true _ _ (all-elim 32 (λ i. eqb (getD marks i 0) (orderedMask l (i + 1))) t (idRound y - 1) low) in
-        let o₁ : has (orderedMask l (idRound y - 1 + 1)) (idMember y) ≡ true = ap (λ (z : ℕ). has (orderedMask l z) (idMember y)) k ∙ and-right (roundOk (idRound y)) (has (orderedMask l (idRound y)) (idMember y)) o in
+        let eq : getD marks (idRound y - 1) 0
+        ≡ orderedMask l (idRound y - 1 + 1) = eqb-true _ _ (all-elim 32 (λ i. eqb (getD marks i 0) (orderedMask l (i + 1))) t (idRound y - 1) low)
+        in
+        let o₁ : has (orderedMask l (idRound y - 1 + 1)) (idMember y) ≡ true = ap (λ (z : ℕ). has (orderedMask l z) (idMember y)) k
+        ∙ and-right (roundOk (idRound y)) (has (orderedMask l (idRound y)) (idMember y)) o in
         ap (among (journalList l)) (sym (ap (λ (z : ℕ). idOf z (idMember y)) k ∙ id-same y))
         ∙ sym (whole (idRound y - 1) (idMember y) low (omega arith))
         ∙ ap (λ (z : ℕ). has z (idMember y)) eq ∙ o₁
@@ -178,7 +186,8 @@ entries-decide l marks e g w f h m =
     back-at : all idLimit (named l) ≡ true → (r : ℕ) → r < 32 → (p : ℕ) → p < 16 → has (getD marks r 0) p ≡ has (orderedMask l (r + 1)) p
     back-at t r b p q =
         whole r p b q
-        ∙ bool-ext (among-ordered l (idOf (r + 1) p) e f h) (implied (orderedId l (idOf (r + 1) p)) (among (journalList l) (idOf (r + 1) p)) (all-elim idLimit (named l) t (idOf (r + 1) p) (omega arith)))
+        ∙ bool-ext (among-ordered l (idOf (r + 1) p) e f h) (implied (orderedId l (idOf (r + 1) p)) (among (journalList l) (idOf (r + 1) p))
+        (all-elim idLimit (named l) t (idOf (r + 1) p) (omega arith)))
         ∙ ordered-id l (r + 1) p (omega arith) (omega arith) q
 
     back : all idLimit (named l) ≡ true → all 32 (λ i. eqb (getD marks i 0) (orderedMask l (i + 1))) ≡ true
@@ -202,7 +211,9 @@ journal-decides l marks e g w f h m = bool-ext
         let x = journalWord l i in
         let q = round-range (idRound x) o in
         let k : (idRound x - 1) + 1 ≡ idRound x = omega arith in
-        let eq : getD marks (idRound x - 1) 0 ≡ orderedMask l (idRound x - 1 + 1) = eqb-true _ _ (all-elim 32 (λ i. eqb (getD marks i 0) (orderedMask l (i + 1))) t (idRound x - 1) (omega arith)) in
+        let eq : getD marks (idRound x - 1) 0
+        ≡ orderedMask l (idRound x - 1 + 1) = eqb-true _ _ (all-elim 32 (λ i. eqb (getD marks i 0) (orderedMask l (i + 1))) t (idRound x - 1)
+        (omega arith)) in
         ap (λ (z : ℕ). has (orderedMask l z) (idMember x)) (sym k)
         ∙ ap (λ (z : ℕ). has z (idMember x)) (sym eq)
         ∙ mark-at l (journalCount l) marks x (idRound x - 1) m (q .0) (q .1) refl

@@ -109,19 +109,24 @@ module _ (n r p : ℕ) (l body : List ℕ) (group : legal n ≡ true) (a : Admit
       (all-intro (weakCountOf body) (λ i. heldId l (weakOf body i)) (λ i b. parents-elim l r body e (weakOf body i) (weak-small i b) (weak-parent r body i b))))
       (λ e. parents-intro l r body (λ y b t. ⊎-elim
       (λ s. strong-in (and-left _ _ e) y (s .0) (s .1))
-      (λ w. rw (w .2) at (all-elim (weakCountOf body) (λ i. heldId l (weakOf body i)) (and-right (subset (strongOf body) (heldMask l (r - 1))) _ e) (w .0) (w .1)))
+      (λ w. rw (w .2) at (all-elim (weakCountOf body) (λ i. heldId l (weakOf body i)) (and-right (subset (strongOf body) (heldMask l (r - 1))) _ e)
+      (w .0) (w .1)))
       (parent-cases r body y t)))
     where
       strong-has : parentsHeld l r body ≡ true → (m : ℕ) → m < 16 → has (strongOf body) m ≡ true → has (heldMask l (r - 1)) m ≡ true
       strong-has e m b h =
           let x : idRound (idOf (r - 1) m) ≡ r - 1 = omega arith in
           let y : idMember (idOf (r - 1) m) ≡ m = omega arith in
-          rw (x, y) at (and-right (roundOk (idRound (idOf (r - 1) m))) _ (parents-elim l r body e (idOf (r - 1) m) (omega (arith, a .round-high)) (strong-parent r body (idOf (r - 1) m) (omega arith) (rw y h))))
+          rw (x, y)
+          at (and-right (roundOk (idRound (idOf (r - 1) m))) _
+          (parents-elim l r body e (idOf (r - 1) m) (omega (arith, a .round-high))
+          (strong-parent r body (idOf (r - 1) m) (omega arith) (rw y h))))
 
       strong-in : subset (strongOf body) (heldMask l (r - 1)) ≡ true → (y : ℕ) → idRound y + 1 ≡ r → has (strongOf body) (idMember y) ≡ true → heldId l y ≡ true
       strong-in e y q h =
           let x : r - 1 ≡ idRound y = omega arith in
-          and-both (round-in (idRound y) (omega arith) (omega (arith, a .round-high))) (rw x at (subset-has (strongOf body) (heldMask l (r - 1)) (idMember y) e h))
+          and-both (round-in (idRound y) (omega arith) (omega (arith, a .round-high)))
+          (rw x at (subset-has (strongOf body) (heldMask l (r - 1)) (idMember y) e h))
 
 -- ---- of a record of which questions 4 to 6 are answered yes
 
@@ -151,7 +156,8 @@ module _ (n r p : ℕ) (l body : List ℕ) (group : legal n ≡ true) (low : 1 �
 
       held-by : Admitted n r p body → (ltb r 2 ≡ true) ⊎ (ltb r 2 ≡ false) → parentsHeld l r body ≡ (strong && weak)
       held-by a (inl f) = first-held n r p l body group a (ltb-true r 2 f) ∙ sym (and-both (or-left _ f) (none a (ltb-true r 2 f)))
-      held-by a (inr f) = later-held n r p l body group a (ltb-false r 2 f) ∙ ap (λ (b : Bool). (b || subset (strongOf body) (heldMask l (r - 1))) && weak) (sym f)
+      held-by a (inr f) = later-held n r p l body group a (ltb-false r 2 f)
+          ∙ ap (λ (b : Bool). (b || subset (strongOf body) (heldMask l (r - 1))) && weak) (sym f)
 
       there : (strong && (weakOk n r body && weak)) ≡ true → (eqb (numberOf (bodyRefusal n r p body)) 0 && parentsHeld l r body) ≡ true
       there d =

@@ -22,8 +22,11 @@ use Rattle.record.proofs.Turn.{round-range}
 use Rattle.protocol.specs.Journal.{idLimit, among}
 use Rattle.protocol.proofs.Lists.{among-none, among-append, among-one, once, once-append, once-none}
 use Rattle.replica.specs.Layout.{stateSize, cellAt}
-use Rattle.replica.specs.State.{memberCount, currentRound, committedRound, leaderCount, journalCount, heldMask, heardMask, votesMask, timeoutsMask, noVotesMask, orderedMask, leaderWord, journalWord, leaderList, journalList, cell, heldId, orderedId}
-use Rattle.replica.specs.WellFormed.{subset, masksWithin, parentsHeld, cellOk, leaderOk, lastLeaderRound, leadersOk, entryOk, journalOk, restZero, wellFormed}
+use Rattle.replica.specs.State.{memberCount, currentRound, committedRound, leaderCount, journalCount, heldMask, heardMask, votesMask}
+use Rattle.replica.specs.State.{timeoutsMask, noVotesMask, orderedMask, leaderWord, journalWord, leaderList, journalList, cell, heldId}
+use Rattle.replica.specs.State.{orderedId}
+use Rattle.replica.specs.WellFormed.{subset, masksWithin, parentsHeld, cellOk, leaderOk, lastLeaderRound, leadersOk, entryOk, journalOk}
+use Rattle.replica.specs.WellFormed.{restZero, wellFormed}
 
 -- ---- the facts
 
@@ -382,7 +385,9 @@ well-formed l S =
     (and-both (and-both (le-leb _ _ (J .few))
     (and-both (from-once l size (journalCount l) (omega arith) (J .few) (J .alone) (λ y d. sym (J .names y) ∙ d))
     (all-intro idLimit (λ y. not (orderedId l y) || among (journalList l) y) (λ y k. named y (which (orderedId l y))))))
-    (and-both (and-both (not-beyond l size (leaderCount l) 32 (leaderWord l) (S .leaders .rest)) (not-beyond l size (journalCount l) 512 (journalWord l) (J .rest)))
+    (and-both
+    (and-both (not-beyond l size (leaderCount l) 32 (leaderWord l) (S .leaders .rest))
+    (not-beyond l size (journalCount l) 512 (journalWord l) (J .rest)))
     refl))))))))))
   where
     named : (y : ℕ) → (orderedId l y ≡ true) ⊎ (orderedId l y ≡ false) → (not (orderedId l y) || among (journalList l) y) ≡ true
@@ -404,7 +409,8 @@ module _ (l : List ℕ) (S : Sound l) where
   leader-ok = all-elim (leaderCount l) (leaderOk l) (from-led l (S .size) (leaderCount l) (committedRound l) (S .leaders .few) (S .leaders .led) .0)
 
   -- a held leader's vertex, of a higher round than the one before
-  pub leader-entry : (i : ℕ) → i < leaderCount l → (heldId l (leaderWord l i) ≡ true) × (idMember (leaderWord l i) ≡ leader (memberCount l) (idRound (leaderWord l i)))
+  pub leader-entry : (i : ℕ) → i < leaderCount l → (heldId l (leaderWord l i) ≡ true)
+      × (idMember (leaderWord l i) ≡ leader (memberCount l) (idRound (leaderWord l i)))
   unfolding leaderOk
   leader-entry i k = let t = leader-ok i k in (and-left _ _ t, eqb-true _ _ (and-left _ _ (and-right (heldId l (leaderWord l i)) _ t)))
 

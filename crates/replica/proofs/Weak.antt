@@ -41,7 +41,8 @@ weak-beyond l n r last x low h = and-fails-right (ltb last x) (and-fails-left (h
 pub weak-held : (l : List ℕ) (n r last x : ℕ) → n ≡ memberCount l → eachRound (masksWithin l) ≡ true → r ≤ 32 → 15 ≤ last → last < x → x < 16 * (r - 1)
     → has (heldMask l (idRound x)) (idMember x) ≡ (ltb last x && (weakIdOk n r x && heldId l x))
 weak-held l n r last x e w high f g h = bool-ext
-    (λ d. let b : idMember x < n = rw (sym e) at (has-bound (memberCount l) (heldMask l (idRound x)) (idMember x) (masks-small l (idRound x) (round-elim (masksWithin l) w (idRound x) (omega arith) (omega arith)) .held) d) in
+    (λ d. let b : idMember x < n = rw (sym e) at (has-bound (memberCount l) (heldMask l (idRound x)) (idMember x)
+    (masks-small l (idRound x) (round-elim (masksWithin l) w (idRound x) (omega arith) (omega arith)) .held) d) in
     and-both (lt-ltb last x g) (and-both (weak-id-in n r x b (omega arith) (omega arith)) (and-both (round-in (idRound x) (omega arith) (omega arith)) d)))
     (λ d. and-right (roundOk (idRound x)) _ (and-right (weakIdOk n r x) _ (and-right (ltb last x) _ d)))
 
@@ -52,12 +53,15 @@ weak-above l n r last x e = ltb-true last x (and-left (ltb last x) _ e)
 
 -- questions 11 and 14: not too many, those in use pass and are held, and the other slots are 0
 pub weak-all : (l : List ℕ) (n r : ℕ) (body : List ℕ) → weakCountOf body ≤ 5 → weakCountOf body ≤ faulty n
-    → (all (weakCountOf body) (λ i. (rises body i && weakIdOk n r (weakOf body i)) && heldId l (weakOf body i)) && all 5 (λ i. ltb i (weakCountOf body) || eqb (weakOf body i) 0))
+    → (all (weakCountOf body) (λ i. (rises body i && weakIdOk n r (weakOf body i)) && heldId l (weakOf body i))
+    && all 5 (λ i. ltb i (weakCountOf body) || eqb (weakOf body i) 0))
     ≡ (weakOk n r body && all (weakCountOf body) (λ i. heldId l (weakOf body i)))
 weak-all l n r body few h =
-    ap (λ (b : Bool). b && all 5 (λ i. ltb i (weakCountOf body) || eqb (weakOf body i) 0)) (all-and (weakCountOf body) (λ i. rises body i && weakIdOk n r (weakOf body i)) (λ i. heldId l (weakOf body i)))
+    ap (λ (b : Bool). b && all 5 (λ i. ltb i (weakCountOf body) || eqb (weakOf body i) 0))
+    (all-and (weakCountOf body) (λ i. rises body i && weakIdOk n r (weakOf body i)) (λ i. heldId l (weakOf body i)))
     ∙ swap (all (weakCountOf body) (λ i. rises body i && weakIdOk n r (weakOf body i))) (all (weakCountOf body) (λ i. heldId l (weakOf body i))) _
-    ∙ ap (λ (b : Bool). b && all (weakCountOf body) (λ i. heldId l (weakOf body i))) (sym (rw (le-leb (weakCountOf body) (faulty n) h) at (weak-parts n r body few)))
+    ∙ ap (λ (b : Bool). b && all (weakCountOf body) (λ i. heldId l (weakOf body i)))
+    (sym (rw (le-leb (weakCountOf body) (faulty n) h) at (weak-parts n r body few)))
   where
     swap : (a b c : Bool) → ((a && b) && c) ≡ ((a && c) && b)
     swap true true true = refl
@@ -80,8 +84,10 @@ rest-zero b c d e =
 pub none-used : (body : List ℕ) → eqb (bitOr (bitOr (bitOr (bitOr (weakOf body 1) (weakOf body 2)) (weakOf body 3)) (weakOf body 4)) (weakOf body 0)) 0
     ≡ all 5 (λ i. ltb i 0 || eqb (weakOf body i) 0)
 none-used body =
-    or-zero (bitOr (bitOr (bitOr (weakOf body 1) (weakOf body 2)) (weakOf body 3)) (weakOf body 4)) (weakOf body 0) ∙ ap (λ (x : Bool). x && eqb (weakOf body 0) 0) (rest-zero (weakOf body 1) (weakOf body 2) (weakOf body 3) (weakOf body 4))
-    ∙ first (eqb (weakOf body 0) 0) (eqb (weakOf body 1) 0) (eqb (weakOf body 2) 0) (eqb (weakOf body 3) 0) (eqb (weakOf body 4) 0) ∙ sym (five (λ i. ltb i 0 || eqb (weakOf body i) 0))
+    or-zero (bitOr (bitOr (bitOr (weakOf body 1) (weakOf body 2)) (weakOf body 3)) (weakOf body 4)) (weakOf body 0)
+    ∙ ap (λ (x : Bool). x && eqb (weakOf body 0) 0) (rest-zero (weakOf body 1) (weakOf body 2) (weakOf body 3) (weakOf body 4))
+    ∙ first (eqb (weakOf body 0) 0) (eqb (weakOf body 1) 0) (eqb (weakOf body 2) 0) (eqb (weakOf body 3) 0) (eqb (weakOf body 4) 0)
+    ∙ sym (five (λ i. ltb i 0 || eqb (weakOf body i) 0))
   where
     first : (a b c d e : Bool) → ((((b && c) && d) && e) && a) ≡ ((((a && b) && c) && d) && e)
     first true b c d e = and-true (((b && c) && d) && e)

@@ -17,7 +17,8 @@ use Rattle.record.proofs.Booleans.{and-left, and-right, and-both, or-left, or-r
 use Rattle.record.proofs.Below.{all-elim}
 use Rattle.record.proofs.Masks.{within-lt, lt-within, legal-range}
 use Rattle.protocol.specs.Journal.{among}
-use Rattle.replica.specs.State.{memberCount, leaderCount, journalCount, heldMask, heardMask, votesMask, timeoutsMask, noVotesMask, orderedMask, leaderWord, journalWord, leaderList, journalList, heldId, orderedId}
+use Rattle.replica.specs.State.{memberCount, leaderCount, journalCount, heldMask, heardMask, votesMask, timeoutsMask, noVotesMask, orderedMask}
+use Rattle.replica.specs.State.{leaderWord, journalWord, leaderList, journalList, heldId, orderedId}
 use Rattle.replica.specs.WellFormed.{eachRound, masksWithin}
 use Rattle.replica.proofs.Parents.{round-in}
 
@@ -54,8 +55,12 @@ pub masks-small : (l : List ℕ) (r : ℕ) → masksWithin l r ≡ true → Smal
 unfolding masksWithin
 masks-small l r e =
     let n : ℕ = memberCount l in
-    let e₁ : (within n (heardMask l r) && (within n (votesMask l r) && (within n (timeoutsMask l r) && (within n (noVotesMask l r) && within n (orderedMask l r))))) ≡ true = and-right (within n (heldMask l r)) _ e in
-    let e₂ : (within n (votesMask l r) && (within n (timeoutsMask l r) && (within n (noVotesMask l r) && within n (orderedMask l r)))) ≡ true = and-right (within n (heardMask l r)) _ e₁ in
+    let e₁
+    : (within n (heardMask l r)
+    && (within n (votesMask l r) && (within n (timeoutsMask l r) && (within n (noVotesMask l r) && within n (orderedMask l r)))))
+    ≡ true = and-right (within n (heldMask l r)) _ e in
+    let e₂ : (within n (votesMask l r) && (within n (timeoutsMask l r) && (within n (noVotesMask l r) && within n (orderedMask l r))))
+    ≡ true = and-right (within n (heardMask l r)) _ e₁ in
     let e₃ : (within n (timeoutsMask l r) && (within n (noVotesMask l r) && within n (orderedMask l r))) ≡ true = and-right (within n (votesMask l r)) _ e₂ in
     let e₄ : (within n (noVotesMask l r) && within n (orderedMask l r)) ≡ true = and-right (within n (timeoutsMask l r)) _ e₃ in
     record {

@@ -19,7 +19,8 @@ use Rattle.sheetlog.specs.Feed.{Reading, feedByte, feed, keptSize, Keeps
 whole : {buffer line : List ℕ} {kept : ℕ} → Keeps buffer kept line → kept < keptSize → length line ≡ kept
 whole {buffer} {line} {kept} k l = omega (arith, k .fits, ap length (k .held), length-take kept buffer, length-take keptSize line)
 
-pub keeps-more : {buffer : List ℕ} {kept : ℕ} (line : List ℕ) (b : ℕ) → length buffer ≡ keptSize → kept < length buffer → Keeps buffer kept line → Keeps (set buffer kept b) (kept + 1) (line ++ b ∷ [])
+pub keeps-more : {buffer : List ℕ} {kept : ℕ} (line : List ℕ) (b : ℕ) → length buffer ≡ keptSize → kept < length buffer → Keeps buffer kept line
+    → Keeps (set buffer kept b) (kept + 1) (line ++ b ∷ [])
 keeps-more {buffer} {kept} line b e l k =
     let w : length line ≡ kept = whole k (omega arith) in
     record {
@@ -30,7 +31,8 @@ keeps-more {buffer} {kept} line b e l k =
           ∙ sym (take-all keptSize (line ++ b ∷ []) (omega (arith, length-append line (b ∷ []))));
     }
 
-pub keeps-full : {buffer : List ℕ} {kept : ℕ} (line : List ℕ) (b : ℕ) → length buffer ≡ keptSize → length buffer ≤ kept → Keeps buffer kept line → Keeps buffer kept (line ++ b ∷ [])
+pub keeps-full : {buffer : List ℕ} {kept : ℕ} (line : List ℕ) (b : ℕ) → length buffer ≡ keptSize → length buffer ≤ kept → Keeps buffer kept line
+    → Keeps buffer kept (line ++ b ∷ [])
 keeps-full {buffer} {kept} line b e l k =
     let long : keptSize ≤ length line = omega (arith, k .fits, ap length (k .held), length-take kept buffer, length-take keptSize line) in
     record { fits = k .fits; held = k .held ∙ sym (take-append-le keptSize line (b ∷ []) long) }
@@ -40,18 +42,23 @@ keeps-none buffer = record { fits = omega arith; held = refl }
 
 -- ---- one byte
 
-pub byte-joins : {buffer buffer′ state : List ℕ} {kept kept′ : ℕ} (b : ℕ) → (b ≡ 10 → ⊥) → ((line : List ℕ) → Keeps buffer kept line → Keeps buffer′ kept′ (line ++ b ∷ []))
+pub byte-joins : {buffer buffer′ state : List ℕ} {kept kept′ : ℕ} (b : ℕ) → (b ≡ 10 → ⊥)
+    → ((line : List ℕ) → Keeps buffer kept line → Keeps buffer′ kept′ (line ++ b ∷ []))
     → Follows buffer kept state buffer′ kept′ state (b ∷ [])
 unfolding feed feedByte
 byte-joins b h f = record { from = λ line k. rw (ne-eqb b 10 h) (f line k, refl) }
 
-pub byte-ends : {buffer state state′ : List ℕ} {kept : ℕ} (b : ℕ) → b ≡ 10 → state′ ≡ outcomeOf (commandOf (take kept buffer)) state .words → Follows buffer kept state buffer 0 state′ (b ∷ [])
+pub byte-ends : {buffer state state′ : List ℕ} {kept : ℕ} (b : ℕ) → b ≡ 10 → state′ ≡ outcomeOf (commandOf (take kept buffer)) state .words
+    → Follows buffer kept state buffer 0 state′ (b ∷ [])
 unfolding feed feedByte
 byte-ends {buffer} {state} b e h =
     record {
       from = λ line k.
-          rw (eq-eqb b 10 e)
-          (keeps-none buffer, h ∙ ap (λ (s : List ℕ). outcomeOf (commandOf s) state .words) (k .held) ∙ ap (λ (c : Command). outcomeOf c state .words) (kept-lines line keptSize (omega arith)));
+          rw (eq-eqb b 10 e) (
+            keeps-none buffer,
+            h ∙ ap (λ (s : List ℕ). outcomeOf (commandOf s) state .words) (k .held)
+                ∙ ap (λ (c : Command). outcomeOf c state .words) (kept-lines line keptSize (omega arith)),
+          );
     }
 
 -- ---- bytes in turn
@@ -76,8 +83,10 @@ follows-then {x = x} {y = y} s t f g =
     }
 
 -- a turn of the loop of `answer_block`
-pub follows-turn : {b c d x y z : List ℕ} {m j k : ℕ} (s : List ℕ) (i : ℕ) → i < length s → Follows b m x c j y (take i s) → Follows c j y d k z (getD s i 0 ∷ []) → Follows b m x d k z (take (i + 1) s)
-follows-turn s i l f g = let one : take (i + 1) s ≡ take i s ++ getD s i 0 ∷ [] = rw (add-one i) (take-suc s i 0 l) in rw one (follows-then (take i s) (getD s i 0 ∷ []) f g)
+pub follows-turn : {b c d x y z : List ℕ} {m j k : ℕ} (s : List ℕ) (i : ℕ) → i < length s → Follows b m x c j y (take i s)
+    → Follows c j y d k z (getD s i 0 ∷ []) → Follows b m x d k z (take (i + 1) s)
+follows-turn s i l f g = let one : take (i + 1) s ≡ take i s ++ getD s i 0
+    ∷ [] = rw (add-one i) (take-suc s i 0 l) in rw one (follows-then (take i s) (getD s i 0 ∷ []) f g)
 
 pub follows-all : {b c x y : List ℕ} {m j : ℕ} (s : List ℕ) (i : ℕ) → length s ≤ i → Follows b m x c j y (take i s) → Follows b m x c j y s
 follows-all s i l f = rw (take-all i s l) at f

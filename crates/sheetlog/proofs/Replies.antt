@@ -24,14 +24,16 @@ unchanged Timeout words state e = absurd (false≢true e)
 unchanged NoVote words state e = absurd (false≢true e)
 
 -- `other` is the command that `parse` gave
-pub other-reply : (command parsed : Command) (state : List ℕ) {bytes : List ℕ} {len : ℕ} → parsed ≡ command → isOther (parsed .kind) ≡ true → Starts otherText bytes len
+pub other-reply : (command parsed : Command) (state : List ℕ) {bytes : List ℕ} {len : ℕ} → parsed ≡ command → isOther (parsed .kind) ≡ true
+    → Starts otherText bytes len
     → Starts (replyText command state) bytes len × (state ≡ outcomeOf command state .words)
 unfolding replyText
 other-reply command parsed state {bytes} {len} p e h =
     let o : isOther (command .kind) ≡ true = ap (λ (c : Command). isOther (c .kind)) (sym p) ∙ e in
     (rw o h, unchanged (command .kind) (command .words) state o)
 
-pub call-reply : (command parsed : Command) (state after : List ℕ) (a : Answer) (s : Status) (n : ℕ) {bytes : List ℕ} {len : ℕ} → parsed ≡ command → isOther (parsed .kind) ≡ false
+pub call-reply : (command parsed : Command) (state after : List ℕ) (a : Answer) (s : Status) (n : ℕ) {bytes : List ℕ} {len : ℕ} → parsed ≡ command
+    → isOther (parsed .kind) ≡ false
     → told a after ≡ callFor (parsed .kind) (parsed .words) state → n ≡ numberOf (a .refusal) → headOf s ≡ statusOf after
     → Starts (answerText n (statusWords (headOf s))) bytes len → Starts (replyText command state) bytes len × (after ≡ outcomeOf command state .words)
 unfolding replyText

@@ -87,7 +87,9 @@ long-lines line l = long-other (kindOf (getD line 0 0)) (drop 1 line) (omega (ar
 pub kept-lines : KeptLines
 kept-lines line kept l =
     ⊎-elim (λ (h : leb (length line) kept ≡ true). ap commandOf (take-all kept line (leb-true _ kept h)))
-    (λ h. long-lines (take kept line) (omega (arith, leb-false (length line) kept h, length-take-le kept line (omega (arith, leb-false (length line) kept h)))) ∙ sym (long-lines line (omega (arith, leb-false (length line) kept h))))
+    (λ h. long-lines (take kept line)
+    (omega (arith, leb-false (length line) kept h, length-take-le kept line (omega (arith, leb-false (length line) kept h))))
+    ∙ sym (long-lines line (omega (arith, leb-false (length line) kept h))))
     (which (leb (length line) kept))
 
 -- ---- digits that are printed
@@ -139,7 +141,8 @@ first-snoc s b f = record { some = omega (arith, f .some, length-append s (b ∷
 first-digits : (k n : ℕ) → n < tens k 1 → 1 ≤ n → First (digitsFrom k n)
 unfolding tens
 first-digits zero n l h = absurd (omega arith)
-first-digits (suc k) n l h = rw (digits-next k (suc k) n refl (λ e. omega arith)) (go (which (eqb (n / 10) 0)) (first-digits k (n / 10) (omega (arith, tens-ten k 1))))
+first-digits (suc k) n l h = rw (digits-next k (suc k) n refl (λ e. omega arith)) (go (which (eqb (n / 10) 0))
+    (first-digits k (n / 10) (omega (arith, tens-ten k 1))))
   where
     go : (eqb (n / 10) 0 ≡ true) ⊎ (eqb (n / 10) 0 ≡ false) → (1 ≤ n / 10 → First (digitsFrom k (n / 10))) → First (digitsFrom k (n / 10) ++ (48 + n % 10) ∷ [])
     go (inl e) r = rw (digits-done k (n / 10) (eqb-true (n / 10) 0 e)) (record { some = omega arith; high = omega (arith, eqb-true (n / 10) 0 e) })

@@ -123,10 +123,12 @@ pub appended-all : {d e : List ℕ} (t : List ℕ) (at i b : ℕ) → length t �
 appended-all t at i b l p = rw (take-all i t l) at p
 
 -- a turn of the loop of `put_items`: a space, and the digits of n
-pub appended-item : {d e f g : List ℕ} (t : List ℕ) (at i b c k : ℕ) → i < length t → Appended d at (items (take i t)) e b → Appended e b (32 ∷ []) f c → Appended f c (decimal (getD t i 0)) g k
+pub appended-item : {d e f g : List ℕ} (t : List ℕ) (at i b c k : ℕ) → i < length t → Appended d at (items (take i t)) e b
+    → Appended e b (32 ∷ []) f c → Appended f c (decimal (getD t i 0)) g k
     → Appended d at (items (take (i + 1) t)) g k
 appended-item t at i b c k l p q r =
-    let one : items (take (i + 1) t) ≡ items (take i t) ++ 32 ∷ decimal (getD t i 0) = rw (add-one i) (ap items (take-suc t i 0 l) ∙ items-one (take i t) (getD t i 0)) in
+    let one : items (take (i + 1) t) ≡ items (take i t) ++ 32 ∷ decimal (getD t i 0) = rw (add-one i) (ap items (take-suc t i 0 l)
+    ∙ items-one (take i t) (getD t i 0)) in
     rw one (appended-then p (appended-then q r))
 
 -- the digits that `put_number` hands on
@@ -137,13 +139,15 @@ pub items-all : {d e : List ℕ} (t : List ℕ) (at i b : ℕ) → length t ≤ 
 items-all t at i b l p = rw (take-all i t l) at p
 
 -- the lines
-pub an-answer : {d e f g : List ℕ} (n : ℕ) (t : List ℕ) {a b c : ℕ} → length d ≡ 64 → length t ≡ 4 → Appended d 0 (decimal n) e a → Appended e a (items t) f b → Appended f b (10 ∷ []) g c
+pub an-answer : {d e f g : List ℕ} (n : ℕ) (t : List ℕ) {a b c : ℕ} → length d ≡ 64 → length t ≡ 4 → Appended d 0 (decimal n) e a
+    → Appended e a (items t) f b → Appended f b (10 ∷ []) g c
     → Starts (answerText n t) g c
 an-answer {d} n t k l p q r =
     starts (appended-then (appended-then p q) r)
     (omega (arith, k, l, decimal-few n, items-few t, length-append (decimal n ++ items t) (10 ∷ []), length-append (decimal n) (items t)))
 
-pub a-list : {d e f g : List ℕ} (letter : ℕ) (t : List ℕ) {a b c : ℕ} → length t < length d / 11 → Appended d 0 (letter ∷ []) e a → Appended e a (items t) f b → Appended f b (10 ∷ []) g c
+pub a-list : {d e f g : List ℕ} (letter : ℕ) (t : List ℕ) {a b c : ℕ} → length t < length d / 11 → Appended d 0 (letter ∷ []) e a
+    → Appended e a (items t) f b → Appended f b (10 ∷ []) g c
     → Starts (listWithin (length d) letter t) g c
 a-list {d} letter t h p q r =
     rw (cond-true (listText letter t) [] (lt-ltb _ _ h))

@@ -64,7 +64,8 @@ value-grows [] v = omega arith
 value-grows (b ∷ s) v = omega (arith, value-grows s (v * 10 + (b - 48)))
 
 -- a turn of the loop of `numeral`, whose digit has the value w
-pub value-turn : (s : List ℕ) (i v w : ℕ) → i < length s → w ≡ getD s i 0 - 48 → valueOf s ≡ valueFrom v (drop i s) → valueOf s ≡ valueFrom (v * 10 + w) (drop (i + 1) s)
+pub value-turn : (s : List ℕ) (i v w : ℕ) → i < length s → w ≡ getD s i 0 - 48 → valueOf s ≡ valueFrom v (drop i s)
+    → valueOf s ≡ valueFrom (v * 10 + w) (drop (i + 1) s)
 value-turn s i v w l e h = h ∙ value-next s i l v ∙ ap (λ (x : ℕ). valueFrom (v * 10 + x) (drop (i + 1) s)) (sym e)
 
 pub value-over : (s : List ℕ) (i v : ℕ) → valueOf s ≡ valueFrom v (drop i s) → largest < v → largest < valueOf s

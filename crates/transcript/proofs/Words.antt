@@ -11,7 +11,8 @@ use lib.Dec.{eqb}
 use lib.ListN.{length, length-drop, getD, drop, take, set, drop-of-length-le}
 use lib.Seq.{drop-drop, sets}
 use borrow.Author.Tests.{leb-true, eq-eqb, ne-eqb, not-true, not-false}
-use Rattle.transcript.specs.Grammar.{largest, allDigits, ledOk, valueOf, numeralOk, numeralValue, upToSpace, firstWord, afterWord, wordsOk, wordsIn, placed, unscanned, scanned}
+use Rattle.transcript.specs.Grammar.{largest, allDigits, ledOk, valueOf, numeralOk, numeralValue, upToSpace, firstWord, afterWord, wordsOk}
+use Rattle.transcript.specs.Grammar.{wordsIn, placed, unscanned, scanned}
 use Rattle.transcript.specs.Commands.{wordCount, otherForm, commandFrom, commandOf}
 use Rattle.transcript.specs.declared.command.Words.{Words}
 use Rattle.transcript.specs.declared.command.Kind.{Kind}
@@ -175,7 +176,8 @@ module _ (kind : Kind) (s : List ℕ) where
       go (inl d) = absurd (true≢false (sym (ap (λ (x : Words). x .ok) (e ∙ cond-true _ _ d)) ∙ not-true (w .ok) h))
       go (inr d) = sym (cond-false _ _ (and-fails-right (not (eqb (wordCount kind) 0)) d))
 
-  pub a-command : (w : Words) → w ≡ scanned (wordCount kind) s → (wordCount kind ≡ 0 → ⊥) → not (w .ok) ≡ false → record { kind = kind; words = w .words } ≡ commandFrom kind s
+  pub a-command : (w : Words) → w ≡ scanned (wordCount kind) s → (wordCount kind ≡ 0 → ⊥) → not (w .ok) ≡ false
+      → record { kind = kind; words = w .words } ≡ commandFrom kind s
   unfolding commandFrom scanned
   a-command w e n h = go (which (wordsOk (wordCount kind) s))
     where

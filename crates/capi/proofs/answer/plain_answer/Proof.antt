@@ -15,7 +15,11 @@ missing-id-requires : tie.Need-missing-id-requires
 missing-id-requires c κs = search needs
 
 returns : tie.Need-returns
-returns c = ap₂ (λ (x y : ℕ). record { number = x; id = y; leaders = c .before .before .args .answer .leaders; journal = c .before .before .args .answer .journal }) (c .before .number .ensures) (c .missing-id .ensures)
+returns c =
+    let after-number : tie.After-number = search in
+    let start : tie.Start = search in
+    ap₂ (λ (x y : ℕ). record { number = x; id = y; leaders = start .args .answer .leaders; journal = start .args .answer .journal })
+    (after-number .number .ensures) (c .missing-id .ensures)
 
 pub plain-answer-spec : {M : Type 1} → statement M
 plain-answer-spec = tie.close (tie.spec number-requires missing-id-requires returns)

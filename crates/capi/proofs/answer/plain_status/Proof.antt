@@ -11,7 +11,16 @@ number-requires : tie.Need-number-requires
 number-requires c κs = search needs
 
 returns : tie.Need-returns
-returns c = ap (λ (x : ℕ). record { number = x; «current_round» = c .before .args .status .«current_round»; «committed_round» = c .before .args .status .«committed_round»; «leader_count» = c .before .args .status .«leader_count»; «journal_count» = c .before .args .status .«journal_count» }) (c .number .ensures)
+returns c =
+    let start : tie.Start = search in
+    ap (λ (x : ℕ).
+    record {
+      number = x;
+      «current_round» = start .args .status .«current_round»;
+      «committed_round» = start .args .status .«committed_round»;
+      «leader_count» = start .args .status .«leader_count»;
+      «journal_count» = start .args .status .«journal_count»;
+    }) (c .number .ensures)
 
 pub plain-status-spec : {M : Type 1} → statement M
 plain-status-spec = tie.close (tie.spec number-requires returns)

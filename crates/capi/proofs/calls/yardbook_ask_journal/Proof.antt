@@ -15,7 +15,9 @@ number-requires : tie.Need-number-requires
 number-requires c κs = search needs
 
 returns : tie.Need-returns
-returns c = c .number .ensures ∙ ap numberOf (c .before .ask-journal .ensures)
+returns c =
+    let after-ask-journal : tie.After-ask-journal = search in
+    c .number .ensures ∙ ap numberOf (after-ask-journal .ask-journal .ensures)
 
 pub yardbook-ask-journal-spec : {M : Type 1} → statement M
 yardbook-ask-journal-spec = tie.close (tie.spec ask-journal-requires number-requires returns)

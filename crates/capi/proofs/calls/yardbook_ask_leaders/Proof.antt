@@ -15,7 +15,9 @@ number-requires : tie.Need-number-requires
 number-requires c κs = search needs
 
 returns : tie.Need-returns
-returns c = c .number .ensures ∙ ap numberOf (c .before .ask-leaders .ensures)
+returns c =
+    let after-ask-leaders : tie.After-ask-leaders = search in
+    c .number .ensures ∙ ap numberOf (after-ask-leaders .ask-leaders .ensures)
 
 pub yardbook-ask-leaders-spec : {M : Type 1} → statement M
 yardbook-ask-leaders-spec = tie.close (tie.spec ask-leaders-requires number-requires returns)

@@ -17,7 +17,9 @@ same-length : tie.Need-same-length
 same-length c = search needs
 
 returns : tie.Need-returns
-returns c = answered (c .before .before .before .«open» .result) _ _ _ (c .plain-answer .ensures) (c .before .before .before .«open» .ensures)
+returns c =
+    let after-open : tie.After-open = search in
+    answered (after-open .«open» .result) _ _ _ (c .plain-answer .ensures) (after-open .«open» .ensures)
 
 pub yardbook-open-spec : {M : Type 1} → statement M
 yardbook-open-spec = tie.close (tie.spec open-requires plain-answer-requires same-length returns)

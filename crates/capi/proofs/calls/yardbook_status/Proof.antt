@@ -15,7 +15,9 @@ plain-status-requires : tie.Need-plain-status-requires
 plain-status-requires c κs = search needs
 
 returns : tie.Need-returns
-returns c = ap plainHead (c .plain-status .ensures) ∙ c .before .status .ensures
+returns c =
+    let after-status : tie.After-status = search in
+    ap plainHead (c .plain-status .ensures) ∙ after-status .status .ensures
 
 pub yardbook-status-spec : {M : Type 1} → statement M
 yardbook-status-spec = tie.close (tie.spec status-requires plain-status-requires returns)

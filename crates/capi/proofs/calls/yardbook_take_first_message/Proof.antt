@@ -17,7 +17,9 @@ same-length : tie.Need-same-length
 same-length c = search needs
 
 returns : tie.Need-returns
-returns c = answered (c .before .before .before .take-first-message .result) _ _ _ (c .plain-answer .ensures) (c .before .before .before .take-first-message .ensures)
+returns c =
+    let after-take-first-message : tie.After-take-first-message = search in
+    answered (after-take-first-message .take-first-message .result) _ _ _ (c .plain-answer .ensures) (after-take-first-message .take-first-message .ensures)
 
 pub yardbook-take-first-message-spec : {M : Type 1} → statement M
 yardbook-take-first-message-spec =

@@ -17,7 +17,9 @@ same-length : tie.Need-same-length
 same-length c = search needs
 
 returns : tie.Need-returns
-returns c = answered (c .before .before .before .take-no-vote .result) _ _ _ (c .plain-answer .ensures) (c .before .before .before .take-no-vote .ensures)
+returns c =
+    let after-take-no-vote : tie.After-take-no-vote = search in
+    answered (after-take-no-vote .take-no-vote .result) _ _ _ (c .plain-answer .ensures) (after-take-no-vote .take-no-vote .ensures)
 
 pub yardbook-take-no-vote-spec : {M : Type 1} → statement M
 yardbook-take-no-vote-spec =

@@ -17,7 +17,9 @@ same-length : tie.Need-same-length
 same-length c = search needs
 
 returns : tie.Need-returns
-returns c = answered (c .before .before .before .take-timeout .result) _ _ _ (c .plain-answer .ensures) (c .before .before .before .take-timeout .ensures)
+returns c =
+    let after-take-timeout : tie.After-take-timeout = search in
+    answered (after-take-timeout .take-timeout .result) _ _ _ (c .plain-answer .ensures) (after-take-timeout .take-timeout .ensures)
 
 pub yardbook-take-timeout-spec : {M : Type 1} → statement M
 yardbook-take-timeout-spec =

@@ -17,7 +17,9 @@ same-length : tie.Need-same-length
 same-length c = search needs
 
 returns : tie.Need-returns
-returns c = answered (c .before .before .before .take-vertex .result) _ _ _ (c .plain-answer .ensures) (c .before .before .before .take-vertex .ensures)
+returns c =
+    let after-take-vertex : tie.After-take-vertex = search in
+    answered (after-take-vertex .take-vertex .result) _ _ _ (c .plain-answer .ensures) (after-take-vertex .take-vertex .ensures)
 
 pub yardbook-take-vertex-spec : {M : Type 1} → statement M
 yardbook-take-vertex-spec =

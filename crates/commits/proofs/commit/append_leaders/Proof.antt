@@ -30,20 +30,11 @@ loop-holds c =
     let start : tie.Start Inv-loop μ-loop = search in
     (omega arith, omega arith, appending-start _ _ _ (start .pre .0) (start .pre .1) (start .pre .4) (start .pre .3))
 
-has-requires : tie.Need-has-requires Inv-loop μ-loop
-has-requires c κs = search needs
-
 append-leader-requires : tie.Need-append-leader-requires Inv-loop μ-loop
 append-leader-requires c κs =
     let at-loop : tie.At-loop Inv-loop μ-loop = search in
     let start : tie.Start Inv-loop μ-loop = search in
     (at-loop .loop .inv .2 .size, at-loop .loop .inv .2 .members, start .pre .2, at-loop .loop .inv .0, omega arith, omega (arith, at-loop .loop .inv .2 .few))
-
-add-r : tie.Need-add-r Inv-loop μ-loop
-add-r c = search needs
-
-loop-less : tie.Need-loop-less Inv-loop μ-loop
-loop-less c = search needs
 
 loop-again : tie.Need-loop-again Inv-loop μ-loop
 loop-again c =
@@ -57,14 +48,12 @@ loop-again c =
           (c .if1 .came),
     )
 
-same-length : tie.Need-same-length Inv-loop μ-loop
-same-length c = search needs
-
 returns : tie.Need-returns Inv-loop μ-loop
 returns c =
     let at-loop : tie.At-loop Inv-loop μ-loop = search in
     let start : tie.Start Inv-loop μ-loop = search in
-    let e : at-loop .loop .r ≡ 32 = omega arith in at-loop .loop .inv .2 .is ∙ ap (λ (x : ℕ). appendLeaders (start .args .state .now) (select x (has (start .args .taken)))) e
+    let e : at-loop .loop .r ≡ 32 = omega arith in at-loop .loop .inv .2 .is
+    ∙ ap (λ (x : ℕ). appendLeaders (start .args .state .now) (select x (has (start .args .taken)))) e
 
 pub append-leaders-spec : {M : Type 1} → statement M
 append-leaders-spec =
@@ -73,10 +62,10 @@ append-leaders-spec =
     Inv-loop
     μ-loop
     loop-holds
-    has-requires
+    (λ c κs. search needs)
     append-leader-requires
-    add-r
-    loop-less
+    (λ c. search needs)
+    (λ c. search needs)
     loop-again
-    same-length
+    (λ c. search needs)
     returns)

@@ -24,9 +24,6 @@ Inv-loop state₀ n q₀ state q = (q ≡ lowest state) × (q ≤ 32) × Onward 
 abbrev μ-loop : tie.MeasureT-loop
 μ-loop state₀ n q₀ state q = 32 - q
 
-lowest-committable-requires : tie.Need-lowest-committable-requires Inv-loop μ-loop
-lowest-committable-requires c κs = search needs
-
 loop-holds : tie.Need-loop-holds Inv-loop μ-loop
 loop-holds c =
     let start : tie.Start Inv-loop μ-loop = search in (
@@ -59,7 +56,13 @@ loop-less c =
     let after-commit-round : tie.After-commit-round Inv-loop μ-loop = search in
     let in-loop : tie.In-loop Inv-loop μ-loop = search in
     let at-loop : tie.At-loop Inv-loop μ-loop = search in
-    omega (arith, c .lowest-committable2 .ensures, at-loop .loop .inv .1, onward-rises _ _ _ _ (at-loop .loop .inv .2) (at-loop .loop .inv .0) (in-loop .loop-test .taken) (after-commit-round .commit-round .ensures))
+    omega (
+      arith,
+      c .lowest-committable2 .ensures,
+      at-loop .loop .inv .1,
+      onward-rises _ _ _ _ (at-loop .loop .inv .2) (at-loop .loop .inv .0)
+          (in-loop .loop-test .taken) (after-commit-round .commit-round .ensures),
+    )
 
 loop-again : tie.Need-loop-again Inv-loop μ-loop
 loop-again c =
@@ -87,7 +90,7 @@ commit-all-spec =
     (tie.spec
     Inv-loop
     μ-loop
-    lowest-committable-requires
+    (λ c κs. search needs)
     loop-holds
     commit-round-requires
     lowest-committable-requires-2

@@ -21,7 +21,8 @@ led c =
     let small = leader-lt (s .args .n) (s .args .q) (omega (arith, s .pre .0 .low)) in
     cc (held-word _ (s .pre .0) (s .args .q) (leader (s .args .n) (s .args .q)) (s .pre .2) (omega arith) (omega (arith, s .pre .0 .high)))
 
-heard : (c : tie.After-meets-quorum) → let a = (let s : tie.Start = search in s .args) in c .meets-quorum .result ≡ enough (a .n) (λ p. votes (a .n) (a .q) (firsts (a .state .now) (suc (a .q)) p))
+heard : (c : tie.After-meets-quorum) → let a = (let s : tie.Start = search in s .args) in c .meets-quorum .result
+    ≡ enough (a .n) (λ p. votes (a .n) (a .q) (firsts (a .state .now) (suc (a .q)) p))
 heard c =
     let s : tie.Start = search in
     cc (add-one (s .args .q), first-quorum _ (s .pre .0) (s .args .n) (s .args .q) (s .pre .1) (s .pre .2) (s .pre .3))
@@ -43,7 +44,8 @@ returns-3 c =
     let e : tie.Else1 = search in
     let q : tie.After-quorum-of = search in
     let h = heard (search) in
-    ap₂ leb (q .quorum-of .ensures) (c .vertex-votes .ensures) ∙ by-vertices _ (let s : tie.Start = search in dag (s .args .state .now)) _ (passed (led (search)) (e .if1 .left)) (cc)
+    ap₂ leb (q .quorum-of .ensures) (c .vertex-votes .ensures)
+    ∙ by-vertices _ (let s : tie.Start = search in dag (s .args .state .now)) _ (passed (led (search)) (e .if1 .left)) (cc)
 
 pub is-committed-spec : {M : Type 1} → statement M
 is-committed-spec =

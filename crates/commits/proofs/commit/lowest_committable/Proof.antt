@@ -20,19 +20,10 @@ Inv-loop state n q₀ q = (committedRound state < q) × (q ≤ 32) × (any q (co
 abbrev μ-loop : tie.MeasureT-loop
 μ-loop state n q₀ q = 32 - q
 
-shared-slice-read-q : tie.Need-shared-slice-read-q Inv-loop μ-loop
-shared-slice-read-q c = search needs
-
-add-q : tie.Need-add-q Inv-loop μ-loop
-add-q c = search needs
-
 loop-holds : tie.Need-loop-holds Inv-loop μ-loop
 loop-holds c =
     let start : tie.Start Inv-loop μ-loop = search in
     (omega arith, omega (arith, start .pre .2), any-false _ _ (λ i l. committable-low _ i (omega arith)))
-
-is-committed-requires : tie.Need-is-committed-requires Inv-loop μ-loop
-is-committed-requires c κs = search needs
 
 returns : tie.Need-returns Inv-loop μ-loop
 returns c =
@@ -41,13 +32,8 @@ returns c =
     let at-loop : tie.At-loop Inv-loop μ-loop = search in
     let start : tie.Start Inv-loop μ-loop = search in
     sym (least-at 32 (committable (start .args .state .now)) (at-loop .loop .q) (in-loop .loop-test .taken) (at-loop .loop .inv .2)
-    (sym (committable-at _ _ (at-loop .loop .q) (start .pre .1) (at-loop .loop .inv .0) (omega arith)) ∙ (sym (after-is-committed .is-committed .ensures) ∙ c .if1 .taken)))
-
-add-q-2 : tie.Need-add-q-2 Inv-loop μ-loop
-add-q-2 c = search needs
-
-loop-less : tie.Need-loop-less Inv-loop μ-loop
-loop-less c = search needs
+    (sym (committable-at _ _ (at-loop .loop .q) (start .pre .1) (at-loop .loop .inv .0) (omega arith))
+    ∙ (sym (after-is-committed .is-committed .ensures) ∙ c .if1 .taken)))
 
 loop-again : tie.Need-loop-again Inv-loop μ-loop
 loop-again c =
@@ -57,7 +43,8 @@ loop-again c =
       omega arith,
       omega arith,
       any-less _ _ (at-loop .loop .inv .2)
-          (sym (committable-at _ _ (at-loop .loop .q) (start .pre .1) (at-loop .loop .inv .0) (omega arith)) ∙ (sym (after-is-committed .is-committed .ensures) ∙ c .if1 .left)),
+          (sym (committable-at _ _ (at-loop .loop .q) (start .pre .1) (at-loop .loop .inv .0) (omega arith))
+          ∙ (sym (after-is-committed .is-committed .ensures) ∙ c .if1 .left)),
     )
 
 returns-2 : tie.Need-returns-2 Inv-loop μ-loop
@@ -72,12 +59,12 @@ lowest-committable-spec =
     (tie.spec
     Inv-loop
     μ-loop
-    shared-slice-read-q
-    add-q
+    (λ c. search needs)
+    (λ c. search needs)
     loop-holds
-    is-committed-requires
+    (λ c κs. search needs)
     returns
-    add-q-2
-    loop-less
+    (λ c. search needs)
+    (λ c. search needs)
     loop-again
     returns-2)

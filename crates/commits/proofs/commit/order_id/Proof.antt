@@ -10,19 +10,10 @@ use Rattle.commits.proofs.commit.enter_id.Reads as enter-id-reads
 use Rattle.record.proofs.members.Members.has.Reads as has-reads
 use Rattle.replica.proofs.layout.is_ordered.Reads as is-ordered-reads
 
-has-requires : tie.Need-has-requires
-has-requires c κs = search needs
-
 returns : tie.Need-returns
 returns c =
     let after-has : tie.After-has = search in
     order-out _ _ _ (failed (after-has .has .ensures) (c .if1 .taken))
-
-is-ordered-requires : tie.Need-is-ordered-requires
-is-ordered-requires c κs = search needs
-
-same-length : tie.Need-same-length
-same-length c = search needs
 
 returns-2 : tie.Need-returns-2
 returns-2 c =
@@ -33,11 +24,13 @@ enter-id-requires : tie.Need-enter-id-requires
 enter-id-requires c κs =
     let else2 : tie.Else2 = search in
     let after-is-ordered : tie.After-is-ordered = search in
-    let start : tie.Start = search in
-    (start .pre .0, start .pre .1, start .pre .2, room-for (start .args .state .now) (start .args .id) (start .pre .3) (start .pre .1) (start .pre .2) (sym (after-is-ordered .is-ordered .ensures) ∙ else2 .if2 .left))
-
-same-length-2 : tie.Need-same-length-2
-same-length-2 c = search needs
+    let start : tie.Start = search in (
+      start .pre .0,
+      start .pre .1,
+      start .pre .2,
+      room-for (start .args .state .now) (start .args .id) (start .pre .3) (start .pre .1) (start .pre .2)
+          (sym (after-is-ordered .is-ordered .ensures) ∙ else2 .if2 .left),
+    )
 
 returns-3 : tie.Need-returns-3
 returns-3 c =
@@ -46,17 +39,18 @@ returns-3 c =
     let after-is-ordered : tie.After-is-ordered = search in
     let else1 : tie.Else1 = search in
     let after-has : tie.After-has = search in
-    after-enter-id .enter-id .ensures ∙ order-new _ _ _ (passed (after-has .has .ensures) (else1 .if1 .left)) (sym (after-is-ordered .is-ordered .ensures) ∙ else2 .if2 .left)
+    after-enter-id .enter-id .ensures
+    ∙ order-new _ _ _ (passed (after-has .has .ensures) (else1 .if1 .left)) (sym (after-is-ordered .is-ordered .ensures) ∙ else2 .if2 .left)
 
 pub order-id-spec : {M : Type 1} → statement M
 order-id-spec =
     tie.close
     (tie.spec
-    has-requires
+    (λ c κs. search needs)
     returns
-    is-ordered-requires
-    same-length
+    (λ c κs. search needs)
+    (λ c. search needs)
     returns-2
     enter-id-requires
-    same-length-2
+    (λ c. search needs)
     returns-3)

@@ -36,35 +36,19 @@ loop-holds c =
     let the-start : tie.Start Inv-loop μ-loop = search in
     let s = the-start in (omega arith, start (s .args .n) (s .args .state .now) (s .pre .0) (s .pre .1) (s .pre .2) (s .args .round) (s .pre .5))
 
-wide-requires : tie.Need-wide-requires Inv-loop μ-loop
-wide-requires c κs = search needs
-
-mul-order-round : tie.Need-mul-order-round Inv-loop μ-loop
-mul-order-round c = search needs
-
-array-read-order-round : tie.Need-array-read-order-round Inv-loop μ-loop
-array-read-order-round c = search needs
-
-add-order-round : tie.Need-add-order-round Inv-loop μ-loop
-add-order-round c = search needs
-
 order-round-requires : tie.Need-order-round-requires Inv-loop μ-loop
 order-round-requires c κs =
     let at-loop : tie.At-loop Inv-loop μ-loop = search in
     let the-start : tie.Start Inv-loop μ-loop = search in
     let s = the-start in
     let y = 16 * (at-loop .loop .r + 1) in (
-      ap length (at-loop .loop .inv .1) ∙ so-far-alike (s .args .n) (s .args .state .now) (s .pre .0) (s .pre .1) (s .pre .2) (s .args .round) (s .pre .5) y .size ∙ s .pre .0 .size,
+      ap length (at-loop .loop .inv .1)
+          ∙ so-far-alike (s .args .n) (s .args .state .now) (s .pre .0) (s .pre .1) (s .pre .2) (s .args .round) (s .pre .5) y .size
+          ∙ s .pre .0 .size,
       omega arith,
       omega arith,
       rw (at-loop .loop .inv .1) (so-far-room (s .args .n) (s .args .state .now) (s .pre .0) (s .pre .1) (s .pre .2) (s .args .round) (s .pre .5) y),
     )
-
-add-r : tie.Need-add-r Inv-loop μ-loop
-add-r c = search needs
-
-loop-less : tie.Need-loop-less Inv-loop μ-loop
-loop-less c = search needs
 
 loop-again : tie.Need-loop-again Inv-loop μ-loop
 loop-again c =
@@ -79,14 +63,17 @@ loop-again c =
     let mask = ap₂ (λ (x : List ℕ) (k : ℕ). getD x k 0) masks (after-wide .wide .ensures) in (
       omega arith,
       after-order-round .order-round .ensures
-          ∙ round-step (s .args .n) (s .args .state .now) (s .pre .0) (s .pre .1) (s .pre .2) (s .args .round) (s .pre .5) (at-loop .loop .r) _ _ (omega arith) (at-loop .loop .inv .1) mask,
+          ∙ round-step (s .args .n) (s .args .state .now) (s .pre .0) (s .pre .1) (s .pre .2) (s .args .round) (s .pre .5) (at-loop .loop .r) _ _
+          (omega arith) (at-loop .loop .inv .1) mask,
     )
 
 same-length : tie.Need-same-length Inv-loop μ-loop
 same-length c =
     let at-loop : tie.At-loop Inv-loop μ-loop = search in
     let the-start : tie.Start Inv-loop μ-loop = search in
-    let s = the-start in ap length (at-loop .loop .inv .1) ∙ so-far-alike (s .args .n) (s .args .state .now) (s .pre .0) (s .pre .1) (s .pre .2) (s .args .round) (s .pre .5) (16 * (at-loop .loop .r + 1)) .size
+    let s = the-start in ap length (at-loop .loop .inv .1)
+    ∙ so-far-alike (s .args .n) (s .args .state .now) (s .pre .0) (s .pre .1) (s .pre .2) (s .args .round) (s .pre .5)
+    (16 * (at-loop .loop .r + 1)) .size
 
 returns : tie.Need-returns Inv-loop μ-loop
 returns c =
@@ -94,7 +81,8 @@ returns c =
     let the-start : tie.Start Inv-loop μ-loop = search in
     let s = the-start in
     let e : at-loop .loop .r ≡ s .args .round = omega arith in
-    at-loop .loop .inv .1 ∙ ap (λ (x : ℕ). soFarIn (s .args .n) (s .args .state .now) (s .args .round) (16 * (x + 1))) e ∙ last-round (s .args .n) (s .args .state .now) (s .pre .0) (s .pre .1) (s .pre .2) (s .args .round) (s .pre .5) (omega arith)
+    at-loop .loop .inv .1 ∙ ap (λ (x : ℕ). soFarIn (s .args .n) (s .args .state .now) (s .args .round) (16 * (x + 1))) e
+    ∙ last-round (s .args .n) (s .args .state .now) (s .pre .0) (s .pre .1) (s .pre .2) (s .args .round) (s .pre .5) (omega arith)
 
 pub order-leader-spec : {M : Type 1} → statement M
 order-leader-spec =
@@ -105,13 +93,13 @@ order-leader-spec =
     leader-of-requires
     history-of-requires
     loop-holds
-    wide-requires
-    mul-order-round
-    array-read-order-round
-    add-order-round
+    (λ c κs. search needs)
+    (λ c. search needs)
+    (λ c. search needs)
+    (λ c. search needs)
     order-round-requires
-    add-r
-    loop-less
+    (λ c. search needs)
+    (λ c. search needs)
     loop-again
     same-length
     returns)

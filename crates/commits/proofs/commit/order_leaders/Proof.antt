@@ -26,9 +26,6 @@ loop-holds c =
     let start : tie.Start Inv-loop μ-loop = search in
     (omega arith, omega arith, ordering-start _ _ (start .pre .2) _ (start .pre .4) (start .pre .0) (start .pre .1) (start .pre .3))
 
-has-requires : tie.Need-has-requires Inv-loop μ-loop
-has-requires c κs = search needs
-
 order-leader-requires : tie.Need-order-leader-requires Inv-loop μ-loop
 order-leader-requires c κs =
     let then1 : tie.Then1 Inv-loop μ-loop = search in
@@ -45,12 +42,6 @@ order-leader-requires c κs =
       ordering-held _ _ (start .pre .2) _ (start .pre .4) _ _ o (in-loop .loop-test .taken) (sym (after-has .has .ensures) ∙ then1 .if1 .taken),
     )
 
-add-r : tie.Need-add-r Inv-loop μ-loop
-add-r c = search needs
-
-loop-less : tie.Need-loop-less Inv-loop μ-loop
-loop-less c = search needs
-
 loop-again : tie.Need-loop-again Inv-loop μ-loop
 loop-again c =
     let after-has : tie.After-has Inv-loop μ-loop = search in
@@ -60,7 +51,8 @@ loop-again c =
       omega arith,
       omega arith,
       ⊎-elim
-          (λ v. ordering-in _ _ (start .pre .2) _ (start .pre .4) _ _ _ (at-loop .loop .inv .2) (in-loop .loop-test .taken) (sym (after-has .has .ensures) ∙ v .0 .taken) (v .5 ∙ v .2 .ensures))
+          (λ v. ordering-in _ _ (start .pre .2) _ (start .pre .4) _ _ _ (at-loop .loop .inv .2) (in-loop .loop-test .taken)
+          (sym (after-has .has .ensures) ∙ v .0 .taken) (v .5 ∙ v .2 .ensures))
           (λ v. ordering-out _ _ (start .pre .2) _ (start .pre .4) _ _ _ (at-loop .loop .inv .2) (sym (after-has .has .ensures) ∙ v .0 .left) (v .1))
           (c .if1 .came),
     )
@@ -75,7 +67,8 @@ returns c =
     let at-loop : tie.At-loop Inv-loop μ-loop = search in
     let start : tie.Start Inv-loop μ-loop = search in
     let e : at-loop .loop .r ≡ 32 = omega arith in
-    at-loop .loop .inv .2 .is ∙ ap (λ (x : ℕ). orderLeaders (vertices (start .args .state .now)) (start .args .state .now) (select x (has (start .args .taken)))) e
+    at-loop .loop .inv .2 .is
+    ∙ ap (λ (x : ℕ). orderLeaders (vertices (start .args .state .now)) (start .args .state .now) (select x (has (start .args .taken)))) e
 
 pub order-leaders-spec : {M : Type 1} → statement M
 order-leaders-spec =
@@ -84,10 +77,10 @@ order-leaders-spec =
     Inv-loop
     μ-loop
     loop-holds
-    has-requires
+    (λ c κs. search needs)
     order-leader-requires
-    add-r
-    loop-less
+    (λ c. search needs)
+    (λ c. search needs)
     loop-again
     same-length
     returns)

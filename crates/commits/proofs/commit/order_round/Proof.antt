@@ -17,12 +17,6 @@ Inv-loop state₀ n mask round p₀ state p = (p ≤ 16) × (state ≡ orderRoun
 abbrev μ-loop : tie.MeasureT-loop
 μ-loop state₀ n mask round p₀ state p = 16 - p
 
-ordered-mask-requires : tie.Need-ordered-mask-requires Inv-loop μ-loop
-ordered-mask-requires c κs = search needs
-
-same-length : tie.Need-same-length Inv-loop μ-loop
-same-length c = search needs
-
 returns : tie.Need-returns Inv-loop μ-loop
 returns c =
     let after-ordered-mask : tie.After-ordered-mask Inv-loop μ-loop = search in
@@ -32,28 +26,17 @@ returns c =
 loop-holds : tie.Need-loop-holds Inv-loop μ-loop
 loop-holds c = (omega arith, round-none _ _ _)
 
-mul-order-id : tie.Need-mul-order-id Inv-loop μ-loop
-mul-order-id c = search needs
-
-add-order-id : tie.Need-add-order-id Inv-loop μ-loop
-add-order-id c = search needs
-
 order-id-requires : tie.Need-order-id-requires Inv-loop μ-loop
 order-id-requires c κs =
     let at-loop : tie.At-loop Inv-loop μ-loop = search in
     let start : tie.Start Inv-loop μ-loop = search in
-    let k = round-keeps (start .args .state .now) (start .args .mask) (start .args .round) (at-loop .loop .p) (start .pre .1) (start .pre .2) (at-loop .loop .inv .0) (start .pre .0, start .pre .3) in (
+    let k = round-keeps (start .args .state .now) (start .args .mask) (start .args .round) (at-loop .loop .p) (start .pre .1) (start .pre .2)
+    (at-loop .loop .inv .0) (start .pre .0, start .pre .3) in (
       ap length (at-loop .loop .inv .1) ∙ k .0,
       omega arith,
       omega arith,
       rw (at-loop .loop .inv .1) (k .1),
     )
-
-add-p : tie.Need-add-p Inv-loop μ-loop
-add-p c = search needs
-
-loop-less : tie.Need-loop-less Inv-loop μ-loop
-loop-less c = search needs
 
 loop-again : tie.Need-loop-again Inv-loop μ-loop
 loop-again c =
@@ -61,14 +44,18 @@ loop-again c =
     let at-loop : tie.At-loop Inv-loop μ-loop = search in
     let start : tie.Start Inv-loop μ-loop = search in (
       omega arith,
-      after-order-id .order-id .ensures ∙ ap (λ (x : List ℕ). orderId x (start .args .mask) (16 * start .args .round + at-loop .loop .p)) (at-loop .loop .inv .1) ∙ round-more _ _ _ _,
+      after-order-id .order-id .ensures
+          ∙ ap (λ (x : List ℕ). orderId x (start .args .mask) (16 * start .args .round + at-loop .loop .p)) (at-loop .loop .inv .1)
+          ∙ round-more _ _ _ _,
     )
 
 same-length-2 : tie.Need-same-length-2 Inv-loop μ-loop
 same-length-2 c =
     let at-loop : tie.At-loop Inv-loop μ-loop = search in
     let start : tie.Start Inv-loop μ-loop = search in
-    ap length (at-loop .loop .inv .1) ∙ round-keeps (start .args .state .now) (start .args .mask) (start .args .round) (at-loop .loop .p) (start .pre .1) (start .pre .2) (at-loop .loop .inv .0) (start .pre .0, start .pre .3) .0 ∙ sym (start .pre .0)
+    ap length (at-loop .loop .inv .1)
+    ∙ round-keeps (start .args .state .now) (start .args .mask) (start .args .round) (at-loop .loop .p) (start .pre .1) (start .pre .2)
+    (at-loop .loop .inv .0) (start .pre .0, start .pre .3) .0 ∙ sym (start .pre .0)
 
 returns-2 : tie.Need-returns-2 Inv-loop μ-loop
 returns-2 c =
@@ -82,15 +69,15 @@ order-round-spec =
     (tie.spec
     Inv-loop
     μ-loop
-    ordered-mask-requires
-    same-length
+    (λ c κs. search needs)
+    (λ c. search needs)
     returns
     loop-holds
-    mul-order-id
-    add-order-id
+    (λ c. search needs)
+    (λ c. search needs)
     order-id-requires
-    add-p
-    loop-less
+    (λ c. search needs)
+    (λ c. search needs)
     loop-again
     same-length-2
     returns-2)

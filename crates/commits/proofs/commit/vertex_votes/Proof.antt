@@ -31,19 +31,10 @@ abbrev μ-loop : tie.MeasureT-loop
 loop-holds : tie.Need-loop-holds Inv-loop μ-loop
 loop-holds c = (omega arith, sym (count-none _))
 
-add-cell-at : tie.Need-add-cell-at Inv-loop μ-loop
-add-cell-at c = search needs
-
 cell-at-requires : tie.Need-cell-at-requires Inv-loop μ-loop
 cell-at-requires c κs =
     let start : tie.Start Inv-loop μ-loop = search in
     (omega arith, omega arith, omega (arith, start .pre .0 .high))
-
-mul-t11 : tie.Need-mul-t11 Inv-loop μ-loop
-mul-t11 c = search needs
-
-shared-slice-read-t10 : tie.Need-shared-slice-read-t10 Inv-loop μ-loop
-shared-slice-read-t10 c = search needs
 
 has-requires : tie.Need-has-requires Inv-loop μ-loop
 has-requires c κs =
@@ -54,13 +45,12 @@ add-count : tie.Need-add-count Inv-loop μ-loop
 add-count c =
     let at-loop : tie.At-loop Inv-loop μ-loop = search in
     let start : tie.Start Inv-loop μ-loop = search in
-    omega (arith, at-loop .loop .inv .1, count-le (at-loop .loop .p) (λ m. votes (start .args .n) (start .args .q) (vertices (start .args .state .now) (suc (start .args .q)) m)), start .pre .0 .high)
-
-add-p : tie.Need-add-p Inv-loop μ-loop
-add-p c = search needs
-
-loop-less : tie.Need-loop-less Inv-loop μ-loop
-loop-less c = search needs
+    omega (
+      arith,
+      at-loop .loop .inv .1,
+      count-le (at-loop .loop .p) (λ m. votes (start .args .n) (start .args .q) (vertices (start .args .state .now) (suc (start .args .q)) m)),
+      start .pre .0 .high,
+    )
 
 loop-again : tie.Need-loop-again Inv-loop μ-loop
 loop-again c =
@@ -70,7 +60,8 @@ loop-again c =
     let start : tie.Start Inv-loop μ-loop = search in
     let t : ℕ → Bool = λ m. votes (start .args .n) (start .args .q) (vertices (start .args .state .now) (suc (start .args .q)) m) in
     let e = sym (rw (start .pre .3) at (after-has .has .ensures)) in
-    let d = vertex-vote _ (start .pre .0) (start .args .n) (start .args .q) (at-loop .loop .p) (after-cell-at .cell-at .result) (start .pre .2) (omega (arith, start .pre .0 .high)) (after-cell-at .cell-at .ensures) in (
+    let d = vertex-vote _ (start .pre .0) (start .args .n) (start .args .q) (at-loop .loop .p) (after-cell-at .cell-at .result) (start .pre .2)
+    (omega (arith, start .pre .0 .high)) (after-cell-at .cell-at .ensures) in (
       omega arith,
       ⊎-elim
           (λ v. v .1 ∙ ap (λ (x : ℕ). x + 1) (at-loop .loop .inv .1) ∙ sym (count-more (at-loop .loop .p) t (sym d ∙ (e ∙ v .0 .taken))))
@@ -91,13 +82,13 @@ vertex-votes-spec =
     Inv-loop
     μ-loop
     loop-holds
-    add-cell-at
+    (λ c. search needs)
     cell-at-requires
-    mul-t11
-    shared-slice-read-t10
+    (λ c. search needs)
+    (λ c. search needs)
     has-requires
     add-count
-    add-p
-    loop-less
+    (λ c. search needs)
+    (λ c. search needs)
     loop-again
     returns)

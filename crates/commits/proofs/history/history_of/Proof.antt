@@ -21,46 +21,10 @@ Inv-loop state n round member masks₀ at k₀ masks k = (k ≤ 31) × (historyM
 abbrev μ-loop : tie.MeasureT-loop
 μ-loop state n round member masks₀ at k₀ masks k = k
 
-sub-wide : tie.Need-sub-wide Inv-loop μ-loop
-sub-wide c = search needs
-
-wide-requires : tie.Need-wide-requires Inv-loop μ-loop
-wide-requires c κs = search needs
-
-mul-masks : tie.Need-mul-masks Inv-loop μ-loop
-mul-masks c = search needs
-
-array-read-masks : tie.Need-array-read-masks Inv-loop μ-loop
-array-read-masks c = search needs
-
-power-requires : tie.Need-power-requires Inv-loop μ-loop
-power-requires c κs = search needs
-
-mul-masks-2 : tie.Need-mul-masks-2 Inv-loop μ-loop
-mul-masks-2 c = search needs
-
-array-write-masks : tie.Need-array-write-masks Inv-loop μ-loop
-array-write-masks c = search needs
-
-sub-k : tie.Need-sub-k Inv-loop μ-loop
-sub-k c = search needs
-
 loop-holds : tie.Need-loop-holds Inv-loop μ-loop
 loop-holds c =
     let after-wide : tie.After-wide Inv-loop μ-loop = search in
     (omega arith, history-start _ _ _ _ _ _ (after-wide .wide .ensures ∙ omega arith) (c .power .ensures))
-
-add-join-round : tie.Need-add-join-round Inv-loop μ-loop
-add-join-round c = search needs
-
-join-round-requires : tie.Need-join-round-requires Inv-loop μ-loop
-join-round-requires c κs = search needs
-
-sub-k-2 : tie.Need-sub-k-2 Inv-loop μ-loop
-sub-k-2 c = search needs
-
-loop-less : tie.Need-loop-less Inv-loop μ-loop
-loop-less c = search needs
 
 loop-again : tie.Need-loop-again Inv-loop μ-loop
 loop-again c =
@@ -85,18 +49,18 @@ history-of-spec =
     (tie.spec
     Inv-loop
     μ-loop
-    sub-wide
-    wide-requires
-    mul-masks
-    array-read-masks
-    power-requires
-    mul-masks-2
-    array-write-masks
-    sub-k
+    (λ c. search needs)
+    (λ c κs. search needs)
+    (λ c. search needs)
+    (λ c. search needs)
+    (λ c κs. search needs)
+    (λ c. search needs)
+    (λ c. search needs)
+    (λ c. search needs)
     loop-holds
-    add-join-round
-    join-round-requires
-    sub-k-2
-    loop-less
+    (λ c. search needs)
+    (λ c κs. search needs)
+    (λ c. search needs)
+    (λ c. search needs)
     loop-again
     returns)

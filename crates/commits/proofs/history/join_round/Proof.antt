@@ -26,20 +26,8 @@ Inv-loop state n masks₀ round at p₀ masks p = (p ≤ n) × (masks ≡ joinRo
 abbrev μ-loop : tie.MeasureT-loop
 μ-loop state n masks₀ round at p₀ masks p = n - p
 
-sub-wide : tie.Need-sub-wide Inv-loop μ-loop
-sub-wide c = search needs
-
-wide-requires : tie.Need-wide-requires Inv-loop μ-loop
-wide-requires c κs = search needs
-
 loop-holds : tie.Need-loop-holds Inv-loop μ-loop
 loop-holds c = (omega arith, join-round-none _ _ _)
-
-mul-t10 : tie.Need-mul-t10 Inv-loop μ-loop
-mul-t10 c = search needs
-
-element-copy-out-t13 : tie.Need-element-copy-out-t13 Inv-loop μ-loop
-element-copy-out-t13 c = search needs
 
 has-requires : tie.Need-has-requires Inv-loop μ-loop
 has-requires c κs =
@@ -51,12 +39,6 @@ join-parents-requires c κs =
     let start : tie.Start Inv-loop μ-loop = search in
     (start .pre .0, search needs, search needs, omega (arith, start .pre .0 .high))
 
-add-p : tie.Need-add-p Inv-loop μ-loop
-add-p c = search needs
-
-loop-less : tie.Need-loop-less Inv-loop μ-loop
-loop-less c = search needs
-
 loop-again : tie.Need-loop-again Inv-loop μ-loop
 loop-again c =
     let after-has : tie.After-has Inv-loop μ-loop = search in
@@ -64,7 +46,8 @@ loop-again c =
     let after-wide : tie.After-wide Inv-loop μ-loop = search in
     let start : tie.Start Inv-loop μ-loop = search in
     let v = vertices (start .args .state .now) in
-    let e = sym (after-has .has .ensures ∙ ap₂ (λ (h : List ℕ) (k : ℕ). has (getD h k 0) (at-loop .loop .p)) (at-loop .loop .inv .1) (after-wide .wide .ensures)) in (
+    let e = sym (after-has .has .ensures
+    ∙ ap₂ (λ (h : List ℕ) (k : ℕ). has (getD h k 0) (at-loop .loop .p)) (at-loop .loop .inv .1) (after-wide .wide .ensures)) in (
       omega arith,
       ⊎-elim
           (λ t. t .3 ∙ t .2 .ensures ∙ ap (λ (h : List ℕ). joinParents v h (start .args .round) (at-loop .loop .p)) (at-loop .loop .inv .1)
@@ -85,14 +68,14 @@ join-round-spec =
     (tie.spec
     Inv-loop
     μ-loop
-    sub-wide
-    wide-requires
+    (λ c. search needs)
+    (λ c κs. search needs)
     loop-holds
-    mul-t10
-    element-copy-out-t13
+    (λ c. search needs)
+    (λ c. search needs)
     has-requires
     join-parents-requires
-    add-p
-    loop-less
+    (λ c. search needs)
+    (λ c. search needs)
     loop-again
     returns)

@@ -23,25 +23,11 @@ use Rattle.replica.proofs.layout.cell_at.Reads as cell-at-reads
 use Rattle.replica.proofs.layout.wide.Reads as wide-reads
 
 abbrev Inv-loop : tie.InvT-loop
-Inv-loop state masks₀ round member at count i₀ masks i = (i ≤ count) × (count ≡ weakCountOf (vertices state round member)) × (count ≤ 5) × (masks ≡ joinWeak masks₀ (vertices state round member) i)
+Inv-loop state masks₀ round member at count i₀ masks i = (i ≤ count) × (count ≡ weakCountOf (vertices state round member)) × (count ≤ 5)
+    × (masks ≡ joinWeak masks₀ (vertices state round member) i)
 
 abbrev μ-loop : tie.MeasureT-loop
 μ-loop state masks₀ round member at count i₀ masks i = count - i
-
-cell-at-requires : tie.Need-cell-at-requires Inv-loop μ-loop
-cell-at-requires c κs = search needs
-
-add-wide : tie.Need-add-wide Inv-loop μ-loop
-add-wide c = search needs
-
-mul-wide : tie.Need-mul-wide Inv-loop μ-loop
-mul-wide c = search needs
-
-shared-slice-read-wide : tie.Need-shared-slice-read-wide Inv-loop μ-loop
-shared-slice-read-wide c = search needs
-
-wide-requires : tie.Need-wide-requires Inv-loop μ-loop
-wide-requires c κs = search needs
 
 loop-holds : tie.Need-loop-holds Inv-loop μ-loop
 loop-holds c =
@@ -50,15 +36,6 @@ loop-holds c =
     let e = c .wide .ensures ∙ ap (λ (x : ℕ). getD (start .args .state .now) (x + 4) 0) (after-cell-at .cell-at .ensures)
     ∙ sym (weak-count-word _ (start .pre .0) _ _ (start .pre .1) (start .pre .2) (start .pre .3)) in
     (omega arith, e, omega (arith, e, weak-few _ (start .pre .0) (start .args .round) (start .args .member)), join-weak-none _ _)
-
-add-join-id : tie.Need-add-join-id Inv-loop μ-loop
-add-join-id c = search needs
-
-add-join-id-2 : tie.Need-add-join-id-2 Inv-loop μ-loop
-add-join-id-2 c = search needs
-
-mul-join-id : tie.Need-mul-join-id Inv-loop μ-loop
-mul-join-id c = search needs
 
 shared-slice-read-join-id : tie.Need-shared-slice-read-join-id Inv-loop μ-loop
 shared-slice-read-join-id c =
@@ -75,12 +52,6 @@ join-id-requires c κs =
     let e = ap (λ (x : ℕ). getD (start .args .state .now) (x + (5 + at-loop .loop .i)) 0) (after-cell-at .cell-at .ensures)
     ∙ sym (weak-word _ (start .pre .0) _ _ (start .pre .1) (start .pre .2) (start .pre .3) (at-loop .loop .i) (w .0)) in
     (omega (arith, e, w .1), omega (arith, e, w .2))
-
-add-i : tie.Need-add-i Inv-loop μ-loop
-add-i c = search needs
-
-loop-less : tie.Need-loop-less Inv-loop μ-loop
-loop-less c = search needs
 
 loop-again : tie.Need-loop-again Inv-loop μ-loop
 loop-again c =
@@ -100,7 +71,10 @@ returns : tie.Need-returns Inv-loop μ-loop
 returns c =
     let at-loop : tie.At-loop Inv-loop μ-loop = search in
     let start : tie.Start Inv-loop μ-loop = search in
-    let e : at-loop .loop .i ≡ weakCountOf (vertices (start .args .state .now) (start .args .round) (start .args .member)) = omega (arith, at-loop .loop .inv .1) in rw e at (at-loop .loop .inv .3)
+    let e : at-loop .loop .i ≡ weakCountOf (vertices (start .args .state .now) (start .args .round) (start .args .member)) = omega (
+      arith,
+      at-loop .loop .inv .1,
+    ) in rw e at (at-loop .loop .inv .3)
 
 pub join-weak-spec : {M : Type 1} → statement M
 join-weak-spec =
@@ -108,18 +82,18 @@ join-weak-spec =
     (tie.spec
     Inv-loop
     μ-loop
-    cell-at-requires
-    add-wide
-    mul-wide
-    shared-slice-read-wide
-    wide-requires
+    (λ c κs. search needs)
+    (λ c. search needs)
+    (λ c. search needs)
+    (λ c. search needs)
+    (λ c κs. search needs)
     loop-holds
-    add-join-id
-    add-join-id-2
-    mul-join-id
+    (λ c. search needs)
+    (λ c. search needs)
+    (λ c. search needs)
     shared-slice-read-join-id
     join-id-requires
-    add-i
-    loop-less
+    (λ c. search needs)
+    (λ c. search needs)
     loop-again
     returns)

@@ -19,21 +19,14 @@ abbrev μ-loop : tie.MeasureT-loop
 loop-holds : tie.Need-loop-holds Inv-loop μ-loop
 loop-holds c = (omega arith, refl)
 
-is-passable-requires : tie.Need-is-passable-requires Inv-loop μ-loop
-is-passable-requires c κs = search needs
-
 returns : tie.Need-returns Inv-loop μ-loop
 returns c =
     let after-is-passable : tie.After-is-passable Inv-loop μ-loop = search in
     let in-loop : tie.In-loop Inv-loop μ-loop = search in
-    let at-loop : tie.At-loop Inv-loop μ-loop = search in
-    (sym (at-loop .loop .inv .1 ∙ highest-here _ _ (in-loop .loop-test .taken) (sym (after-is-passable .is-passable .ensures) ∙ c .if1 .taken)), at-loop .loop .inv .0)
-
-sub-round : tie.Need-sub-round Inv-loop μ-loop
-sub-round c = search needs
-
-loop-less : tie.Need-loop-less Inv-loop μ-loop
-loop-less c = search needs
+    let at-loop : tie.At-loop Inv-loop μ-loop = search in (
+      sym (at-loop .loop .inv .1 ∙ highest-here _ _ (in-loop .loop-test .taken) (sym (after-is-passable .is-passable .ensures) ∙ c .if1 .taken)),
+      at-loop .loop .inv .0,
+    )
 
 loop-again : tie.Need-loop-again Inv-loop μ-loop
 loop-again c =
@@ -56,9 +49,9 @@ highest-passable-spec =
     Inv-loop
     μ-loop
     loop-holds
-    is-passable-requires
+    (λ c κs. search needs)
     returns
-    sub-round
-    loop-less
+    (λ c. search needs)
+    (λ c. search needs)
     loop-again
     returns-2)

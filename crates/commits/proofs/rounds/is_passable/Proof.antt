@@ -14,21 +14,12 @@ use Rattle.record.proofs.members.leader_of.Reads as leader-of-reads
 use Rattle.replica.proofs.layout.held_mask.Reads as held-mask-reads
 use Rattle.replica.proofs.layout.timeouts_mask.Reads as timeouts-mask-reads
 
-held-mask-requires : tie.Need-held-mask-requires
-held-mask-requires c κs = search needs
-
-meets-quorum-requires : tie.Need-meets-quorum-requires
-meets-quorum-requires c κs = search needs
-
 returns : tie.Need-returns
 returns c =
     let after-meets-quorum : tie.After-meets-quorum = search in
     let after-held-mask : tie.After-held-mask = search in
     let start : tie.Start = search in
     passable-few _ _ _ (start .pre .1) (failed (rw (after-held-mask .held-mask .ensures) at (after-meets-quorum .meets-quorum .ensures)) (c .if1 .taken))
-
-leader-of-requires : tie.Need-leader-of-requires
-leader-of-requires c κs = search needs
 
 has-requires : tie.Need-has-requires
 has-requires c κs =
@@ -45,12 +36,6 @@ returns-2 c =
     let start : tie.Start = search in
     passable-led _ _ _ (start .pre .1) (passed (rw (after-held-mask .held-mask .ensures) at (after-meets-quorum .meets-quorum .ensures)) (else1 .if1 .left))
     (sym (rw (after-held-mask .held-mask .ensures, after-leader-of .leader-of .ensures) at (after-has .has .ensures)) ∙ c .if2 .taken)
-
-timeouts-mask-requires : tie.Need-timeouts-mask-requires
-timeouts-mask-requires c κs = search needs
-
-meets-quorum-requires-2 : tie.Need-meets-quorum-requires-2
-meets-quorum-requires-2 c κs = search needs
 
 returns-3 : tie.Need-returns-3
 returns-3 c =
@@ -70,12 +55,12 @@ pub is-passable-spec : {M : Type 1} → statement M
 is-passable-spec =
     tie.close
     (tie.spec
-    held-mask-requires
-    meets-quorum-requires
+    (λ c κs. search needs)
+    (λ c κs. search needs)
     returns
-    leader-of-requires
+    (λ c κs. search needs)
     has-requires
     returns-2
-    timeouts-mask-requires
-    meets-quorum-requires-2
+    (λ c κs. search needs)
+    (λ c κs. search needs)
     returns-3)

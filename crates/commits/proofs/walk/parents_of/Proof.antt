@@ -37,20 +37,11 @@ cell-at-requires c κs =
     let start : tie.Start Inv-loop μ-loop = search in
     (search needs, search needs, omega (arith, start .pre .0 .high))
 
-mul-joined : tie.Need-mul-joined Inv-loop μ-loop
-mul-joined c = search needs
-
 shared-slice-read-joined : tie.Need-shared-slice-read-joined Inv-loop μ-loop
 shared-slice-read-joined c =
     let after-cell-at : tie.After-cell-at Inv-loop μ-loop = search in
     let start : tie.Start Inv-loop μ-loop = search in
     omega (arith, after-cell-at .cell-at .ensures, start .pre .0 .high, start .pre .0 .size)
-
-add-p : tie.Need-add-p Inv-loop μ-loop
-add-p c = search needs
-
-loop-less : tie.Need-loop-less Inv-loop μ-loop
-loop-less c = search needs
 
 loop-again : tie.Need-loop-again Inv-loop μ-loop
 loop-again c =
@@ -62,8 +53,11 @@ loop-again c =
       ⊎-elim
           (λ v. v .3 ∙ ap₂ bitOr inv (ap (λ (x : ℕ). getD (start .args .state .now) x 0) (v .1 .ensures)
           ∙ sym (strong-word _ (start .pre .0) (start .args .round) (at-loop .loop .p) (start .pre .2) (start .pre .3) (omega (arith, start .pre .0 .high))))
-          ∙ sym (parents-in (vertices (start .args .state .now)) (start .args .round) (start .args .mask) (at-loop .loop .p) (sym (after-has .has .ensures) ∙ v .0 .taken)))
-          (λ v. v .1 ∙ inv ∙ sym (parents-out (vertices (start .args .state .now)) (start .args .round) (start .args .mask) (at-loop .loop .p) (sym (after-has .has .ensures) ∙ v .0 .left)))
+          ∙ sym (parents-in (vertices (start .args .state .now)) (start .args .round) (start .args .mask) (at-loop .loop .p)
+          (sym (after-has .has .ensures) ∙ v .0 .taken)))
+          (λ v. v .1 ∙ inv
+          ∙ sym (parents-out (vertices (start .args .state .now)) (start .args .round) (start .args .mask) (at-loop .loop .p)
+          (sym (after-has .has .ensures) ∙ v .0 .left)))
           (c .if1 .came),
     )
 
@@ -82,9 +76,9 @@ parents-of-spec =
     loop-holds
     has-requires
     cell-at-requires
-    mul-joined
+    (λ c. search needs)
     shared-slice-read-joined
-    add-p
-    loop-less
+    (λ c. search needs)
+    (λ c. search needs)
     loop-again
     returns)

@@ -26,19 +26,10 @@ Inv-loop state n low q taken₀ reached₀ t₀ taken reached t = (t < q) × Wal
 abbrev μ-loop : tie.MeasureT-loop
 μ-loop state n low q taken₀ reached₀ t₀ taken reached t = t
 
-power-requires : tie.Need-power-requires Inv-loop μ-loop
-power-requires c κs = search needs
-
-leader-of-requires : tie.Need-leader-of-requires Inv-loop μ-loop
-leader-of-requires c κs = search needs
-
 power-requires-2 : tie.Need-power-requires-2 Inv-loop μ-loop
 power-requires-2 c κs =
     let the-start : tie.Start Inv-loop μ-loop = search in
     omega (arith, c .leader-of .ensures, leader-small (the-start .args .n) (the-start .args .q) (omega arith))
-
-sub-t : tie.Need-sub-t Inv-loop μ-loop
-sub-t c = search needs
 
 loop-holds : tie.Need-loop-holds Inv-loop μ-loop
 loop-holds c =
@@ -47,17 +38,10 @@ loop-holds c =
     let the-start : tie.Start Inv-loop μ-loop = search in (
       omega arith,
       rw (after-power .power .ensures, c .power2 .ensures, after-leader-of .leader-of .ensures)
-          (start (the-start .args .n) (omega (arith, the-start .pre .0 .low)) (vertices (the-start .args .state .now)) (rw (the-start .pre .1) (the-start .pre .0 .formed)) (the-start .args .low) (the-start .args .q) (the-start .pre .3) (the-start .pre .2) (the-start .pre .4)),
+          (start (the-start .args .n) (omega (arith, the-start .pre .0 .low)) (vertices (the-start .args .state .now))
+          (rw (the-start .pre .1) (the-start .pre .0 .formed)) (the-start .args .low) (the-start .args .q) (the-start .pre .3) (the-start .pre .2)
+          (the-start .pre .4)),
     )
-
-add-parents-of : tie.Need-add-parents-of Inv-loop μ-loop
-add-parents-of c = search needs
-
-parents-of-requires : tie.Need-parents-of-requires Inv-loop μ-loop
-parents-of-requires c κs = search needs
-
-leader-of-requires-2 : tie.Need-leader-of-requires-2 Inv-loop μ-loop
-leader-of-requires-2 c κs = search needs
 
 has-requires : tie.Need-has-requires Inv-loop μ-loop
 has-requires c κs =
@@ -65,21 +49,12 @@ has-requires c κs =
     let the-start : tie.Start Inv-loop μ-loop = search in
     omega (arith, c .leader-of2 .ensures, leader-small (the-start .args .n) (at-loop .loop .t) (omega arith))
 
-power-requires-3 : tie.Need-power-requires-3 Inv-loop μ-loop
-power-requires-3 c κs = search needs
-
 power-requires-4 : tie.Need-power-requires-4 Inv-loop μ-loop
 power-requires-4 c κs =
     let after-leader-of2 : tie.After-leader-of2 Inv-loop μ-loop = search in
     let at-loop : tie.At-loop Inv-loop μ-loop = search in
     let the-start : tie.Start Inv-loop μ-loop = search in
     omega (arith, after-leader-of2 .leader-of2 .ensures, leader-small (the-start .args .n) (at-loop .loop .t) (omega arith))
-
-sub-t-2 : tie.Need-sub-t-2 Inv-loop μ-loop
-sub-t-2 c = search needs
-
-loop-less : tie.Need-loop-less Inv-loop μ-loop
-loop-less c = search needs
 
 loop-again : tie.Need-loop-again Inv-loop μ-loop
 loop-again c =
@@ -93,12 +68,17 @@ loop-again c =
     let h = sym (rw (after-leader-of2 .leader-of2 .ensures) at (after-has .has .ensures)) in (
       omega arith,
       ⊎-elim
-          (λ b. walked-as _ v _ _ _ _ _ _ _ (b .3 ∙ ap (bitOr (at-loop .loop .taken)) (b .1 .ensures)) (b .4 ∙ b .2 .ensures ∙ ap (λ (x : ℕ). 2 ^ x) (after-leader-of2 .leader-of2 .ensures))
-          (take-leader (the-start .args .n) (omega (arith, the-start .pre .0 .low)) v (rw (the-start .pre .1) (the-start .pre .0 .formed)) (the-start .args .low) (the-start .args .q) (the-start .pre .3)
-          (at-loop .loop .t) (at-loop .loop .taken) (at-loop .loop .reached) (after-parents-of .parents-of .result) (in-loop .loop-test .taken) (at-loop .loop .inv .1) (after-parents-of .parents-of .ensures) (h ∙ b .0 .taken)))
+          (λ b. walked-as _ v _ _ _ _ _ _ _ (b .3 ∙ ap (bitOr (at-loop .loop .taken)) (b .1 .ensures))
+          (b .4 ∙ b .2 .ensures ∙ ap (λ (x : ℕ). 2 ^ x) (after-leader-of2 .leader-of2 .ensures))
+          (take-leader (the-start .args .n) (omega (arith, the-start .pre .0 .low)) v (rw (the-start .pre .1) (the-start .pre .0 .formed))
+          (the-start .args .low) (the-start .args .q) (the-start .pre .3)
+          (at-loop .loop .t) (at-loop .loop .taken) (at-loop .loop .reached) (after-parents-of .parents-of .result) (in-loop .loop-test .taken)
+          (at-loop .loop .inv .1) (after-parents-of .parents-of .ensures) (h ∙ b .0 .taken)))
           (λ b. walked-as _ v _ _ _ _ _ _ _ (b .1) (b .2)
-          (pass-leader (the-start .args .n) (omega (arith, the-start .pre .0 .low)) v (rw (the-start .pre .1) (the-start .pre .0 .formed)) (the-start .args .low) (the-start .args .q) (the-start .pre .3)
-          (at-loop .loop .t) (at-loop .loop .taken) (at-loop .loop .reached) (after-parents-of .parents-of .result) (in-loop .loop-test .taken) (at-loop .loop .inv .1) (after-parents-of .parents-of .ensures) (h ∙ b .0 .left)))
+          (pass-leader (the-start .args .n) (omega (arith, the-start .pre .0 .low)) v (rw (the-start .pre .1) (the-start .pre .0 .formed))
+          (the-start .args .low) (the-start .args .q) (the-start .pre .3)
+          (at-loop .loop .t) (at-loop .loop .taken) (at-loop .loop .reached) (after-parents-of .parents-of .result) (in-loop .loop-test .taken)
+          (at-loop .loop .inv .1) (after-parents-of .parents-of .ensures) (h ∙ b .0 .left)))
           (c .if1 .came),
     )
 
@@ -106,7 +86,8 @@ returns : tie.Need-returns Inv-loop μ-loop
 returns c =
     let at-loop : tie.At-loop Inv-loop μ-loop = search in
     let the-start : tie.Start Inv-loop μ-loop = search in
-    finish (the-start .args .n) (omega (arith, the-start .pre .0 .low)) (vertices (the-start .args .state .now)) (rw (the-start .pre .1) (the-start .pre .0 .formed)) (the-start .args .low) (the-start .args .q) (the-start .pre .3)
+    finish (the-start .args .n) (omega (arith, the-start .pre .0 .low)) (vertices (the-start .args .state .now))
+    (rw (the-start .pre .1) (the-start .pre .0 .formed)) (the-start .args .low) (the-start .args .q) (the-start .pre .3)
     (at-loop .loop .t) (at-loop .loop .taken) (at-loop .loop .reached) (omega arith) (at-loop .loop .inv .1)
 
 pub taken-rounds-spec : {M : Type 1} → statement M
@@ -115,18 +96,18 @@ taken-rounds-spec =
     (tie.spec
     Inv-loop
     μ-loop
-    power-requires
-    leader-of-requires
+    (λ c κs. search needs)
+    (λ c κs. search needs)
     power-requires-2
-    sub-t
+    (λ c. search needs)
     loop-holds
-    add-parents-of
-    parents-of-requires
-    leader-of-requires-2
+    (λ c. search needs)
+    (λ c κs. search needs)
+    (λ c κs. search needs)
     has-requires
-    power-requires-3
+    (λ c κs. search needs)
     power-requires-4
-    sub-t-2
-    loop-less
+    (λ c. search needs)
+    (λ c. search needs)
     loop-again
     returns)

@@ -22,12 +22,6 @@ use Rattle.record.proofs.refusal.number.Reads as number-reads
 use Rattle.replica.proofs.layout.masks_at.Reads as masks-at-reads
 use Rattle.replica.proofs.lists.check_state.Reads as check-state-reads
 
-check-state-requires : tie.Need-check-state-requires
-check-state-requires c κs = search needs
-
-number-requires : tie.Need-number-requires
-number-requires c κs = search needs
-
 returns : tie.Need-returns
 returns c =
     let after-number : tie.After-number = search in
@@ -41,7 +35,11 @@ shared-slice-read-n c =
     let after-number : tie.After-number = search in
     let after-check-state : tie.After-check-state = search in
     let start : tie.Start = search in
-    omega (arith, state-ok (start .args .state .now) (sym (ap numberOf (after-check-state .check-state .ensures)) ∙ (sym (after-number .number .ensures) ∙ else1 .if1 .left)) .0)
+    omega (
+      arith,
+      state-ok (start .args .state .now) (sym (ap numberOf (after-check-state .check-state .ensures))
+          ∙ (sym (after-number .number .ensures) ∙ else1 .if1 .left)) .0,
+    )
 
 returns-2 : tie.Need-returns-2
 returns-2 c =
@@ -49,7 +47,8 @@ returns-2 c =
     let after-number : tie.After-number = search in
     let after-check-state : tie.After-check-state = search in
     let start : tie.Start = search in
-    note-round (start .args .state .now) _ _ _ _ (after-check-state .check-state .ensures) (sym (after-number .number .ensures) ∙ else1 .if1 .left) (round-below _ (c .if2 .taken))
+    note-round (start .args .state .now) _ _ _ _ (after-check-state .check-state .ensures) (sym (after-number .number .ensures) ∙ else1 .if1 .left)
+    (round-below _ (c .if2 .taken))
 
 returns-3 : tie.Need-returns-3
 returns-3 c =
@@ -57,7 +56,8 @@ returns-3 c =
     let after-number : tie.After-number = search in
     let after-check-state : tie.After-check-state = search in
     let start : tie.Start = search in
-    note-round (start .args .state .now) _ _ _ _ (after-check-state .check-state .ensures) (sym (after-number .number .ensures) ∙ else1 .if1 .left) (round-above _ (c .if3 .taken))
+    note-round (start .args .state .now) _ _ _ _ (after-check-state .check-state .ensures) (sym (after-number .number .ensures) ∙ else1 .if1 .left)
+    (round-above _ (c .if3 .taken))
 
 returns-4 : tie.Need-returns-4
 returns-4 c =
@@ -67,16 +67,8 @@ returns-4 c =
     let after-number : tie.After-number = search in
     let after-check-state : tie.After-check-state = search in
     let start : tie.Start = search in
-    note-signer (start .args .state .now) _ _ _ _ (after-check-state .check-state .ensures) (sym (after-number .number .ensures) ∙ else1 .if1 .left) (round-in _ (else2 .if2 .left) (else3 .if3 .left)) (c .if4 .taken)
-
-masks-at-requires : tie.Need-masks-at-requires
-masks-at-requires c κs = search needs
-
-add-at : tie.Need-add-at
-add-at c = search needs
-
-mul-t12 : tie.Need-mul-t12
-mul-t12 c = search needs
+    note-signer (start .args .state .now) _ _ _ _ (after-check-state .check-state .ensures) (sym (after-number .number .ensures) ∙ else1 .if1 .left)
+    (round-in _ (else2 .if2 .left) (else3 .if3 .left)) (c .if4 .taken)
 
 shared-slice-read-t9 : tie.Need-shared-slice-read-t9
 shared-slice-read-t9 c =
@@ -85,7 +77,12 @@ shared-slice-read-t9 c =
     let after-number : tie.After-number = search in
     let after-check-state : tie.After-check-state = search in
     let start : tie.Start = search in
-    omega (arith, after-masks-at .masks-at .ensures, state-ok (start .args .state .now) (sym (ap numberOf (after-check-state .check-state .ensures)) ∙ (sym (after-number .number .ensures) ∙ else1 .if1 .left)) .0)
+    omega (
+      arith,
+      after-masks-at .masks-at .ensures,
+      state-ok (start .args .state .now) (sym (ap numberOf (after-check-state .check-state .ensures))
+          ∙ (sym (after-number .number .ensures) ∙ else1 .if1 .left)) .0,
+    )
 
 has-requires : tie.Need-has-requires
 has-requires c κs =
@@ -93,7 +90,8 @@ has-requires c κs =
     let after-number : tie.After-number = search in
     let after-check-state : tie.After-check-state = search in
     let start : tie.Start = search in
-    let s = state-ok (start .args .state .now) (sym (ap numberOf (after-check-state .check-state .ensures)) ∙ (sym (after-number .number .ensures) ∙ else1 .if1 .left)) in
+    let s = state-ok (start .args .state .now) (sym (ap numberOf (after-check-state .check-state .ensures))
+    ∙ (sym (after-number .number .ensures) ∙ else1 .if1 .left)) in
     omega (arith, sound (start .args .state .now) (s .0) (s .1) .front .high)
 
 returns-5 : tie.Need-returns-5
@@ -107,8 +105,10 @@ returns-5 c =
     let after-number : tie.After-number = search in
     let after-check-state : tie.After-check-state = search in
     let start : tie.Start = search in
-    note-before (start .args .state .now) _ _ _ _ (after-check-state .check-state .ensures) (sym (after-number .number .ensures) ∙ else1 .if1 .left) (round-in _ (else2 .if2 .left) (else3 .if3 .left)) (else4 .if4 .left)
-    (ap (λ (x : ℕ). has (getD (start .args .state .now) (x + start .args .kind) 0) (start .args .signer)) (sym (after-masks-at .masks-at .ensures)) ∙ (sym (after-has .has .ensures) ∙ c .if5 .taken))
+    note-before (start .args .state .now) _ _ _ _ (after-check-state .check-state .ensures) (sym (after-number .number .ensures) ∙ else1 .if1 .left)
+    (round-in _ (else2 .if2 .left) (else3 .if3 .left)) (else4 .if4 .left)
+    (ap (λ (x : ℕ). has (getD (start .args .state .now) (x + start .args .kind) 0) (start .args .signer)) (sym (after-masks-at .masks-at .ensures))
+    ∙ (sym (after-has .has .ensures) ∙ c .if5 .taken))
 
 returns-6 : tie.Need-returns-6
 returns-6 c =
@@ -121,23 +121,25 @@ returns-6 c =
     let after-number : tie.After-number = search in
     let after-check-state : tie.After-check-state = search in
     let start : tie.Start = search in
-    note-new (start .args .state .now) _ _ _ _ (after-check-state .check-state .ensures) (sym (after-number .number .ensures) ∙ else1 .if1 .left) (round-in _ (else2 .if2 .left) (else3 .if3 .left)) (else4 .if4 .left)
-    (ap (λ (x : ℕ). has (getD (start .args .state .now) (x + start .args .kind) 0) (start .args .signer)) (sym (after-masks-at .masks-at .ensures)) ∙ (sym (after-has .has .ensures) ∙ c .if5 .left))
+    note-new (start .args .state .now) _ _ _ _ (after-check-state .check-state .ensures) (sym (after-number .number .ensures) ∙ else1 .if1 .left)
+    (round-in _ (else2 .if2 .left) (else3 .if3 .left)) (else4 .if4 .left)
+    (ap (λ (x : ℕ). has (getD (start .args .state .now) (x + start .args .kind) 0) (start .args .signer)) (sym (after-masks-at .masks-at .ensures))
+    ∙ (sym (after-has .has .ensures) ∙ c .if5 .left))
 
 pub check-note-spec : {M : Type 1} → statement M
 check-note-spec =
     tie.close
     (tie.spec
-    check-state-requires
-    number-requires
+    (λ c κs. search needs)
+    (λ c κs. search needs)
     returns
     shared-slice-read-n
     returns-2
     returns-3
     returns-4
-    masks-at-requires
-    add-at
-    mul-t12
+    (λ c κs. search needs)
+    (λ c. search needs)
+    (λ c. search needs)
     shared-slice-read-t9
     has-requires
     returns-5

@@ -39,7 +39,8 @@ returns c =
     let then1 : tie.Then1 = search in
     let after-has : tie.After-has = search in
     let after-held-mask : tie.After-held-mask = search in
-    place-same _ _ _ _ (sym (rw (after-held-mask .held-mask .ensures) at (after-has .has .ensures)) ∙ then1 .if1 .taken) (sym (after-same-body .same-body .ensures) ∙ c .if2 .taken)
+    place-same _ _ _ _ (sym (rw (after-held-mask .held-mask .ensures) at (after-has .has .ensures)) ∙ then1 .if1 .taken)
+    (sym (after-same-body .same-body .ensures) ∙ c .if2 .taken)
 
 returns-2 : tie.Need-returns-2
 returns-2 c =
@@ -47,10 +48,8 @@ returns-2 c =
     let then1 : tie.Then1 = search in
     let after-has : tie.After-has = search in
     let after-held-mask : tie.After-held-mask = search in
-    place-other _ _ _ _ (sym (rw (after-held-mask .held-mask .ensures) at (after-has .has .ensures)) ∙ then1 .if1 .taken) (sym (after-same-body .same-body .ensures) ∙ c .if2 .left)
-
-first-missing-requires : tie.Need-first-missing-requires
-first-missing-requires c κs = search needs
+    place-other _ _ _ _ (sym (rw (after-held-mask .held-mask .ensures) at (after-has .has .ensures)) ∙ then1 .if1 .taken)
+    (sym (after-same-body .same-body .ensures) ∙ c .if2 .left)
 
 returns-3 : tie.Need-returns-3
 returns-3 c =
@@ -58,7 +57,8 @@ returns-3 c =
     let else1 : tie.Else1 = search in
     let after-has : tie.After-has = search in
     let after-held-mask : tie.After-held-mask = search in
-    place-lacking _ _ _ _ _ (sym (rw (after-held-mask .held-mask .ensures) at (after-has .has .ensures)) ∙ else1 .if1 .left) (after-first-missing .first-missing .ensures) (c .if3 .taken)
+    place-lacking _ _ _ _ _ (sym (rw (after-held-mask .held-mask .ensures) at (after-has .has .ensures)) ∙ else1 .if1 .left)
+    (after-first-missing .first-missing .ensures) (c .if3 .taken)
 
 returns-4 : tie.Need-returns-4
 returns-4 c =
@@ -68,7 +68,8 @@ returns-4 c =
     let after-held-mask : tie.After-held-mask = search in
     let start : tie.Start = search in
     place-free (start .args .state .now) (start .args .round) (start .args .source) (start .args .body .now) (after-first-missing .first-missing .result)
-    (sym (rw (after-held-mask .held-mask .ensures) at (after-has .has .ensures)) ∙ else1 .if1 .left) (after-first-missing .first-missing .ensures) (c .if3 .left)
+    (sym (rw (after-held-mask .held-mask .ensures) at (after-has .has .ensures)) ∙ else1 .if1 .left) (after-first-missing .first-missing .ensures)
+    (c .if3 .left)
 
 pub check-place-spec : {M : Type 1} → statement M
 check-place-spec =
@@ -79,6 +80,6 @@ check-place-spec =
     same-body-requires
     returns
     returns-2
-    first-missing-requires
+    (λ c κs. search needs)
     returns-3
     returns-4)

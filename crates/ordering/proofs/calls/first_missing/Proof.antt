@@ -28,7 +28,8 @@ use Rattle.ordering.proofs.calls.parent_at.Reads as parent-at-reads
 use Rattle.replica.proofs.layout.is_held.Reads as is-held-reads
 
 abbrev Inv-loop : tie.InvT-loop
-Inv-loop state n round source body found₀ group end j₀ found j = (group < 2) × (found ≡ 528) × (end ≡ groupSize n body group) × (j ≤ end) × Looked n round state body group j
+Inv-loop state n round source body found₀ group end j₀ found j = (group < 2) × (found ≡ 528) × (end ≡ groupSize n body group) × (j ≤ end)
+    × Looked n round state body group j
 
 abbrev μ-loop : tie.MeasureT-loop
 μ-loop state n round source body found₀ group end j₀ found j = end - j
@@ -73,19 +74,14 @@ parent-at-requires c κs =
     let at-search : tie.At-search Inv-loop μ-loop Inv-search μ-search = search in
     let start : tie.Start Inv-loop μ-loop Inv-search μ-search = search in
     let a = admitted _ _ _ _ (start .pre .2) in
-    let w = look-range (start .args .n) (start .args .round) (start .args .source) (start .args .state .now) (start .args .body .now) (start .pre .1) a (omega arith) (at-search .search .group) (at-loop .loop .j) (in-search .search-test .taken) (omega (arith, at-loop .loop .inv .2)) in
+    let w = look-range (start .args .n) (start .args .round) (start .args .source) (start .args .state .now) (start .args .body .now) (start .pre .1)
+    a (omega arith) (at-search .search .group) (at-loop .loop .j) (in-search .search-test .taken) (omega (arith, at-loop .loop .inv .2)) in
     (a .size, omega arith, a .round-high, w .0, w .1)
 
 is-held-requires : tie.Need-is-held-requires Inv-loop μ-loop Inv-search μ-search
 is-held-requires c κs =
     let start : tie.Start Inv-loop μ-loop Inv-search μ-search = search in
     start .pre .0
-
-add-j : tie.Need-add-j Inv-loop μ-loop Inv-search μ-search
-add-j c = search needs
-
-loop-less : tie.Need-loop-less Inv-loop μ-loop Inv-search μ-search
-loop-less c = search needs
 
 loop-again : tie.Need-loop-again Inv-loop μ-loop Inv-search μ-search
 loop-again c =
@@ -97,29 +93,31 @@ loop-again c =
       at-loop .loop .inv .1,
       at-loop .loop .inv .2,
       omega arith,
-      looked-more _ _ (start .args .source) _ _ (start .pre .1) (admitted _ _ _ _ (start .pre .2)) (omega arith) _ _ (in-search .search-test .taken) (at-loop .loop .inv .4)
-          (⊎-elim (λ v. inr (passed (rw (after-parent-at .parent-at .ensures) at (v .1 .ensures)) (v .2 .left))) (λ v. inl (sym (after-parent-at .parent-at .ensures) ∙ v .left)) (c .if2 .came)),
+      looked-more _ _ (start .args .source) _ _ (start .pre .1) (admitted _ _ _ _ (start .pre .2)) (omega arith) _ _ (in-search .search-test .taken)
+          (at-loop .loop .inv .4)
+          (⊎-elim (λ v. inr (passed (rw (after-parent-at .parent-at .ensures) at (v .1 .ensures)) (v .2 .left)))
+          (λ v. inl (sym (after-parent-at .parent-at .ensures) ∙ v .left)) (c .if2 .came)),
     )
-
-add-group : tie.Need-add-group Inv-loop μ-loop Inv-search μ-search
-add-group c = search needs
-
-search-less : tie.Need-search-less Inv-loop μ-loop Inv-search μ-search
-search-less c = search needs
 
 search-again : tie.Need-search-again Inv-loop μ-loop Inv-search μ-search
 search-again c =
     let at-loop : tie.At-loop Inv-loop μ-loop Inv-search μ-search = search in
     let in-search : tie.In-search Inv-loop μ-loop Inv-search μ-search = search in
-    let start : tie.Start Inv-loop μ-loop Inv-search μ-search = search in
-    (omega arith, at-loop .loop .inv .1, passed-more _ _ (start .args .source) _ _ (start .pre .1) (admitted _ _ _ _ (start .pre .2)) (omega arith) _ _ (in-search .search-test .taken) (at-loop .loop .inv .4) (omega (arith, at-loop .loop .inv .2)))
+    let start : tie.Start Inv-loop μ-loop Inv-search μ-search = search in (
+      omega arith,
+      at-loop .loop .inv .1,
+      passed-more _ _ (start .args .source) _ _ (start .pre .1) (admitted _ _ _ _ (start .pre .2)) (omega arith) _
+          _ (in-search .search-test .taken) (at-loop .loop .inv .4) (omega (arith, at-loop .loop .inv .2)),
+    )
 
 returns-2 : tie.Need-returns-2 Inv-loop μ-loop Inv-search μ-search
 returns-2 c =
     let at-search : tie.At-search Inv-loop μ-loop Inv-search μ-search = search in
     let start : tie.Start Inv-loop μ-loop Inv-search μ-search = search in
     let e : at-search .search .group ≡ 2 = omega arith in
-    at-search .search .inv .1 ∙ none-missing (start .args .n) (start .args .round) (start .args .source) (start .args .state .now) (start .args .body .now) (start .pre .1) (admitted _ _ _ _ (start .pre .2)) (omega arith) (rw e at (at-search .search .inv .2))
+    at-search .search .inv .1
+    ∙ none-missing (start .args .n) (start .args .round) (start .args .source) (start .args .state .now) (start .args .body .now) (start .pre .1)
+    (admitted _ _ _ _ (start .pre .2)) (omega arith) (rw e at (at-search .search .inv .2))
 
 returns-3 : tie.Need-returns-3 Inv-loop μ-loop Inv-search μ-search
 returns-3 c =
@@ -130,8 +128,11 @@ returns-3 c =
     let in-search : tie.In-search Inv-loop μ-loop Inv-search μ-search = search in
     let at-search : tie.At-search Inv-loop μ-loop Inv-search μ-search = search in
     let start : tie.Start Inv-loop μ-loop Inv-search μ-search = search in
-    after-parent-at .parent-at .ensures ∙ first-found (start .args .n) (start .args .round) (start .args .source) (start .args .state .now) (start .args .body .now) (start .pre .1) (admitted _ _ _ _ (start .pre .2)) (omega arith)
-    (at-search .search .group) (at-loop .loop .j) (in-search .search-test .taken) (omega (arith, at-loop .loop .inv .2)) (at-loop .loop .inv .4) (λ z. then2 .if2 .taken (after-parent-at .parent-at .ensures ∙ z))
+    after-parent-at .parent-at .ensures
+    ∙ first-found (start .args .n) (start .args .round) (start .args .source) (start .args .state .now) (start .args .body .now) (start .pre .1)
+    (admitted _ _ _ _ (start .pre .2)) (omega arith)
+    (at-search .search .group) (at-loop .loop .j) (in-search .search-test .taken) (omega (arith, at-loop .loop .inv .2)) (at-loop .loop .inv .4)
+    (λ z. then2 .if2 .taken (after-parent-at .parent-at .ensures ∙ z))
     (failed (rw (after-parent-at .parent-at .ensures) at (after-is-held .is-held .ensures)) (c .if3 .taken))
 
 pub first-missing-spec : {M : Type 1} → statement M
@@ -148,11 +149,11 @@ first-missing-spec =
     loop-holds
     parent-at-requires
     is-held-requires
-    add-j
-    loop-less
+    (λ c. search needs)
+    (λ c. search needs)
     loop-again
-    add-group
-    search-less
+    (λ c. search needs)
+    (λ c. search needs)
     search-again
     returns-2
     returns-3)

@@ -19,45 +19,20 @@ use Rattle.record.proofs.members.Members.has.Reads as has-reads
 use Rattle.record.proofs.members.leader_of.Reads as leader-of-reads
 use Rattle.replica.proofs.layout.masks_at.Reads as masks-at-reads
 
-masks-at-requires : tie.Need-masks-at-requires
-masks-at-requires c κs = search needs
-
-add-add-member : tie.Need-add-add-member
-add-add-member c = search needs
-
-add-member-requires : tie.Need-add-member-requires
-add-member-requires c κs = search needs
-
-same-length : tie.Need-same-length
-same-length c = search needs
-
 returns : tie.Need-returns
 returns c =
     let after-add-member : tie.After-add-member = search in
     let after-masks-at : tie.After-masks-at = search in
     let start : tie.Start = search in
-    after-add-member .add-member .ensures ∙ ap (λ (x : ℕ). addMember (start .args .state .now) (x + 1) (start .args .source)) (after-masks-at .masks-at .ensures)
-    ∙ hear-none (start .args .state .now) (start .args .round) (start .args .source) (start .args .n) (start .args .strong) (start .pre .1) (start .pre .7 (omega arith))
-
-sub-leader-of : tie.Need-sub-leader-of
-sub-leader-of c = search needs
-
-leader-of-requires : tie.Need-leader-of-requires
-leader-of-requires c κs = search needs
+    after-add-member .add-member .ensures
+    ∙ ap (λ (x : ℕ). addMember (start .args .state .now) (x + 1) (start .args .source)) (after-masks-at .masks-at .ensures)
+    ∙ hear-none (start .args .state .now) (start .args .round) (start .args .source) (start .args .n) (start .args .strong) (start .pre .1)
+    (start .pre .7 (omega arith))
 
 has-requires : tie.Need-has-requires
 has-requires c κs =
     let start : tie.Start = search in
     omega (arith, c .leader-of .ensures, leader-small (start .args .n) (start .args .round - 1) (omega arith))
-
-add-add-member-2 : tie.Need-add-add-member-2
-add-add-member-2 c = search needs
-
-add-member-requires-2 : tie.Need-add-member-requires-2
-add-member-requires-2 c κs = search needs
-
-same-length-2 : tie.Need-same-length-2
-same-length-2 c = search needs
 
 returns-2 : tie.Need-returns-2
 returns-2 c =
@@ -68,12 +43,12 @@ returns-2 c =
     let after-add-member : tie.After-add-member = search in
     let after-masks-at : tie.After-masks-at = search in
     let start : tie.Start = search in
-    after-add-member2 .add-member2 .ensures ∙ ap (λ (x : List ℕ). addMember x (after-masks-at .masks-at .result + 2) (start .args .source)) (after-add-member .add-member .ensures)
-    ∙ ap (λ (x : ℕ). addMember (addMember (start .args .state .now) (x + 1) (start .args .source)) (x + 2) (start .args .source)) (after-masks-at .masks-at .ensures)
-    ∙ hear-voting (start .args .state .now) (start .args .round) (start .args .source) (start .args .n) (start .args .strong) (start .pre .1) (sym (rw (after-leader-of .leader-of .ensures) at (after-has .has .ensures)) ∙ then2 .if2 .taken)
-
-same-length-3 : tie.Need-same-length-3
-same-length-3 c = search needs
+    after-add-member2 .add-member2 .ensures
+    ∙ ap (λ (x : List ℕ). addMember x (after-masks-at .masks-at .result + 2) (start .args .source)) (after-add-member .add-member .ensures)
+    ∙ ap (λ (x : ℕ). addMember (addMember (start .args .state .now) (x + 1) (start .args .source)) (x + 2) (start .args .source))
+    (after-masks-at .masks-at .ensures)
+    ∙ hear-voting (start .args .state .now) (start .args .round) (start .args .source) (start .args .n) (start .args .strong) (start .pre .1)
+    (sym (rw (after-leader-of .leader-of .ensures) at (after-has .has .ensures)) ∙ then2 .if2 .taken)
 
 returns-3 : tie.Need-returns-3
 returns-3 c =
@@ -82,24 +57,26 @@ returns-3 c =
     let after-add-member : tie.After-add-member = search in
     let after-masks-at : tie.After-masks-at = search in
     let start : tie.Start = search in
-    after-add-member .add-member .ensures ∙ ap (λ (x : ℕ). addMember (start .args .state .now) (x + 1) (start .args .source)) (after-masks-at .masks-at .ensures)
-    ∙ hear-silent (start .args .state .now) (start .args .round) (start .args .source) (start .args .n) (start .args .strong) (start .pre .1) (sym (rw (after-leader-of .leader-of .ensures) at (after-has .has .ensures)) ∙ c .if2 .left)
+    after-add-member .add-member .ensures
+    ∙ ap (λ (x : ℕ). addMember (start .args .state .now) (x + 1) (start .args .source)) (after-masks-at .masks-at .ensures)
+    ∙ hear-silent (start .args .state .now) (start .args .round) (start .args .source) (start .args .n) (start .args .strong) (start .pre .1)
+    (sym (rw (after-leader-of .leader-of .ensures) at (after-has .has .ensures)) ∙ c .if2 .left)
 
 pub hear-record-spec : {M : Type 1} → statement M
 hear-record-spec =
     tie.close
     (tie.spec
-    masks-at-requires
-    add-add-member
-    add-member-requires
-    same-length
+    (λ c κs. search needs)
+    (λ c. search needs)
+    (λ c κs. search needs)
+    (λ c. search needs)
     returns
-    sub-leader-of
-    leader-of-requires
+    (λ c. search needs)
+    (λ c κs. search needs)
     has-requires
-    add-add-member-2
-    add-member-requires-2
-    same-length-2
+    (λ c. search needs)
+    (λ c κs. search needs)
+    (λ c. search needs)
     returns-2
-    same-length-3
+    (λ c. search needs)
     returns-3)

@@ -16,39 +16,6 @@ use Rattle.ordering.proofs.calls.write_body.Reads as write-body-reads
 use Rattle.replica.proofs.layout.cell_at.Reads as cell-at-reads
 use Rattle.replica.proofs.layout.masks_at.Reads as masks-at-reads
 
-masks-at-requires : tie.Need-masks-at-requires
-masks-at-requires c κs = search needs
-
-add-mask : tie.Need-add-mask
-add-mask c = search needs
-
-add-member-requires : tie.Need-add-member-requires
-add-member-requires c κs = search needs
-
-cell-at-requires : tie.Need-cell-at-requires
-cell-at-requires c κs = search needs
-
-add-end : tie.Need-add-end
-add-end c = search needs
-
-mul-write-body : tie.Need-mul-write-body
-mul-write-body c = search needs
-
-sub-write-body : tie.Need-sub-write-body
-sub-write-body c = search needs
-
-part-write-body-start : tie.Need-part-write-body-start
-part-write-body-start c = search needs
-
-part-write-body-end : tie.Need-part-write-body-end
-part-write-body-end c = search needs
-
-write-body-requires : tie.Need-write-body-requires
-write-body-requires c κs = search needs
-
-same-length : tie.Need-same-length
-same-length c = search needs
-
 returns : tie.Need-returns
 unfolding putVertex
 returns c =
@@ -60,21 +27,23 @@ returns c =
     put-pasted (after-cell-at .cell-at .result) 10 (after-add-member .add-member .last .0) (after-write-body .write-body .last .0) (start .args .body .now)
     (after-write-body .write-body .ensures ∙ sym (take-all 10 (start .args .body .now) (omega (arith, start .pre .4))))
     ∙ ap₂ (λ (x : List ℕ) (k : ℕ). paste x k (start .args .body .now) 10)
-    (after-add-member .add-member .ensures ∙ ap (λ (k : ℕ). addMember (start .args .state .now) (k + 0) (start .args .member)) (after-masks-at .masks-at .ensures)) (after-cell-at .cell-at .ensures)
+    (after-add-member .add-member .ensures
+    ∙ ap (λ (k : ℕ). addMember (start .args .state .now) (k + 0) (start .args .member)) (after-masks-at .masks-at .ensures))
+    (after-cell-at .cell-at .ensures)
 
 pub put-vertex-spec : {M : Type 1} → statement M
 put-vertex-spec =
     tie.close
     (tie.spec
-    masks-at-requires
-    add-mask
-    add-member-requires
-    cell-at-requires
-    add-end
-    mul-write-body
-    sub-write-body
-    part-write-body-start
-    part-write-body-end
-    write-body-requires
-    same-length
+    (λ c κs. search needs)
+    (λ c. search needs)
+    (λ c κs. search needs)
+    (λ c κs. search needs)
+    (λ c. search needs)
+    (λ c. search needs)
+    (λ c. search needs)
+    (λ c. search needs)
+    (λ c. search needs)
+    (λ c κs. search needs)
+    (λ c. search needs)
     returns)

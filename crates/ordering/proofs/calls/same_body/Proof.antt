@@ -23,26 +23,8 @@ Inv-loop state round member body at i₀ i = (i ≤ 10) × (all i (λ k. eqb (ge
 abbrev μ-loop : tie.MeasureT-loop
 μ-loop state round member body at i₀ i = 10 - i
 
-cell-at-requires : tie.Need-cell-at-requires Inv-loop μ-loop
-cell-at-requires c κs = search needs
-
 loop-holds : tie.Need-loop-holds Inv-loop μ-loop
 loop-holds c = (omega arith, all-none _)
-
-add-if1 : tie.Need-add-if1 Inv-loop μ-loop
-add-if1 c = search needs
-
-mul-if1 : tie.Need-mul-if1 Inv-loop μ-loop
-mul-if1 c = search needs
-
-shared-slice-read-if1 : tie.Need-shared-slice-read-if1 Inv-loop μ-loop
-shared-slice-read-if1 c = search needs
-
-mul-if1-2 : tie.Need-mul-if1-2 Inv-loop μ-loop
-mul-if1-2 c = search needs
-
-shared-slice-read-if1-2 : tie.Need-shared-slice-read-if1-2 Inv-loop μ-loop
-shared-slice-read-if1-2 c = search needs
 
 returns : tie.Need-returns Inv-loop μ-loop
 unfolding sameBody
@@ -51,14 +33,10 @@ returns c =
     let at-loop : tie.At-loop Inv-loop μ-loop = search in
     let after-cell-at : tie.After-cell-at Inv-loop μ-loop = search in
     let start : tie.Start Inv-loop μ-loop = search in
-    let t : ℕ → Bool = λ k. eqb (getD (start .args .state .now) (cellAt (start .args .round) (start .args .member) + k) 0) (getD (start .args .body .now) k 0) in
+    let t : ℕ
+    → Bool = λ k. eqb (getD (start .args .state .now) (cellAt (start .args .round) (start .args .member) + k) 0) (getD (start .args .body .now) k
+    0) in
     sym (all-stop 10 t (at-loop .loop .i) (in-loop .loop-test .taken) (ne-eqb _ _ (rw (after-cell-at .cell-at .ensures) at (c .if1 .taken))))
-
-add-i : tie.Need-add-i Inv-loop μ-loop
-add-i c = search needs
-
-loop-less : tie.Need-loop-less Inv-loop μ-loop
-loop-less c = search needs
 
 loop-again : tie.Need-loop-again Inv-loop μ-loop
 loop-again c =
@@ -78,15 +56,15 @@ same-body-spec =
     (tie.spec
     Inv-loop
     μ-loop
-    cell-at-requires
+    (λ c κs. search needs)
     loop-holds
-    add-if1
-    mul-if1
-    shared-slice-read-if1
-    mul-if1-2
-    shared-slice-read-if1-2
+    (λ c. search needs)
+    (λ c. search needs)
+    (λ c. search needs)
+    (λ c. search needs)
+    (λ c. search needs)
     returns
-    add-i
-    loop-less
+    (λ c. search needs)
+    (λ c. search needs)
     loop-again
     returns-2)

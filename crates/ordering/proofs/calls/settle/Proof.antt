@@ -13,37 +13,30 @@ use Rattle.ordering.proofs.calls.settle.Reads as reads
 use Rattle.ordering.proofs.calls.settle.Lts as lts
 use Rattle.commits.proofs.commit.commit_all.Reads as commit-all-reads
 
-slice-read-leaders : tie.Need-slice-read-leaders
-slice-read-leaders c = search needs
-
-slice-read-journal : tie.Need-slice-read-journal
-slice-read-journal c = search needs
-
 commit-all-requires : tie.Need-commit-all-requires
 commit-all-requires c κs =
     let start : tie.Start = search in
     let S = sound _ (start .pre .0) (start .pre .1) in (standing _ S, room _ S, start .pre .2, leaders-few _ S, S .leaders .committed-high)
 
-slice-read-t6 : tie.Need-slice-read-t6
-slice-read-t6 c = search needs
-
 sub-t13 : tie.Need-sub-t13
 sub-t13 c =
     let after-commit-all : tie.After-commit-all = search in
     let start : tie.Start = search in
-    let S = sound _ (start .pre .0) (start .pre .1) in omega (arith, ap (λ (x : List ℕ). getD x 3 0) (after-commit-all .commit-all .ensures), commits-grow 31 (start .args .state .now) S .0)
-
-slice-read-t15 : tie.Need-slice-read-t15
-slice-read-t15 c = search needs
+    let S = sound _ (start .pre .0) (start .pre .1) in omega (
+      arith,
+      ap (λ (x : List ℕ). getD x 3 0) (after-commit-all .commit-all .ensures),
+      commits-grow 31 (start .args .state .now) S .0,
+    )
 
 sub-t16 : tie.Need-sub-t16
 sub-t16 c =
     let after-commit-all : tie.After-commit-all = search in
     let start : tie.Start = search in
-    let S = sound _ (start .pre .0) (start .pre .1) in omega (arith, ap (λ (x : List ℕ). getD x 4 0) (after-commit-all .commit-all .ensures), commits-grow 31 (start .args .state .now) S .1)
-
-same-length : tie.Need-same-length
-same-length c = search needs
+    let S = sound _ (start .pre .0) (start .pre .1) in omega (
+      arith,
+      ap (λ (x : List ℕ). getD x 4 0) (after-commit-all .commit-all .ensures),
+      commits-grow 31 (start .args .state .now) S .1,
+    )
 
 returns : tie.Need-returns
 returns c =
@@ -54,12 +47,12 @@ pub settle-spec : {M : Type 1} → statement M
 settle-spec =
     tie.close
     (tie.spec
-    slice-read-leaders
-    slice-read-journal
+    (λ c. search needs)
+    (λ c. search needs)
     commit-all-requires
-    slice-read-t6
+    (λ c. search needs)
     sub-t13
-    slice-read-t15
+    (λ c. search needs)
     sub-t16
-    same-length
+    (λ c. search needs)
     returns)

@@ -18,25 +18,14 @@ use Rattle.record.proofs.refusal.number.Reads as number-reads
 use Rattle.replica.proofs.answer.refuse.Reads as refuse-reads
 use Rattle.replica.proofs.layout.masks_at.Reads as masks-at-reads
 
-check-note-requires : tie.Need-check-note-requires
-check-note-requires c κs = search needs
-
-number-requires : tie.Need-number-requires
-number-requires c κs = search needs
-
-refuse-requires : tie.Need-refuse-requires
-refuse-requires c κs = search needs
-
-same-length : tie.Need-same-length
-same-length c = search needs
-
 returns : tie.Need-returns
 returns c =
     let then1 : tie.Then1 = search in
     let after-number : tie.After-number = search in
     let after-check-note : tie.After-check-note = search in
     let start : tie.Start = search in
-    timeout-refused (start .args .state .now) (start .args .round) (start .args .signer) _ (after-check-note .check-note .ensures) (λ d. then1 .if1 .taken (after-number .number .ensures ∙ d)) _ (c .refuse .ensures)
+    timeout-refused (start .args .state .now) (start .args .round) (start .args .signer) _ (after-check-note .check-note .ensures)
+    (λ d. then1 .if1 .taken (after-number .number .ensures ∙ d)) _ (c .refuse .ensures)
 
 slice-read-n : tie.Need-slice-read-n
 slice-read-n c =
@@ -44,7 +33,11 @@ slice-read-n c =
     let after-number : tie.After-number = search in
     let after-check-note : tie.After-check-note = search in
     let start : tie.Start = search in
-    omega (arith, note-known (start .args .state .now) (start .args .round) (start .args .signer) _ _ (after-check-note .check-note .ensures) (sym (after-number .number .ensures) ∙ else1 .if1 .left) .0 .size)
+    omega (
+      arith,
+      note-known (start .args .state .now) (start .args .round) (start .args .signer) _ _ (after-check-note .check-note .ensures)
+          (sym (after-number .number .ensures) ∙ else1 .if1 .left) .0 .size,
+    )
 
 masks-at-requires : tie.Need-masks-at-requires
 masks-at-requires c κs =
@@ -52,10 +45,8 @@ masks-at-requires c κs =
     let after-number : tie.After-number = search in
     let after-check-note : tie.After-check-note = search in
     let start : tie.Start = search in
-    let w = note-known (start .args .state .now) (start .args .round) (start .args .signer) _ _ (after-check-note .check-note .ensures) (sym (after-number .number .ensures) ∙ else1 .if1 .left) in (w .1, w .2)
-
-add-at : tie.Need-add-at
-add-at c = search needs
+    let w = note-known (start .args .state .now) (start .args .round) (start .args .signer) _ _ (after-check-note .check-note .ensures)
+    (sym (after-number .number .ensures) ∙ else1 .if1 .left) in (w .1, w .2)
 
 add-member-requires : tie.Need-add-member-requires
 add-member-requires c κs =
@@ -64,7 +55,8 @@ add-member-requires c κs =
     let after-number : tie.After-number = search in
     let after-check-note : tie.After-check-note = search in
     let start : tie.Start = search in
-    let w = note-known (start .args .state .now) (start .args .round) (start .args .signer) _ _ (after-check-note .check-note .ensures) (sym (after-number .number .ensures) ∙ else1 .if1 .left) in
+    let w = note-known (start .args .state .now) (start .args .round) (start .args .signer) _ _ (after-check-note .check-note .ensures)
+    (sym (after-number .number .ensures) ∙ else1 .if1 .left) in
     (omega (arith, after-masks-at .masks-at .ensures, w .0 .size, w .2), omega (arith, w .3, w .0 .front .high))
 
 raise-round-requires : tie.Need-raise-round-requires
@@ -75,12 +67,16 @@ raise-round-requires c κs =
     let after-number : tie.After-number = search in
     let after-check-note : tie.After-check-note = search in
     let start : tie.Start = search in
-    let w = note-known (start .args .state .now) (start .args .round) (start .args .signer) _ _ (after-check-note .check-note .ensures) (sym (after-number .number .ensures) ∙ else1 .if1 .left) in
-    let d = after-add-member .add-member .ensures ∙ ap (λ (x : ℕ). addMember (start .args .state .now) (x + 3) (start .args .signer)) (after-masks-at .masks-at .ensures) in
-    (after-add-member .add-member .kept .0 ∙ w .0 .size, note-members (start .args .state .now) (start .args .round) (start .args .signer) (after-check-note .check-note .result) 3 (omega arith) (w .1) (w .2) ∙ ap memberCount (sym d), omega (arith, w .0 .front .low))
-
-same-length-2 : tie.Need-same-length-2
-same-length-2 c = search needs
+    let w = note-known (start .args .state .now) (start .args .round) (start .args .signer) _ _ (after-check-note .check-note .ensures)
+    (sym (after-number .number .ensures) ∙ else1 .if1 .left) in
+    let d = after-add-member .add-member .ensures
+    ∙ ap (λ (x : ℕ). addMember (start .args .state .now) (x + 3) (start .args .signer)) (after-masks-at .masks-at .ensures) in (
+      after-add-member .add-member .kept .0
+          ∙ w .0 .size,
+      note-members (start .args .state .now) (start .args .round) (start .args .signer) (after-check-note .check-note .result) 3
+          (omega arith) (w .1) (w .2) ∙ ap memberCount (sym d),
+      omega (arith, w .0 .front .low),
+    )
 
 returns-2 : tie.Need-returns-2
 returns-2 c =
@@ -91,22 +87,24 @@ returns-2 c =
     let after-number : tie.After-number = search in
     let after-check-note : tie.After-check-note = search in
     let start : tie.Start = search in
-    let d = after-add-member .add-member .ensures ∙ ap (λ (x : ℕ). addMember (start .args .state .now) (x + 3) (start .args .signer)) (after-masks-at .masks-at .ensures) in
-    timeout-done (start .args .state .now) (start .args .round) (start .args .signer) _ (after-check-note .check-note .ensures) (sym (after-number .number .ensures) ∙ else1 .if1 .left) _ (after-raise-round .raise-round .ensures ∙ ap raiseRound d)
+    let d = after-add-member .add-member .ensures
+    ∙ ap (λ (x : ℕ). addMember (start .args .state .now) (x + 3) (start .args .signer)) (after-masks-at .masks-at .ensures) in
+    timeout-done (start .args .state .now) (start .args .round) (start .args .signer) _ (after-check-note .check-note .ensures)
+    (sym (after-number .number .ensures) ∙ else1 .if1 .left) _ (after-raise-round .raise-round .ensures ∙ ap raiseRound d)
 
 pub take-timeout-spec : {M : Type 1} → statement M
 take-timeout-spec =
     tie.close
     (tie.spec
-    check-note-requires
-    number-requires
-    refuse-requires
-    same-length
+    (λ c κs. search needs)
+    (λ c κs. search needs)
+    (λ c κs. search needs)
+    (λ c. search needs)
     returns
     slice-read-n
     masks-at-requires
-    add-at
+    (λ c. search needs)
     add-member-requires
     raise-round-requires
-    same-length-2
+    (λ c. search needs)
     returns-2)

@@ -19,32 +19,16 @@ abbrev μ-loop : tie.MeasureT-loop
 loop-holds : tie.Need-loop-holds Inv-loop μ-loop
 loop-holds c = (omega arith, c .pre .0, refl)
 
-mul-cell : tie.Need-mul-cell Inv-loop μ-loop
-mul-cell c = search needs
-
-shared-slice-read-cell : tie.Need-shared-slice-read-cell Inv-loop μ-loop
-shared-slice-read-cell c = search needs
-
-mul-cell-2 : tie.Need-mul-cell-2 Inv-loop μ-loop
-mul-cell-2 c = search needs
-
-slice-write-cell : tie.Need-slice-write-cell Inv-loop μ-loop
-slice-write-cell c = search needs
-
-add-i : tie.Need-add-i Inv-loop μ-loop
-add-i c = search needs
-
-loop-less : tie.Need-loop-less Inv-loop μ-loop
-loop-less c = search needs
-
 loop-again : tie.Need-loop-again Inv-loop μ-loop
 loop-again c =
     let at-loop : tie.At-loop Inv-loop μ-loop = search in
-    let start : tie.Start Inv-loop μ-loop = search in
-    (omega arith, length-set (at-loop .loop .cell) (at-loop .loop .i) _ ∙ at-loop .loop .inv .1, take-copied (at-loop .loop .cell) (start .args .body .now) (at-loop .loop .i) (omega (arith, at-loop .loop .inv .1)) (omega (arith, start .pre .1)) (at-loop .loop .inv .2))
-
-same-length : tie.Need-same-length Inv-loop μ-loop
-same-length c = search needs
+    let start : tie.Start Inv-loop μ-loop = search in (
+      omega arith,
+      length-set (at-loop .loop .cell) (at-loop .loop .i) _
+          ∙ at-loop .loop .inv .1,
+      take-copied (at-loop .loop .cell) (start .args .body .now) (at-loop .loop .i) (omega (arith, at-loop .loop .inv .1))
+          (omega (arith, start .pre .1)) (at-loop .loop .inv .2),
+    )
 
 returns : tie.Need-returns Inv-loop μ-loop
 returns c =
@@ -59,12 +43,12 @@ write-body-spec =
     Inv-loop
     μ-loop
     loop-holds
-    mul-cell
-    shared-slice-read-cell
-    mul-cell-2
-    slice-write-cell
-    add-i
-    loop-less
+    (λ c. search needs)
+    (λ c. search needs)
+    (λ c. search needs)
+    (λ c. search needs)
+    (λ c. search needs)
+    (λ c. search needs)
     loop-again
-    same-length
+    (λ c. search needs)
     returns)

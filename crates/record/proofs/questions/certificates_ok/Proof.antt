@@ -5,16 +5,10 @@ use borrow.Author.Needs.{needs}
 use Rattle.record.proofs.questions.certificates_ok.Statement.{statement}
 use Rattle.record.proofs.questions.certificates_ok.Tie as tie
 
-masks-ok-requires : tie.Need-masks-ok-requires
-masks-ok-requires c κs = search needs
-
 returns : tie.Need-returns
 returns c =
     let after-masks-ok : tie.After-masks-ok = search in
     sym (and-fails-left _ (failed (after-masks-ok .masks-ok .ensures) (c .if1 .taken)))
-
-quorum-if-requires : tie.Need-quorum-if-requires
-quorum-if-requires c κs = search needs
 
 returns-2 : tie.Need-returns-2
 unfolding quorumIf
@@ -24,9 +18,6 @@ returns-2 c =
     let after-masks-ok : tie.After-masks-ok = search in
     rw (passed (after-masks-ok .masks-ok .ensures) (else1 .if1 .left)) (sym (and-fails-left _ (failed (after-quorum-if .quorum-if .ensures) (c .if2 .taken))))
 
-no-votes-ok-requires : tie.Need-no-votes-ok-requires
-no-votes-ok-requires c κs = search needs
-
 returns-3 : tie.Need-returns-3
 unfolding quorumIf
 returns-3 c =
@@ -34,15 +25,16 @@ returns-3 c =
     let after-quorum-if : tie.After-quorum-if = search in
     let else1 : tie.Else1 = search in
     let after-masks-ok : tie.After-masks-ok = search in
-    rw (passed (after-masks-ok .masks-ok .ensures) (else1 .if1 .left), passed (after-quorum-if .quorum-if .ensures) (else2 .if2 .left)) (c .no-votes-ok .ensures)
+    rw (passed (after-masks-ok .masks-ok .ensures) (else1 .if1 .left), passed (after-quorum-if .quorum-if .ensures) (else2 .if2 .left))
+    (c .no-votes-ok .ensures)
 
 pub certificates-ok-spec : {M : Type 1} → statement M
 certificates-ok-spec =
     tie.close
     (tie.spec
-    masks-ok-requires
+    (λ c κs. search needs)
     returns
-    quorum-if-requires
+    (λ c κs. search needs)
     returns-2
-    no-votes-ok-requires
+    (λ c κs. search needs)
     returns-3)

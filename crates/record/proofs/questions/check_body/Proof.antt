@@ -17,9 +17,6 @@ returns : tie.Need-returns
 unfolding bodyRefusal
 returns c = stop _ _ (ne-eqb _ _ (c .if1 .taken))
 
-round-ok-requires : tie.Need-round-ok-requires
-round-ok-requires c κs = search needs
-
 returns-2 : tie.Need-returns-2
 unfolding bodyRefusal
 returns-2 c =
@@ -61,7 +58,7 @@ check-body-spec =
     tie.close
     (tie.spec
     returns
-    round-ok-requires
+    (λ c κs. search needs)
     returns-2
     returns-3
     terms-of-requires

@@ -16,18 +16,6 @@ use Rattle.record.proofs.questions.quorum_if.Reads as quorum-if-reads
 use Rattle.record.proofs.questions.strong_ok.Reads as strong-ok-reads
 use Rattle.record.proofs.questions.weak_ok.Reads as weak-ok-reads
 
-shared-slice-read-strong : tie.Need-shared-slice-read-strong
-shared-slice-read-strong c = search needs
-
-shared-slice-read-timeouts : tie.Need-shared-slice-read-timeouts
-shared-slice-read-timeouts c = search needs
-
-shared-slice-read-no-votes : tie.Need-shared-slice-read-no-votes
-shared-slice-read-no-votes c = search needs
-
-masks-ok-requires : tie.Need-masks-ok-requires
-masks-ok-requires c κs = search needs
-
 returns : tie.Need-returns
 unfolding masksOk strongOf timeoutsOf noVotesOf
 returns c =
@@ -35,9 +23,6 @@ returns c =
     let start : tie.Start = search in
     known _ _ _ _ (start .pre .1) (start .pre .2) (start .pre .3) (start .pre .4)
     (stop _ _ (failed (after-masks-ok .masks-ok .ensures) (c .if1 .taken)))
-
-strong-ok-requires : tie.Need-strong-ok-requires
-strong-ok-requires c κs = search needs
 
 returns-2 : tie.Need-returns-2
 unfolding masksOk strongOf timeoutsOf noVotesOf
@@ -49,12 +34,6 @@ returns-2 c =
     known _ _ _ _ (start .pre .1) (start .pre .2) (start .pre .3) (start .pre .4)
     (next _ _ (passed (after-masks-ok .masks-ok .ensures) (else1 .if1 .left))
     (stop _ _ (failed (after-strong-ok .strong-ok .ensures) (c .if2 .taken))))
-
-lacks-leader-requires : tie.Need-lacks-leader-requires
-lacks-leader-requires c κs = search needs
-
-quorum-if-requires : tie.Need-quorum-if-requires
-quorum-if-requires c κs = search needs
 
 returns-3 : tie.Need-returns-3
 unfolding masksOk timeoutsOk strongOf timeoutsOf noVotesOf
@@ -70,9 +49,6 @@ returns-3 c =
     (next _ _ (passed (after-masks-ok .masks-ok .ensures) (else1 .if1 .left))
     (next _ _ (passed (after-strong-ok .strong-ok .ensures) (else2 .if2 .left))
     (stop _ _ (failed (rw (after-lacks-leader .lacks-leader .ensures) at (after-quorum-if .quorum-if .ensures)) (c .if3 .taken)))))
-
-no-votes-ok-requires : tie.Need-no-votes-ok-requires
-no-votes-ok-requires c κs = search needs
 
 returns-4 : tie.Need-returns-4
 unfolding masksOk timeoutsOk noVotesOk strongOf timeoutsOf noVotesOf
@@ -90,10 +66,10 @@ returns-4 c =
     (next _ _ (passed (after-masks-ok .masks-ok .ensures) (else1 .if1 .left))
     (next _ _ (passed (after-strong-ok .strong-ok .ensures) (else2 .if2 .left))
     (next _ _ (passed (rw (after-lacks-leader .lacks-leader .ensures) at (after-quorum-if .quorum-if .ensures)) (else3 .if3 .left))
-    (stop _ _ (failed (rw (after-lacks-leader .lacks-leader .ensures, ap (λ (t : Terms). t .leader) (start .pre .0)) at (after-no-votes-ok .no-votes-ok .ensures)) (c .if4 .taken))))))
-
-weak-ok-requires : tie.Need-weak-ok-requires
-weak-ok-requires c κs = search needs
+    (stop _ _
+    (failed
+    (rw (after-lacks-leader .lacks-leader .ensures, ap (λ (t : Terms). t .leader) (start .pre .0)) at (after-no-votes-ok .no-votes-ok .ensures))
+    (c .if4 .taken))))))
 
 returns-5 : tie.Need-returns-5
 unfolding masksOk timeoutsOk noVotesOk strongOf timeoutsOf noVotesOf
@@ -113,7 +89,10 @@ returns-5 c =
     (next _ _ (passed (after-masks-ok .masks-ok .ensures) (else1 .if1 .left))
     (next _ _ (passed (after-strong-ok .strong-ok .ensures) (else2 .if2 .left))
     (next _ _ (passed (rw (after-lacks-leader .lacks-leader .ensures) at (after-quorum-if .quorum-if .ensures)) (else3 .if3 .left))
-    (next _ _ (passed (rw (after-lacks-leader .lacks-leader .ensures, ap (λ (t : Terms). t .leader) (start .pre .0)) at (after-no-votes-ok .no-votes-ok .ensures)) (else4 .if4 .left))
+    (next _ _
+    (passed
+    (rw (after-lacks-leader .lacks-leader .ensures, ap (λ (t : Terms). t .leader) (start .pre .0)) at (after-no-votes-ok .no-votes-ok .ensures))
+    (else4 .if4 .left))
     (stop _ _ (failed (after-weak-ok .weak-ok .ensures) (c .if5 .taken)))))))
 
 returns-6 : tie.Need-returns-6
@@ -134,25 +113,28 @@ returns-6 c =
     (next _ _ (passed (after-masks-ok .masks-ok .ensures) (else1 .if1 .left))
     (next _ _ (passed (after-strong-ok .strong-ok .ensures) (else2 .if2 .left))
     (next _ _ (passed (rw (after-lacks-leader .lacks-leader .ensures) at (after-quorum-if .quorum-if .ensures)) (else3 .if3 .left))
-    (next _ _ (passed (rw (after-lacks-leader .lacks-leader .ensures, ap (λ (t : Terms). t .leader) (start .pre .0)) at (after-no-votes-ok .no-votes-ok .ensures)) (else4 .if4 .left))
+    (next _ _
+    (passed
+    (rw (after-lacks-leader .lacks-leader .ensures, ap (λ (t : Terms). t .leader) (start .pre .0)) at (after-no-votes-ok .no-votes-ok .ensures))
+    (else4 .if4 .left))
     (next _ _ (passed (after-weak-ok .weak-ok .ensures) (c .if5 .left)) done)))))
 
 pub check-known-spec : {M : Type 1} → statement M
 check-known-spec =
     tie.close
     (tie.spec
-    shared-slice-read-strong
-    shared-slice-read-timeouts
-    shared-slice-read-no-votes
-    masks-ok-requires
+    (λ c. search needs)
+    (λ c. search needs)
+    (λ c. search needs)
+    (λ c κs. search needs)
     returns
-    strong-ok-requires
+    (λ c κs. search needs)
     returns-2
-    lacks-leader-requires
-    quorum-if-requires
+    (λ c κs. search needs)
+    (λ c κs. search needs)
     returns-3
-    no-votes-ok-requires
+    (λ c κs. search needs)
     returns-4
-    weak-ok-requires
+    (λ c κs. search needs)
     returns-5
     returns-6)

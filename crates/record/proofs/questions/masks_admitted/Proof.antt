@@ -9,29 +9,11 @@ use borrow.Author.Needs.{needs}
 use Rattle.record.proofs.questions.masks_admitted.Statement.{statement}
 use Rattle.record.proofs.questions.masks_admitted.Tie as tie
 
-shared-slice-read-strong : tie.Need-shared-slice-read-strong
-shared-slice-read-strong c = search needs
-
-shared-slice-read-timeouts : tie.Need-shared-slice-read-timeouts
-shared-slice-read-timeouts c = search needs
-
-shared-slice-read-no-votes : tie.Need-shared-slice-read-no-votes
-shared-slice-read-no-votes c = search needs
-
-strong-ok-requires : tie.Need-strong-ok-requires
-strong-ok-requires c κs = search needs
-
 returns : tie.Need-returns
 unfolding strongOf
 returns c =
     let after-strong-ok : tie.After-strong-ok = search in
     sym (masks-strong _ _ _ _ (failed (after-strong-ok .strong-ok .ensures) (c .if1 .taken)))
-
-lacks-leader-requires : tie.Need-lacks-leader-requires
-lacks-leader-requires c κs = search needs
-
-certificates-ok-requires : tie.Need-certificates-ok-requires
-certificates-ok-requires c κs = search needs
 
 returns-2 : tie.Need-returns-2
 unfolding strongOf timeoutsOf noVotesOf
@@ -41,7 +23,9 @@ returns-2 c =
     let else1 : tie.Else1 = search in
     let after-strong-ok : tie.After-strong-ok = search in
     let start : tie.Start = search in
-    rw (ap (λ (t : Terms). t .leader) (start .pre .0)) at (c .certificates-ok .ensures) ∙ sym (masks-lacking _ _ _ _ (passed (after-strong-ok .strong-ok .ensures) (else1 .if1 .left)) (sym (after-lacks-leader .lacks-leader .ensures) ∙ then2 .if2 .taken))
+    rw (ap (λ (t : Terms). t .leader) (start .pre .0)) at (c .certificates-ok .ensures)
+    ∙ sym (masks-lacking _ _ _ _ (passed (after-strong-ok .strong-ok .ensures) (else1 .if1 .left))
+    (sym (after-lacks-leader .lacks-leader .ensures) ∙ then2 .if2 .taken))
 
 returns-3 : tie.Need-returns-3
 unfolding strongOf timeoutsOf noVotesOf
@@ -50,10 +34,8 @@ returns-3 c =
     let after-lacks-leader : tie.After-lacks-leader = search in
     let else1 : tie.Else1 = search in
     let after-strong-ok : tie.After-strong-ok = search in
-    sym (masks-full _ _ _ _ (passed (after-strong-ok .strong-ok .ensures) (else1 .if1 .left)) (sym (after-lacks-leader .lacks-leader .ensures) ∙ else2 .if2 .left) ∙ and-fails-left _ (ne-eqb _ _ (c .if3 .taken)))
-
-is-within-requires : tie.Need-is-within-requires
-is-within-requires c κs = search needs
+    sym (masks-full _ _ _ _ (passed (after-strong-ok .strong-ok .ensures) (else1 .if1 .left)) (sym (after-lacks-leader .lacks-leader .ensures)
+    ∙ else2 .if2 .left) ∙ and-fails-left _ (ne-eqb _ _ (c .if3 .taken)))
 
 returns-4 : tie.Need-returns-4
 unfolding strongOf timeoutsOf noVotesOf
@@ -63,20 +45,21 @@ returns-4 c =
     let after-lacks-leader : tie.After-lacks-leader = search in
     let else1 : tie.Else1 = search in
     let after-strong-ok : tie.After-strong-ok = search in
-    sym (masks-full _ _ _ _ (passed (after-strong-ok .strong-ok .ensures) (else1 .if1 .left)) (sym (after-lacks-leader .lacks-leader .ensures) ∙ else2 .if2 .left) ∙ rw (eq-eqb _ _ (else3 .if3 .left)) (sym (c .is-within .ensures)))
+    sym (masks-full _ _ _ _ (passed (after-strong-ok .strong-ok .ensures) (else1 .if1 .left)) (sym (after-lacks-leader .lacks-leader .ensures)
+    ∙ else2 .if2 .left) ∙ rw (eq-eqb _ _ (else3 .if3 .left)) (sym (c .is-within .ensures)))
 
 pub masks-admitted-spec : {M : Type 1} → statement M
 masks-admitted-spec =
     tie.close
     (tie.spec
-    shared-slice-read-strong
-    shared-slice-read-timeouts
-    shared-slice-read-no-votes
-    strong-ok-requires
+    (λ c. search needs)
+    (λ c. search needs)
+    (λ c. search needs)
+    (λ c κs. search needs)
     returns
-    lacks-leader-requires
-    certificates-ok-requires
+    (λ c κs. search needs)
+    (λ c κs. search needs)
     returns-2
     returns-3
-    is-within-requires
+    (λ c κs. search needs)
     returns-4)

@@ -22,12 +22,6 @@ Inv-loop n round body most i₀ i = (i ≤ 5) × (all i (slotOk n round body) �
 abbrev μ-loop : tie.MeasureT-loop
 μ-loop n round body most i₀ i = 5 - i
 
-faulty-of-requires : tie.Need-faulty-of-requires Inv-loop μ-loop
-faulty-of-requires c κs = search needs
-
-shared-slice-read-if1 : tie.Need-shared-slice-read-if1 Inv-loop μ-loop
-shared-slice-read-if1 c = search needs
-
 returns : tie.Need-returns Inv-loop μ-loop
 unfolding weakOk weakCountOf
 returns c =
@@ -36,9 +30,6 @@ returns c =
 
 loop-holds : tie.Need-loop-holds Inv-loop μ-loop
 loop-holds c = (omega arith, all-none _)
-
-slot-ok-requires : tie.Need-slot-ok-requires Inv-loop μ-loop
-slot-ok-requires c κs = search needs
 
 returns-2 : tie.Need-returns-2 Inv-loop μ-loop
 unfolding weakOk weakCountOf
@@ -50,14 +41,9 @@ returns-2 c =
     let start : tie.Start Inv-loop μ-loop = search in
     simp (
       le-leb _ _ (rw (after-faulty-of .faulty-of .ensures) at (else1 .if1 .left)),
-      all-stop 5 (slotOk (start .args .n) (start .args .round) (start .args .body .now)) _ (in-loop .loop-test .taken) (failed (after-slot-ok .slot-ok .ensures) (c .if2 .taken)),
+      all-stop 5 (slotOk (start .args .n) (start .args .round) (start .args .body .now)) _ (in-loop .loop-test .taken)
+          (failed (after-slot-ok .slot-ok .ensures) (c .if2 .taken)),
     )
-
-add-i : tie.Need-add-i Inv-loop μ-loop
-add-i c = search needs
-
-loop-less : tie.Need-loop-less Inv-loop μ-loop
-loop-less c = search needs
 
 loop-again : tie.Need-loop-again Inv-loop μ-loop
 loop-again c =
@@ -80,13 +66,13 @@ weak-ok-spec =
     (tie.spec
     Inv-loop
     μ-loop
-    faulty-of-requires
-    shared-slice-read-if1
+    (λ c κs. search needs)
+    (λ c. search needs)
     returns
     loop-holds
-    slot-ok-requires
+    (λ c κs. search needs)
     returns-2
-    add-i
-    loop-less
+    (λ c. search needs)
+    (λ c. search needs)
     loop-again
     returns-3)

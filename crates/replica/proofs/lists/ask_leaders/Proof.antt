@@ -30,7 +30,8 @@ returns-3 c =
     let else2 : tie.Else2 = search in
     let after-is-well-formed : tie.After-is-well-formed = search in
     let else1 : tie.Else1 = search in
-    next _ _ (eq-eqb _ _ (else1 .if1 .left)) (next _ _ (passed (after-is-well-formed .is-well-formed .ensures) (else2 .if2 .left)) (stop _ _ (lt-leb _ _ (c .if3 .taken))))
+    next _ _ (eq-eqb _ _ (else1 .if1 .left))
+    (next _ _ (passed (after-is-well-formed .is-well-formed .ensures) (else2 .if2 .left)) (stop _ _ (lt-leb _ _ (c .if3 .taken))))
 
 returns-4 : tie.Need-returns-4
 unfolding askLeaders
@@ -38,7 +39,8 @@ returns-4 c =
     let else2 : tie.Else2 = search in
     let after-is-well-formed : tie.After-is-well-formed = search in
     let else1 : tie.Else1 = search in
-    next _ _ (eq-eqb _ _ (else1 .if1 .left)) (next _ _ (passed (after-is-well-formed .is-well-formed .ensures) (else2 .if2 .left)) (next _ _ (le-leb _ _ (c .if3 .left)) done))
+    next _ _ (eq-eqb _ _ (else1 .if1 .left))
+    (next _ _ (passed (after-is-well-formed .is-well-formed .ensures) (else2 .if2 .left)) (next _ _ (le-leb _ _ (c .if3 .left)) done))
 
 pub ask-leaders-spec : {M : Type 1} → statement M
 ask-leaders-spec =

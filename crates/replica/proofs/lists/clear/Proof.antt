@@ -19,32 +19,22 @@ abbrev μ-loop : tie.MeasureT-loop
 loop-holds : tie.Need-loop-holds Inv-loop μ-loop
 loop-holds c = (omega arith, search needs, fill-none _ 0)
 
-mul-state : tie.Need-mul-state Inv-loop μ-loop
-mul-state c = search needs
-
-slice-write-state : tie.Need-slice-write-state Inv-loop μ-loop
-slice-write-state c = search needs
-
-add-i : tie.Need-add-i Inv-loop μ-loop
-add-i c = search needs
-
-loop-less : tie.Need-loop-less Inv-loop μ-loop
-loop-less c = search needs
-
 loop-again : tie.Need-loop-again Inv-loop μ-loop
 loop-again c =
     let at-loop : tie.At-loop Inv-loop μ-loop = search in
-    let start : tie.Start Inv-loop μ-loop = search in
-    (omega arith, search needs, ap (λ (x : List ℕ). set x (at-loop .loop .i) 0) (at-loop .loop .inv .2) ∙ fill-more (at-loop .loop .i) 0 (start .args .state .now) (omega arith))
-
-same-length : tie.Need-same-length Inv-loop μ-loop
-same-length c = search needs
+    let start : tie.Start Inv-loop μ-loop = search in (
+      omega arith,
+      search needs,
+      ap (λ (x : List ℕ). set x (at-loop .loop .i) 0) (at-loop .loop .inv .2)
+          ∙ fill-more (at-loop .loop .i) 0 (start .args .state .now) (omega arith),
+    )
 
 returns : tie.Need-returns Inv-loop μ-loop
 returns c =
     let at-loop : tie.At-loop Inv-loop μ-loop = search in
     let start : tie.Start Inv-loop μ-loop = search in
-    let e : at-loop .loop .i ≡ length (start .args .state .now) = omega arith in at-loop .loop .inv .2 ∙ rw (e, drop-length (start .args .state .now)) (append-nil _)
+    let e : at-loop .loop .i ≡ length (start .args .state .now) = omega arith in at-loop .loop .inv .2
+    ∙ rw (e, drop-length (start .args .state .now)) (append-nil _)
 
 pub clear-spec : {M : Type 1} → statement M
 clear-spec =
@@ -53,10 +43,10 @@ clear-spec =
     Inv-loop
     μ-loop
     loop-holds
-    mul-state
-    slice-write-state
-    add-i
-    loop-less
+    (λ c. search needs)
+    (λ c. search needs)
+    (λ c. search needs)
+    (λ c. search needs)
     loop-again
-    same-length
+    (λ c. search needs)
     returns)

@@ -8,28 +8,14 @@ use Rattle.replica.proofs.Clauses.{counts}
 use Rattle.replica.proofs.lists.hand_journal.Statement.{statement}
 use Rattle.replica.proofs.lists.hand_journal.Tie as tie
 
-ask-journal-requires : tie.Need-ask-journal-requires
-ask-journal-requires c κs = search needs
-
-number-requires : tie.Need-number-requires
-number-requires c κs = search needs
-
-slice-aggregate-result : tie.Need-slice-aggregate-result
-slice-aggregate-result c = search needs
-
 returns : tie.Need-returns
 returns c =
     let then1 : tie.Then1 = search in
     let after-number : tie.After-number = search in
     let after-ask-journal : tie.After-ask-journal = search in
     let start : tie.Start = search in
-    sym (journal-none (start .args .state .now) (start .args .k) (rw (after-number .number .ensures, after-ask-journal .ask-journal .ensures) at (then1 .if1 .taken)))
-
-wide-requires : tie.Need-wide-requires
-wide-requires c κs = search needs
-
-add-start : tie.Need-add-start
-add-start c = search needs
+    sym (journal-none (start .args .state .now) (start .args .k)
+    (rw (after-number .number .ensures, after-ask-journal .ask-journal .ensures) at (then1 .if1 .taken)))
 
 shared-slice-read-wide : tie.Need-shared-slice-read-wide
 shared-slice-read-wide c =
@@ -37,10 +23,8 @@ shared-slice-read-wide c =
     let after-number : tie.After-number = search in
     let after-ask-journal : tie.After-ask-journal = search in
     let start : tie.Start = search in
-    let a = journal-asked (start .args .state .now) (start .args .k) (rw (after-number .number .ensures, after-ask-journal .ask-journal .ensures) at (else1 .if1 .left)) in omega (arith, a .0)
-
-wide-requires-2 : tie.Need-wide-requires-2
-wide-requires-2 c κs = search needs
+    let a = journal-asked (start .args .state .now) (start .args .k) (rw (after-number .number .ensures, after-ask-journal .ask-journal .ensures)
+    at (else1 .if1 .left)) in omega (arith, a .0)
 
 add-end : tie.Need-add-end
 add-end c =
@@ -48,10 +32,8 @@ add-end c =
     let after-number : tie.After-number = search in
     let after-ask-journal : tie.After-ask-journal = search in
     let start : tie.Start = search in
-    let a = journal-asked (start .args .state .now) (start .args .k) (rw (after-number .number .ensures, after-ask-journal .ask-journal .ensures) at (else1 .if1 .left)) in let n = counts (start .args .state .now) (a .1) in omega (arith, c .wide2 .ensures, n .1)
-
-mul-result : tie.Need-mul-result
-mul-result c = search needs
+    let a = journal-asked (start .args .state .now) (start .args .k) (rw (after-number .number .ensures, after-ask-journal .ask-journal .ensures)
+    at (else1 .if1 .left)) in let n = counts (start .args .state .now) (a .1) in omega (arith, c .wide2 .ensures, n .1)
 
 sub-result : tie.Need-sub-result
 sub-result c =
@@ -60,7 +42,8 @@ sub-result c =
     let after-number : tie.After-number = search in
     let after-ask-journal : tie.After-ask-journal = search in
     let start : tie.Start = search in
-    let a = journal-asked (start .args .state .now) (start .args .k) (rw (after-number .number .ensures, after-ask-journal .ask-journal .ensures) at (else1 .if1 .left)) in omega (arith, c .wide2 .ensures, after-wide .wide .ensures, a .2)
+    let a = journal-asked (start .args .state .now) (start .args .k) (rw (after-number .number .ensures, after-ask-journal .ask-journal .ensures)
+    at (else1 .if1 .left)) in omega (arith, c .wide2 .ensures, after-wide .wide .ensures, a .2)
 
 part-result-start : tie.Need-part-result-start
 part-result-start c =
@@ -69,7 +52,8 @@ part-result-start c =
     let after-number : tie.After-number = search in
     let after-ask-journal : tie.After-ask-journal = search in
     let start : tie.Start = search in
-    let a = journal-asked (start .args .state .now) (start .args .k) (rw (after-number .number .ensures, after-ask-journal .ask-journal .ensures) at (else1 .if1 .left)) in omega (arith, c .wide2 .ensures, after-wide .wide .ensures, a .2)
+    let a = journal-asked (start .args .state .now) (start .args .k) (rw (after-number .number .ensures, after-ask-journal .ask-journal .ensures)
+    at (else1 .if1 .left)) in omega (arith, c .wide2 .ensures, after-wide .wide .ensures, a .2)
 
 part-result-end : tie.Need-part-result-end
 part-result-end c =
@@ -77,7 +61,8 @@ part-result-end c =
     let after-number : tie.After-number = search in
     let after-ask-journal : tie.After-ask-journal = search in
     let start : tie.Start = search in
-    let a = journal-asked (start .args .state .now) (start .args .k) (rw (after-number .number .ensures, after-ask-journal .ask-journal .ensures) at (else1 .if1 .left)) in let n = counts (start .args .state .now) (a .1) in omega (arith, c .wide2 .ensures, n .1, a .0)
+    let a = journal-asked (start .args .state .now) (start .args .k) (rw (after-number .number .ensures, after-ask-journal .ask-journal .ensures)
+    at (else1 .if1 .left)) in let n = counts (start .args .state .now) (a .1) in omega (arith, c .wide2 .ensures, n .1, a .0)
 
 returns-2 : tie.Need-returns-2
 returns-2 c =
@@ -87,24 +72,26 @@ returns-2 c =
     let after-number : tie.After-number = search in
     let after-ask-journal : tie.After-ask-journal = search in
     let start : tie.Start = search in
-    let z = rw (after-number .number .ensures, after-ask-journal .ask-journal .ensures) at (else1 .if1 .left) in let a = journal-asked (start .args .state .now) (start .args .k) z in let n = counts (start .args .state .now) (a .1) in
-    hand-part (start .args .state .now) 232 (start .args .k) _ (232 + after-wide .wide .result) (232 + after-wide2 .wide2 .result) (a .2) (omega (arith, n .1, a .0)) (ap (λ (x : ℕ). 232 + x) (after-wide .wide .ensures)) (ap (λ (x : ℕ). 232 + x) (after-wide2 .wide2 .ensures))
+    let z = rw (after-number .number .ensures, after-ask-journal .ask-journal .ensures) at (else1 .if1 .left) in let a = journal-asked
+    (start .args .state .now) (start .args .k) z in let n = counts (start .args .state .now) (a .1) in
+    hand-part (start .args .state .now) 232 (start .args .k) _ (232 + after-wide .wide .result) (232 + after-wide2 .wide2 .result) (a .2)
+    (omega (arith, n .1, a .0)) (ap (λ (x : ℕ). 232 + x) (after-wide .wide .ensures)) (ap (λ (x : ℕ). 232 + x) (after-wide2 .wide2 .ensures))
     ∙ sym (journal-some (start .args .state .now) (start .args .k) z)
 
 pub hand-journal-spec : {M : Type 1} → statement M
 hand-journal-spec =
     tie.close
     (tie.spec
-    ask-journal-requires
-    number-requires
-    slice-aggregate-result
+    (λ c κs. search needs)
+    (λ c κs. search needs)
+    (λ c. search needs)
     returns
-    wide-requires
-    add-start
+    (λ c κs. search needs)
+    (λ c. search needs)
     shared-slice-read-wide
-    wide-requires-2
+    (λ c κs. search needs)
     add-end
-    mul-result
+    (λ c. search needs)
     sub-result
     part-result-start
     part-result-end

@@ -8,20 +8,11 @@ use Rattle.replica.proofs.Calls.{open-refused, open-words, open-done}
 use Rattle.replica.proofs.lists.open.Statement.{statement}
 use Rattle.replica.proofs.lists.open.Tie as tie
 
-refuse-requires : tie.Need-refuse-requires
-refuse-requires c κs = search needs
-
 returns : tie.Need-returns
 returns c =
     let then1 : tie.Then1 = search in
     let start : tie.Start = search in
     open-refused (start .args .state .now) (start .args .n) _ _ (c .refuse .ensures) (stop _ _ (ne-eqb _ _ (then1 .if1 .taken))) (eqb-false 1 0 refl)
-
-is-legal-requires : tie.Need-is-legal-requires
-is-legal-requires c κs = search needs
-
-refuse-requires-2 : tie.Need-refuse-requires-2
-refuse-requires-2 c κs = search needs
 
 returns-2 : tie.Need-returns-2
 returns-2 c =
@@ -29,19 +20,8 @@ returns-2 c =
     let after-is-legal : tie.After-is-legal = search in
     let else1 : tie.Else1 = search in
     let start : tie.Start = search in
-    open-refused (start .args .state .now) (start .args .n) _ _ (c .refuse2 .ensures) (next _ _ (eq-eqb _ _ (else1 .if1 .left)) (stop _ _ (failed (after-is-legal .is-legal .ensures) (then2 .if2 .taken)))) (eqb-false 2 0 refl)
-
-clear-requires : tie.Need-clear-requires
-clear-requires c κs = search needs
-
-slice-write-state : tie.Need-slice-write-state
-slice-write-state c = search needs
-
-slice-write-state-2 : tie.Need-slice-write-state-2
-slice-write-state-2 c = search needs
-
-same-length : tie.Need-same-length
-same-length c = search needs
+    open-refused (start .args .state .now) (start .args .n) _ _ (c .refuse2 .ensures)
+    (next _ _ (eq-eqb _ _ (else1 .if1 .left)) (stop _ _ (failed (after-is-legal .is-legal .ensures) (then2 .if2 .taken)))) (eqb-false 2 0 refl)
 
 returns-3 : tie.Need-returns-3
 returns-3 c =
@@ -50,19 +30,20 @@ returns-3 c =
     let after-is-legal : tie.After-is-legal = search in
     let else1 : tie.Else1 = search in
     let start : tie.Start = search in
-    open-done (start .args .state .now) _ (start .args .n) (open-words _ (start .args .n) _ (after-clear .clear .ensures) (else1 .if1 .left)) (next _ _ (eq-eqb _ _ (else1 .if1 .left)) (next _ _ (passed (after-is-legal .is-legal .ensures) (else2 .if2 .left)) done))
+    open-done (start .args .state .now) _ (start .args .n) (open-words _ (start .args .n) _ (after-clear .clear .ensures) (else1 .if1 .left))
+    (next _ _ (eq-eqb _ _ (else1 .if1 .left)) (next _ _ (passed (after-is-legal .is-legal .ensures) (else2 .if2 .left)) done))
 
 pub open-spec : {M : Type 1} → statement M
 open-spec =
     tie.close
     (tie.spec
-    refuse-requires
+    (λ c κs. search needs)
     returns
-    is-legal-requires
-    refuse-requires-2
+    (λ c κs. search needs)
+    (λ c κs. search needs)
     returns-2
-    clear-requires
-    slice-write-state
-    slice-write-state-2
-    same-length
+    (λ c κs. search needs)
+    (λ c. search needs)
+    (λ c. search needs)
+    (λ c. search needs)
     returns-3)

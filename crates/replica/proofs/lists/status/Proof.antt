@@ -5,12 +5,6 @@ use Rattle.replica.proofs.Calls.{state-ok, head-refused, head-done}
 use Rattle.replica.proofs.lists.status.Statement.{statement}
 use Rattle.replica.proofs.lists.status.Tie as tie
 
-check-state-requires : tie.Need-check-state-requires
-check-state-requires c κs = search needs
-
-number-requires : tie.Need-number-requires
-number-requires c κs = search needs
-
 returns : tie.Need-returns
 returns c =
     let after-number : tie.After-number = search in
@@ -24,7 +18,8 @@ shared-slice-read-t3 c =
     let after-number : tie.After-number = search in
     let after-check-state : tie.After-check-state = search in
     let start : tie.Start = search in
-    let e = state-ok (start .args .state .now) (rw (after-number .number .ensures, after-check-state .check-state .ensures) at (else1 .if1 .left)) in omega (arith, e .0)
+    let e = state-ok (start .args .state .now) (rw (after-number .number .ensures, after-check-state .check-state .ensures) at (else1 .if1 .left))
+    in omega (arith, e .0)
 
 shared-slice-read-t7 : tie.Need-shared-slice-read-t7
 shared-slice-read-t7 c =
@@ -32,7 +27,8 @@ shared-slice-read-t7 c =
     let after-number : tie.After-number = search in
     let after-check-state : tie.After-check-state = search in
     let start : tie.Start = search in
-    let e = state-ok (start .args .state .now) (rw (after-number .number .ensures, after-check-state .check-state .ensures) at (else1 .if1 .left)) in omega (arith, e .0)
+    let e = state-ok (start .args .state .now) (rw (after-number .number .ensures, after-check-state .check-state .ensures) at (else1 .if1 .left))
+    in omega (arith, e .0)
 
 shared-slice-read-t9 : tie.Need-shared-slice-read-t9
 shared-slice-read-t9 c =
@@ -40,7 +36,8 @@ shared-slice-read-t9 c =
     let after-number : tie.After-number = search in
     let after-check-state : tie.After-check-state = search in
     let start : tie.Start = search in
-    let e = state-ok (start .args .state .now) (rw (after-number .number .ensures, after-check-state .check-state .ensures) at (else1 .if1 .left)) in omega (arith, e .0)
+    let e = state-ok (start .args .state .now) (rw (after-number .number .ensures, after-check-state .check-state .ensures) at (else1 .if1 .left))
+    in omega (arith, e .0)
 
 shared-slice-read-t11 : tie.Need-shared-slice-read-t11
 shared-slice-read-t11 c =
@@ -48,7 +45,8 @@ shared-slice-read-t11 c =
     let after-number : tie.After-number = search in
     let after-check-state : tie.After-check-state = search in
     let start : tie.Start = search in
-    let e = state-ok (start .args .state .now) (rw (after-number .number .ensures, after-check-state .check-state .ensures) at (else1 .if1 .left)) in omega (arith, e .0)
+    let e = state-ok (start .args .state .now) (rw (after-number .number .ensures, after-check-state .check-state .ensures) at (else1 .if1 .left))
+    in omega (arith, e .0)
 
 returns-2 : tie.Need-returns-2
 returns-2 c =
@@ -62,8 +60,8 @@ pub status-spec : {M : Type 1} → statement M
 status-spec =
     tie.close
     (tie.spec
-    check-state-requires
-    number-requires
+    (λ c κs. search needs)
+    (λ c κs. search needs)
     returns
     shared-slice-read-t3
     shared-slice-read-t7

@@ -22,41 +22,24 @@ abbrev μ-loop : tie.MeasureT-loop
 loop-holds : tie.Need-loop-holds Inv-loop μ-loop
 loop-holds c = (omega arith, all-none _)
 
-wide-requires : tie.Need-wide-requires Inv-loop μ-loop
-wide-requires c κs = search needs
-
-mul-if1 : tie.Need-mul-if1 Inv-loop μ-loop
-mul-if1 c = search needs
-
-array-read-if1 : tie.Need-array-read-if1 Inv-loop μ-loop
-array-read-if1 c = search needs
-
-add-ordered-mask : tie.Need-add-ordered-mask Inv-loop μ-loop
-add-ordered-mask c = search needs
-
-ordered-mask-requires : tie.Need-ordered-mask-requires Inv-loop μ-loop
-ordered-mask-requires c κs = search needs
-
 returns : tie.Need-returns Inv-loop μ-loop
 returns c =
     let after-ordered-mask : tie.After-ordered-mask Inv-loop μ-loop = search in
     let after-wide : tie.After-wide Inv-loop μ-loop = search in
     let at-loop : tie.At-loop Inv-loop μ-loop = search in
     let start : tie.Start Inv-loop μ-loop = search in
-    sym (all-stop 32 (λ k. eqb (getD (start .args .t2) k 0) (orderedMask (start .args .state .now) (k + 1))) (at-loop .loop .i) (omega arith) (ne-eqb _ _ (rw (after-ordered-mask .ordered-mask .ensures, after-wide .wide .ensures) at (c .if1 .taken))))
-
-add-i : tie.Need-add-i Inv-loop μ-loop
-add-i c = search needs
-
-loop-less : tie.Need-loop-less Inv-loop μ-loop
-loop-less c = search needs
+    sym (all-stop 32 (λ k. eqb (getD (start .args .t2) k 0) (orderedMask (start .args .state .now) (k + 1))) (at-loop .loop .i) (omega arith)
+    (ne-eqb _ _ (rw (after-ordered-mask .ordered-mask .ensures, after-wide .wide .ensures) at (c .if1 .taken))))
 
 loop-again : tie.Need-loop-again Inv-loop μ-loop
 loop-again c =
     let after-ordered-mask : tie.After-ordered-mask Inv-loop μ-loop = search in
     let after-wide : tie.After-wide Inv-loop μ-loop = search in
-    let at-loop : tie.At-loop Inv-loop μ-loop = search in
-    (omega arith, all-more _ _ (at-loop .loop .inv .1) (eq-eqb _ _ (rw (after-ordered-mask .ordered-mask .ensures, after-wide .wide .ensures) at (c .if1 .left))))
+    let at-loop : tie.At-loop Inv-loop μ-loop = search in (
+      omega arith,
+      all-more _ _ (at-loop .loop .inv .1)
+          (eq-eqb _ _ (rw (after-ordered-mask .ordered-mask .ensures, after-wide .wide .ensures) at (c .if1 .left))),
+    )
 
 returns-2 : tie.Need-returns-2 Inv-loop μ-loop
 returns-2 c =
@@ -70,13 +53,13 @@ all-marked-spec =
     Inv-loop
     μ-loop
     loop-holds
-    wide-requires
-    mul-if1
-    array-read-if1
-    add-ordered-mask
-    ordered-mask-requires
+    (λ c κs. search needs)
+    (λ c. search needs)
+    (λ c. search needs)
+    (λ c. search needs)
+    (λ c κs. search needs)
     returns
-    add-i
-    loop-less
+    (λ c. search needs)
+    (λ c. search needs)
     loop-again
     returns-2)

@@ -6,16 +6,10 @@ use Rattle.record.proofs.Booleans.{passed, failed}
 use Rattle.replica.proofs.wellformed.body_ok.Statement.{statement}
 use Rattle.replica.proofs.wellformed.body_ok.Tie as tie
 
-masks-within-requires : tie.Need-masks-within-requires
-masks-within-requires c κs = search needs
-
 returns : tie.Need-returns
 returns c =
     let after-masks-within : tie.After-masks-within = search in
     simp (failed (after-masks-within .masks-within .ensures) (c .if1 .taken))
-
-votes-heard-requires : tie.Need-votes-heard-requires
-votes-heard-requires c κs = search needs
 
 returns-2 : tie.Need-returns-2
 returns-2 c =
@@ -24,9 +18,6 @@ returns-2 c =
     let after-masks-within : tie.After-masks-within = search in
     simp (passed (after-masks-within .masks-within .ensures) (else1 .if1 .left), failed (after-votes-heard .votes-heard .ensures) (c .if2 .taken))
 
-votes-mask-requires : tie.Need-votes-mask-requires
-votes-mask-requires c κs = search needs
-
 returns-3 : tie.Need-returns-3
 returns-3 c =
     let after-votes-mask : tie.After-votes-mask = search in
@@ -34,7 +25,11 @@ returns-3 c =
     let after-votes-heard : tie.After-votes-heard = search in
     let else1 : tie.Else1 = search in
     let after-masks-within : tie.After-masks-within = search in
-    simp (passed (after-masks-within .masks-within .ensures) (else1 .if1 .left), passed (after-votes-heard .votes-heard .ensures) (else2 .if2 .left), ne-eqb _ _ (rw (after-votes-mask .votes-mask .ensures) at (c .if3 .taken)))
+    simp (
+      passed (after-masks-within .masks-within .ensures) (else1 .if1 .left),
+      passed (after-votes-heard .votes-heard .ensures) (else2 .if2 .left),
+      ne-eqb _ _ (rw (after-votes-mask .votes-mask .ensures) at (c .if3 .taken)),
+    )
 
 cells-ok-requires : tie.Need-cells-ok-requires
 cells-ok-requires c κs =
@@ -52,10 +47,13 @@ returns-4 c =
     let after-votes-heard : tie.After-votes-heard = search in
     let else1 : tie.Else1 = search in
     let after-masks-within : tie.After-masks-within = search in
-    simp (passed (after-masks-within .masks-within .ensures) (else1 .if1 .left), passed (after-votes-heard .votes-heard .ensures) (else2 .if2 .left), eq-eqb _ _ (rw (after-votes-mask .votes-mask .ensures) at (else3 .if3 .left)), failed (after-cells-ok .cells-ok .ensures) (c .if4 .taken), and-false)
-
-ordered-held-requires : tie.Need-ordered-held-requires
-ordered-held-requires c κs = search needs
+    simp (
+      passed (after-masks-within .masks-within .ensures) (else1 .if1 .left),
+      passed (after-votes-heard .votes-heard .ensures) (else2 .if2 .left),
+      eq-eqb _ _ (rw (after-votes-mask .votes-mask .ensures) at (else3 .if3 .left)),
+      failed (after-cells-ok .cells-ok .ensures) (c .if4 .taken),
+      and-false,
+    )
 
 returns-5 : tie.Need-returns-5
 returns-5 c =
@@ -67,19 +65,25 @@ returns-5 c =
     let after-votes-heard : tie.After-votes-heard = search in
     let else1 : tie.Else1 = search in
     let after-masks-within : tie.After-masks-within = search in
-    simp (passed (after-masks-within .masks-within .ensures) (else1 .if1 .left), passed (after-votes-heard .votes-heard .ensures) (else2 .if2 .left), eq-eqb _ _ (rw (after-votes-mask .votes-mask .ensures) at (else3 .if3 .left)), passed (after-cells-ok .cells-ok .ensures) (else4 .if4 .left), and-true) (c .ordered-held .ensures)
+    simp (
+      passed (after-masks-within .masks-within .ensures) (else1 .if1 .left),
+      passed (after-votes-heard .votes-heard .ensures) (else2 .if2 .left),
+      eq-eqb _ _ (rw (after-votes-mask .votes-mask .ensures) at (else3 .if3 .left)),
+      passed (after-cells-ok .cells-ok .ensures) (else4 .if4 .left),
+      and-true,
+    ) (c .ordered-held .ensures)
 
 pub body-ok-spec : {M : Type 1} → statement M
 body-ok-spec =
     tie.close
     (tie.spec
-    masks-within-requires
+    (λ c κs. search needs)
     returns
-    votes-heard-requires
+    (λ c κs. search needs)
     returns-2
-    votes-mask-requires
+    (λ c κs. search needs)
     returns-3
     cells-ok-requires
     returns-4
-    ordered-held-requires
+    (λ c κs. search needs)
     returns-5)

@@ -13,33 +13,6 @@ use borrow.Author.Needs.{needs}
 use Rattle.replica.proofs.wellformed.cell_ok.Statement.{statement}
 use Rattle.replica.proofs.wellformed.cell_ok.Tie as tie
 
-cell-at-requires : tie.Need-cell-at-requires
-cell-at-requires c κs = search needs
-
-add-end : tie.Need-add-end
-add-end c = search needs
-
-held-mask-requires : tie.Need-held-mask-requires
-held-mask-requires c κs = search needs
-
-has-requires : tie.Need-has-requires
-has-requires c κs = search needs
-
-mul-is-zero : tie.Need-mul-is-zero
-mul-is-zero c = search needs
-
-sub-is-zero : tie.Need-sub-is-zero
-sub-is-zero c = search needs
-
-part-is-zero-start : tie.Need-part-is-zero-start
-part-is-zero-start c = search needs
-
-part-is-zero-end : tie.Need-part-is-zero-end
-part-is-zero-end c = search needs
-
-is-zero-requires : tie.Need-is-zero-requires
-is-zero-requires c κs = search needs
-
 returns : tie.Need-returns
 returns c =
     let then1 : tie.Then1 = search in
@@ -47,19 +20,9 @@ returns c =
     let after-held-mask : tie.After-held-mask = search in
     let after-cell-at : tie.After-cell-at = search in
     let start : tie.Start = search in
-    c .is-zero .ensures ∙ cell-zero (start .args .state .now) (start .args .round) (start .args .member) _ (after-cell-at .cell-at .ensures) (omega arith) (failed (rw (after-held-mask .held-mask .ensures) at (after-has .has .ensures)) (then1 .if1 .taken))
-
-mul-record-ok : tie.Need-mul-record-ok
-mul-record-ok c = search needs
-
-sub-record-ok : tie.Need-sub-record-ok
-sub-record-ok c = search needs
-
-part-record-ok-start : tie.Need-part-record-ok-start
-part-record-ok-start c = search needs
-
-part-record-ok-end : tie.Need-part-record-ok-end
-part-record-ok-end c = search needs
+    c .is-zero .ensures
+    ∙ cell-zero (start .args .state .now) (start .args .round) (start .args .member) _ (after-cell-at .cell-at .ensures) (omega arith)
+    (failed (rw (after-held-mask .held-mask .ensures) at (after-has .has .ensures)) (then1 .if1 .taken))
 
 record-ok-requires : tie.Need-record-ok-requires
 record-ok-requires c κs =
@@ -74,8 +37,13 @@ record-ok-requires c κs =
       start .pre .3,
       start .pre .4,
       start .pre .5,
-      has-bound _ _ _ (masks-small (start .args .state .now) (start .args .round) (round-elim (masksWithin (start .args .state .now)) (start .pre .3) (start .args .round) (start .pre .4) (start .pre .5)) .held) (passed (rw (after-held-mask .held-mask .ensures) at (after-has .has .ensures)) (else1 .if1 .left)),
-      ap length (cell-part (start .args .state .now) _ (cellAt (start .args .round) (start .args .member)) (after-cell-at .cell-at .ensures)) ∙ length-take-le 10 (drop (cellAt (start .args .round) (start .args .member)) (start .args .state .now)) (omega (arith, length-drop (cellAt (start .args .round) (start .args .member)) (start .args .state .now))),
+      has-bound _ _ _
+          (masks-small (start .args .state .now) (start .args .round)
+          (round-elim (masksWithin (start .args .state .now)) (start .pre .3) (start .args .round) (start .pre .4) (start .pre .5)) .held)
+          (passed (rw (after-held-mask .held-mask .ensures) at (after-has .has .ensures)) (else1 .if1 .left)),
+      ap length (cell-part (start .args .state .now) _ (cellAt (start .args .round) (start .args .member)) (after-cell-at .cell-at .ensures))
+          ∙ length-take-le 10 (drop (cellAt (start .args .round) (start .args .member)) (start .args .state .now))
+          (omega (arith, length-drop (cellAt (start .args .round) (start .args .member)) (start .args .state .now))),
     )
 
 returns-2 : tie.Need-returns-2
@@ -85,25 +53,28 @@ returns-2 c =
     let after-held-mask : tie.After-held-mask = search in
     let after-cell-at : tie.After-cell-at = search in
     let start : tie.Start = search in
-    c .record-ok .ensures ∙ cell-held (start .args .state .now) (start .args .round) (start .args .member) _ (passed (rw (after-held-mask .held-mask .ensures) at (after-has .has .ensures)) (else1 .if1 .left)) (cell-part (start .args .state .now) _ _ (after-cell-at .cell-at .ensures))
+    c .record-ok .ensures
+    ∙ cell-held (start .args .state .now) (start .args .round) (start .args .member) _
+    (passed (rw (after-held-mask .held-mask .ensures) at (after-has .has .ensures)) (else1 .if1 .left))
+    (cell-part (start .args .state .now) _ _ (after-cell-at .cell-at .ensures))
 
 pub cell-ok-spec : {M : Type 1} → statement M
 cell-ok-spec =
     tie.close
     (tie.spec
-    cell-at-requires
-    add-end
-    held-mask-requires
-    has-requires
-    mul-is-zero
-    sub-is-zero
-    part-is-zero-start
-    part-is-zero-end
-    is-zero-requires
+    (λ c κs. search needs)
+    (λ c. search needs)
+    (λ c κs. search needs)
+    (λ c κs. search needs)
+    (λ c. search needs)
+    (λ c. search needs)
+    (λ c. search needs)
+    (λ c. search needs)
+    (λ c κs. search needs)
     returns
-    mul-record-ok
-    sub-record-ok
-    part-record-ok-start
-    part-record-ok-end
+    (λ c. search needs)
+    (λ c. search needs)
+    (λ c. search needs)
+    (λ c. search needs)
     record-ok-requires
     returns-2)

@@ -20,9 +20,6 @@ abbrev μ-loop : tie.MeasureT-loop
 loop-holds : tie.Need-loop-holds Inv-loop μ-loop
 loop-holds c = (omega arith, all-none _)
 
-add-round-cells-ok : tie.Need-add-round-cells-ok Inv-loop μ-loop
-add-round-cells-ok c = search needs
-
 round-cells-ok-requires : tie.Need-round-cells-ok-requires Inv-loop μ-loop
 round-cells-ok-requires c κs =
     let start : tie.Start Inv-loop μ-loop = search in
@@ -33,13 +30,8 @@ returns c =
     let after-round-cells-ok : tie.After-round-cells-ok Inv-loop μ-loop = search in
     let at-loop : tie.At-loop Inv-loop μ-loop = search in
     let start : tie.Start Inv-loop μ-loop = search in
-    sym (all-stop 32 (λ k. all 16 (cellOk (start .args .state .now) (k + 1))) (at-loop .loop .i) (omega arith) (failed (after-round-cells-ok .round-cells-ok .ensures) (c .if1 .taken)))
-
-add-i : tie.Need-add-i Inv-loop μ-loop
-add-i c = search needs
-
-loop-less : tie.Need-loop-less Inv-loop μ-loop
-loop-less c = search needs
+    sym (all-stop 32 (λ k. all 16 (cellOk (start .args .state .now) (k + 1))) (at-loop .loop .i) (omega arith)
+    (failed (after-round-cells-ok .round-cells-ok .ensures) (c .if1 .taken)))
 
 loop-again : tie.Need-loop-again Inv-loop μ-loop
 loop-again c =
@@ -59,10 +51,10 @@ cells-ok-spec =
     Inv-loop
     μ-loop
     loop-holds
-    add-round-cells-ok
+    (λ c. search needs)
     round-cells-ok-requires
     returns
-    add-i
-    loop-less
+    (λ c. search needs)
+    (λ c. search needs)
     loop-again
     returns-2)

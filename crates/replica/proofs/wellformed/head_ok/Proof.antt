@@ -9,28 +9,16 @@ use Rattle.replica.proofs.Laws.{part-zero}
 use Rattle.replica.proofs.wellformed.head_ok.Statement.{statement}
 use Rattle.replica.proofs.wellformed.head_ok.Tie as tie
 
-shared-slice-read-is-legal : tie.Need-shared-slice-read-is-legal
-shared-slice-read-is-legal c = search needs
-
-is-legal-requires : tie.Need-is-legal-requires
-is-legal-requires c κs = search needs
-
 returns : tie.Need-returns
 returns c =
     let after-is-legal : tie.After-is-legal = search in
     simp (failed (after-is-legal .is-legal .ensures) (c .if1 .taken))
-
-shared-slice-read-if2 : tie.Need-shared-slice-read-if2
-shared-slice-read-if2 c = search needs
 
 returns-2 : tie.Need-returns-2
 returns-2 c =
     let else1 : tie.Else1 = search in
     let after-is-legal : tie.After-is-legal = search in
     simp (passed (after-is-legal .is-legal .ensures) (else1 .if1 .left), lt-leb _ _ (c .if2 .taken))
-
-shared-slice-read-if3 : tie.Need-shared-slice-read-if3
-shared-slice-read-if3 c = search needs
 
 returns-3 : tie.Need-returns-3
 returns-3 c =
@@ -39,28 +27,18 @@ returns-3 c =
     let after-is-legal : tie.After-is-legal = search in
     simp (passed (after-is-legal .is-legal .ensures) (else1 .if1 .left), le-leb _ _ (else2 .if2 .left), lt-leb _ _ (c .if3 .taken))
 
-shared-slice-read-if4 : tie.Need-shared-slice-read-if4
-shared-slice-read-if4 c = search needs
-
 returns-4 : tie.Need-returns-4
 returns-4 c =
     let else3 : tie.Else3 = search in
     let else2 : tie.Else2 = search in
     let else1 : tie.Else1 = search in
     let after-is-legal : tie.After-is-legal = search in
-    simp (passed (after-is-legal .is-legal .ensures) (else1 .if1 .left), le-leb _ _ (else2 .if2 .left), le-leb _ _ (else3 .if3 .left), lt-leb _ _ (c .if4 .taken))
-
-sub-is-zero : tie.Need-sub-is-zero
-sub-is-zero c = search needs
-
-part-is-zero-start : tie.Need-part-is-zero-start
-part-is-zero-start c = search needs
-
-part-is-zero-end : tie.Need-part-is-zero-end
-part-is-zero-end c = search needs
-
-is-zero-requires : tie.Need-is-zero-requires
-is-zero-requires c κs = search needs
+    simp (
+      passed (after-is-legal .is-legal .ensures) (else1 .if1 .left),
+      le-leb _ _ (else2 .if2 .left),
+      le-leb _ _ (else3 .if3 .left),
+      lt-leb _ _ (c .if4 .taken),
+    )
 
 returns-5 : tie.Need-returns-5
 returns-5 c =
@@ -70,23 +48,29 @@ returns-5 c =
     let else1 : tie.Else1 = search in
     let after-is-legal : tie.After-is-legal = search in
     let start : tie.Start = search in
-    simp (passed (after-is-legal .is-legal .ensures) (else1 .if1 .left), le-leb _ _ (else2 .if2 .left), le-leb _ _ (else3 .if3 .left), le-leb _ _ (else4 .if4 .left), and-true) (c .is-zero .ensures ∙ part-zero (start .args .state .now) 5 3 (omega arith))
+    simp (
+      passed (after-is-legal .is-legal .ensures) (else1 .if1 .left),
+      le-leb _ _ (else2 .if2 .left),
+      le-leb _ _ (else3 .if3 .left),
+      le-leb _ _ (else4 .if4 .left),
+      and-true,
+    ) (c .is-zero .ensures ∙ part-zero (start .args .state .now) 5 3 (omega arith))
 
 pub head-ok-spec : {M : Type 1} → statement M
 head-ok-spec =
     tie.close
     (tie.spec
-    shared-slice-read-is-legal
-    is-legal-requires
+    (λ c. search needs)
+    (λ c κs. search needs)
     returns
-    shared-slice-read-if2
+    (λ c. search needs)
     returns-2
-    shared-slice-read-if3
+    (λ c. search needs)
     returns-3
-    shared-slice-read-if4
+    (λ c. search needs)
     returns-4
-    sub-is-zero
-    part-is-zero-start
-    part-is-zero-end
-    is-zero-requires
+    (λ c. search needs)
+    (λ c. search needs)
+    (λ c. search needs)
+    (λ c κs. search needs)
     returns-5)

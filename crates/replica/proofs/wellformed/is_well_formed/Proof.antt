@@ -6,9 +6,6 @@ use Rattle.replica.proofs.Clauses.{head-no, body-no, leaders-no, journa
 use Rattle.replica.proofs.wellformed.is_well_formed.Statement.{statement}
 use Rattle.replica.proofs.wellformed.is_well_formed.Tie as tie
 
-head-ok-requires : tie.Need-head-ok-requires
-head-ok-requires c κs = search needs
-
 returns : tie.Need-returns
 returns c =
     let after-head-ok : tie.After-head-ok = search in
@@ -43,8 +40,11 @@ journal-ok-requires c κs =
     let after-body-ok : tie.After-body-ok = search in
     let else1 : tie.Else1 = search in
     let after-head-ok : tie.After-head-ok = search in
-    let start : tie.Start = search in
-    (start .pre, head-legal (start .args .state .now) (passed (after-head-ok .head-ok .ensures) (else1 .if1 .left)), body-masks (start .args .state .now) (passed (after-body-ok .body-ok .ensures) (else2 .if2 .left)))
+    let start : tie.Start = search in (
+      start .pre,
+      head-legal (start .args .state .now) (passed (after-head-ok .head-ok .ensures) (else1 .if1 .left)),
+      body-masks (start .args .state .now) (passed (after-body-ok .body-ok .ensures) (else2 .if2 .left)),
+    )
 
 returns-4 : tie.Need-returns-4
 returns-4 c =
@@ -56,8 +56,11 @@ rest-zero-requires c κs =
     let after-journal-ok : tie.After-journal-ok = search in
     let else3 : tie.Else3 = search in
     let after-leaders-ok : tie.After-leaders-ok = search in
-    let start : tie.Start = search in
-    (start .pre, leaders-few _ (passed (after-leaders-ok .leaders-ok .ensures) (else3 .if3 .left)), journal-few _ (passed (after-journal-ok .journal-ok .ensures) (c .if4 .left)))
+    let start : tie.Start = search in (
+      start .pre,
+      leaders-few _ (passed (after-leaders-ok .leaders-ok .ensures) (else3 .if3 .left)),
+      journal-few _ (passed (after-journal-ok .journal-ok .ensures) (c .if4 .left)),
+    )
 
 returns-5 : tie.Need-returns-5
 returns-5 c =
@@ -69,13 +72,16 @@ returns-5 c =
     let after-body-ok : tie.After-body-ok = search in
     let else1 : tie.Else1 = search in
     let after-head-ok : tie.After-head-ok = search in
-    c .rest-zero .ensures ∙ sym (rest-decides _ (passed (after-head-ok .head-ok .ensures) (else1 .if1 .left)) (passed (after-body-ok .body-ok .ensures) (else2 .if2 .left)) (passed (after-leaders-ok .leaders-ok .ensures) (else3 .if3 .left)) (passed (after-journal-ok .journal-ok .ensures) (else4 .if4 .left)))
+    c .rest-zero .ensures
+    ∙ sym (rest-decides _ (passed (after-head-ok .head-ok .ensures) (else1 .if1 .left))
+    (passed (after-body-ok .body-ok .ensures) (else2 .if2 .left)) (passed (after-leaders-ok .leaders-ok .ensures) (else3 .if3 .left))
+    (passed (after-journal-ok .journal-ok .ensures) (else4 .if4 .left)))
 
 pub is-well-formed-spec : {M : Type 1} → statement M
 is-well-formed-spec =
     tie.close
     (tie.spec
-    head-ok-requires
+    (λ c κs. search needs)
     returns
     body-ok-requires
     returns-2

@@ -9,7 +9,8 @@ use Rattle.record.proofs.Booleans.{passed, failed}
 use Rattle.record.proofs.Below.{all-none, all-more}
 use Rattle.record.proofs.Turn.{round-range}
 use Rattle.replica.specs.State.{journalCount}
-use Rattle.replica.proofs.Marks.{Marked, marked-none, marked-more, mark-at, newId, entry-new, entry-strange, entry-twice, journal-long, journal-stop, journal-decides}
+use Rattle.replica.proofs.Marks.{Marked, marked-none, marked-more, mark-at, newId, entry-new, entry-strange, entry-twice, journal-long}
+use Rattle.replica.proofs.Marks.{journal-stop, journal-decides}
 use Rattle.replica.proofs.wellformed.journal_ok.Statement.{statement}
 use Rattle.replica.proofs.wellformed.journal_ok.Tie as tie
 
@@ -18,15 +19,6 @@ Inv-loop state n count marks₀ i₀ marks i = (i ≤ count) × (count ≡ journ
 
 abbrev μ-loop : tie.MeasureT-loop
 μ-loop state n count marks₀ i₀ marks i = count - i
-
-shared-slice-read-n : tie.Need-shared-slice-read-n Inv-loop μ-loop
-shared-slice-read-n c = search needs
-
-shared-slice-read-wide : tie.Need-shared-slice-read-wide Inv-loop μ-loop
-shared-slice-read-wide c = search needs
-
-wide-requires : tie.Need-wide-requires Inv-loop μ-loop
-wide-requires c κs = search needs
 
 returns : tie.Need-returns Inv-loop μ-loop
 returns c =
@@ -39,33 +31,19 @@ loop-holds c =
     let after-wide : tie.After-wide Inv-loop μ-loop = search in
     (omega arith, after-wide .wide .ensures, omega arith, all-none _, marked-none _)
 
-add-x : tie.Need-add-x Inv-loop μ-loop
-add-x c = search needs
-
-mul-x : tie.Need-mul-x Inv-loop μ-loop
-mul-x c = search needs
-
-shared-slice-read-x : tie.Need-shared-slice-read-x Inv-loop μ-loop
-shared-slice-read-x c = search needs
-
-is-id-requires : tie.Need-is-id-requires Inv-loop μ-loop
-is-id-requires c κs = search needs
-
 returns-2 : tie.Need-returns-2 Inv-loop μ-loop
 returns-2 c =
     let after-is-id : tie.After-is-id Inv-loop μ-loop = search in
     let in-loop : tie.In-loop Inv-loop μ-loop = search in
     let at-loop : tie.At-loop Inv-loop μ-loop = search in
     let start : tie.Start Inv-loop μ-loop = search in
-    sym (journal-stop (start .args .state .now) (at-loop .loop .i) (rw (at-loop .loop .inv .1) at (in-loop .loop-test .taken)) (entry-strange (start .args .state .now) (at-loop .loop .i) (failed (after-is-id .is-id .ensures) (c .if2 .taken))))
+    sym (journal-stop (start .args .state .now) (at-loop .loop .i) (rw (at-loop .loop .inv .1) at (in-loop .loop-test .taken))
+    (entry-strange (start .args .state .now) (at-loop .loop .i) (failed (after-is-id .is-id .ensures) (c .if2 .taken))))
 
 sub-wide : tie.Need-sub-wide Inv-loop μ-loop
 sub-wide c =
     let after-is-id : tie.After-is-id Inv-loop μ-loop = search in
     let q = round-range _ ((passed (after-is-id .is-id .ensures) (c .if2 .left))) in omega (arith, q .0)
-
-wide-requires-2 : tie.Need-wide-requires-2 Inv-loop μ-loop
-wide-requires-2 c κs = search needs
 
 mul-marks : tie.Need-mul-marks Inv-loop μ-loop
 mul-marks c =
@@ -79,9 +57,6 @@ array-read-marks c =
     let after-is-id : tie.After-is-id Inv-loop μ-loop = search in
     let q = round-range _ ((passed (after-is-id .is-id .ensures) (else2 .if2 .left))) in omega (arith, q .0, q .1, c .wide2 .ensures)
 
-has-requires : tie.Need-has-requires Inv-loop μ-loop
-has-requires c κs = search needs
-
 returns-3 : tie.Need-returns-3 Inv-loop μ-loop
 returns-3 c =
     let after-has : tie.After-has Inv-loop μ-loop = search in
@@ -92,7 +67,8 @@ returns-3 c =
     let at-loop : tie.At-loop Inv-loop μ-loop = search in
     let start : tie.Start Inv-loop μ-loop = search in
     let q = round-range _ ((passed (after-is-id .is-id .ensures) (else2 .if2 .left))) in
-    sym (journal-stop (start .args .state .now) (at-loop .loop .i) (rw (at-loop .loop .inv .1) at (in-loop .loop-test .taken)) (entry-twice (start .args .state .now) (at-loop .loop .i)
+    sym (journal-stop (start .args .state .now) (at-loop .loop .i) (rw (at-loop .loop .inv .1) at (in-loop .loop-test .taken))
+    (entry-twice (start .args .state .now) (at-loop .loop .i)
     (sym (mark-at _ _ _ _ _ (at-loop .loop .inv .4) (q .0) (q .1) (after-wide2 .wide2 .ensures)) ∙ sym (after-has .has .ensures) ∙ c .if3 .taken)))
 
 mul-marks-2 : tie.Need-mul-marks-2 Inv-loop μ-loop
@@ -109,9 +85,6 @@ array-read-marks-2 c =
     let after-is-id : tie.After-is-id Inv-loop μ-loop = search in
     let q = round-range _ ((passed (after-is-id .is-id .ensures) (else2 .if2 .left))) in omega (arith, q .0, q .1, after-wide2 .wide2 .ensures)
 
-power-requires : tie.Need-power-requires Inv-loop μ-loop
-power-requires c κs = search needs
-
 mul-marks-3 : tie.Need-mul-marks-3 Inv-loop μ-loop
 mul-marks-3 c =
     let after-wide2 : tie.After-wide2 Inv-loop μ-loop = search in
@@ -125,12 +98,6 @@ array-write-marks c =
     let else2 : tie.Else2 Inv-loop μ-loop = search in
     let after-is-id : tie.After-is-id Inv-loop μ-loop = search in
     let q = round-range _ ((passed (after-is-id .is-id .ensures) (else2 .if2 .left))) in omega (arith, q .0, q .1, after-wide2 .wide2 .ensures)
-
-add-i : tie.Need-add-i Inv-loop μ-loop
-add-i c = search needs
-
-loop-less : tie.Need-loop-less Inv-loop μ-loop
-loop-less c = search needs
 
 loop-again : tie.Need-loop-again Inv-loop μ-loop
 loop-again c =
@@ -146,19 +113,23 @@ loop-again c =
       omega arith,
       at-loop .loop .inv .1,
       at-loop .loop .inv .2,
-      all-more _ _ (at-loop .loop .inv .3) (entry-new (start .args .state .now) (at-loop .loop .i) o (sym (mark-at _ _ _ _ _ (at-loop .loop .inv .4) (q .0) (q .1) (after-wide2 .wide2 .ensures)) ∙ sym (after-has .has .ensures) ∙ else3 .if3 .left)),
-      rw (c .power .ensures) (marked-more (start .args .state .now) (at-loop .loop .i) (at-loop .loop .marks) _ _ (start .pre .0) (rw (at-loop .loop .inv .1) at (at-loop .loop .inv .2)) (rw (at-loop .loop .inv .1) at (in-loop .loop-test .taken)) refl (at-loop .loop .inv .4) (q .0) (q .1) (after-wide2 .wide2 .ensures)),
+      all-more _ _ (at-loop .loop .inv .3)
+          (entry-new (start .args .state .now) (at-loop .loop .i) o
+          (sym (mark-at _ _ _ _ _ (at-loop .loop .inv .4) (q .0) (q .1) (after-wide2 .wide2 .ensures)) ∙ sym (after-has .has .ensures)
+          ∙ else3 .if3 .left)),
+      rw (c .power .ensures) (marked-more (start .args .state .now) (at-loop .loop .i) (at-loop .loop .marks) _ _ (start .pre .0)
+          (rw (at-loop .loop .inv .1) at (at-loop .loop .inv .2)) (rw (at-loop .loop .inv .1) at (in-loop .loop-test .taken)) refl
+          (at-loop .loop .inv .4) (q .0) (q .1) (after-wide2 .wide2 .ensures)),
     )
-
-all-marked-requires : tie.Need-all-marked-requires Inv-loop μ-loop
-all-marked-requires c κs = search needs
 
 returns-4 : tie.Need-returns-4 Inv-loop μ-loop
 returns-4 c =
     let at-loop : tie.At-loop Inv-loop μ-loop = search in
     let start : tie.Start Inv-loop μ-loop = search in
     let e : at-loop .loop .i ≡ journalCount (start .args .state .now) = omega arith in
-    c .all-marked .ensures ∙ journal-decides (start .args .state .now) (at-loop .loop .marks) (start .pre .0) (start .pre .1) (start .pre .2) (rw (at-loop .loop .inv .1) at (at-loop .loop .inv .2)) (rw e at (at-loop .loop .inv .3)) (rw e at (at-loop .loop .inv .4))
+    c .all-marked .ensures
+    ∙ journal-decides (start .args .state .now) (at-loop .loop .marks) (start .pre .0) (start .pre .1) (start .pre .2) (rw (at-loop .loop .inv .1)
+    at (at-loop .loop .inv .2)) (rw e at (at-loop .loop .inv .3)) (rw e at (at-loop .loop .inv .4))
 
 pub journal-ok-spec : {M : Type 1} → statement M
 journal-ok-spec =
@@ -166,29 +137,29 @@ journal-ok-spec =
     (tie.spec
     Inv-loop
     μ-loop
-    shared-slice-read-n
-    shared-slice-read-wide
-    wide-requires
+    (λ c. search needs)
+    (λ c. search needs)
+    (λ c κs. search needs)
     returns
     loop-holds
-    add-x
-    mul-x
-    shared-slice-read-x
-    is-id-requires
+    (λ c. search needs)
+    (λ c. search needs)
+    (λ c. search needs)
+    (λ c κs. search needs)
     returns-2
     sub-wide
-    wide-requires-2
+    (λ c κs. search needs)
     mul-marks
     array-read-marks
-    has-requires
+    (λ c κs. search needs)
     returns-3
     mul-marks-2
     array-read-marks-2
-    power-requires
+    (λ c κs. search needs)
     mul-marks-3
     array-write-marks
-    add-i
-    loop-less
+    (λ c. search needs)
+    (λ c. search needs)
     loop-again
-    all-marked-requires
+    (λ c κs. search needs)
     returns-4)

@@ -5,30 +5,12 @@ use Rattle.replica.specs.WellFormed.{lastLeaderRound}
 use Rattle.replica.proofs.wellformed.last_ok.Statement.{statement}
 use Rattle.replica.proofs.wellformed.last_ok.Tie as tie
 
-shared-slice-read-result : tie.Need-shared-slice-read-result
-shared-slice-read-result c = search needs
-
 returns : tie.Need-returns
 unfolding lastLeaderRound
 returns c =
     let then1 : tie.Then1 = search in
     let start : tie.Start = search in
     rw (← start .pre .1, eq-eqb _ _ (then1 .if1 .taken))
-
-sub-result : tie.Need-sub-result
-sub-result c = search needs
-
-add-result : tie.Need-add-result
-add-result c = search needs
-
-mul-result : tie.Need-mul-result
-mul-result c = search needs
-
-shared-slice-read-result-2 : tie.Need-shared-slice-read-result-2
-shared-slice-read-result-2 c = search needs
-
-shared-slice-read-result-3 : tie.Need-shared-slice-read-result-3
-shared-slice-read-result-3 c = search needs
 
 returns-2 : tie.Need-returns-2
 unfolding lastLeaderRound
@@ -41,11 +23,11 @@ pub last-ok-spec : {M : Type 1} → statement M
 last-ok-spec =
     tie.close
     (tie.spec
-    shared-slice-read-result
+    (λ c. search needs)
     returns
-    sub-result
-    add-result
-    mul-result
-    shared-slice-read-result-2
-    shared-slice-read-result-3
+    (λ c. search needs)
+    (λ c. search needs)
+    (λ c. search needs)
+    (λ c. search needs)
+    (λ c. search needs)
     returns-2)

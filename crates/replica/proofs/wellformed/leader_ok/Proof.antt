@@ -7,18 +7,6 @@ use Rattle.replica.specs.WellFormed.{leaderOk}
 use Rattle.replica.proofs.wellformed.leader_ok.Statement.{statement}
 use Rattle.replica.proofs.wellformed.leader_ok.Tie as tie
 
-add-x : tie.Need-add-x
-add-x c = search needs
-
-mul-x : tie.Need-mul-x
-mul-x c = search needs
-
-shared-slice-read-x : tie.Need-shared-slice-read-x
-shared-slice-read-x c = search needs
-
-is-held-requires : tie.Need-is-held-requires
-is-held-requires c κs = search needs
-
 returns : tie.Need-returns
 unfolding leaderOk
 returns c =
@@ -48,19 +36,11 @@ returns-3 c =
     let else1 : tie.Else1 = search in
     let after-is-held : tie.After-is-held = search in
     let start : tie.Start = search in
-    simp (passed (after-is-held .is-held .ensures) (else1 .if1 .left), eq-eqb _ _ (rw (after-leader-of .leader-of .ensures, start .pre .1) at (else2 .if2 .left)), eq-eqb _ _ (c .if3 .taken))
-
-sub-result : tie.Need-sub-result
-sub-result c = search needs
-
-add-result : tie.Need-add-result
-add-result c = search needs
-
-mul-result : tie.Need-mul-result
-mul-result c = search needs
-
-shared-slice-read-result : tie.Need-shared-slice-read-result
-shared-slice-read-result c = search needs
+    simp (
+      passed (after-is-held .is-held .ensures) (else1 .if1 .left),
+      eq-eqb _ _ (rw (after-leader-of .leader-of .ensures, start .pre .1) at (else2 .if2 .left)),
+      eq-eqb _ _ (c .if3 .taken),
+    )
 
 returns-4 : tie.Need-returns-4
 unfolding leaderOk
@@ -71,22 +51,26 @@ returns-4 c =
     let else1 : tie.Else1 = search in
     let after-is-held : tie.After-is-held = search in
     let start : tie.Start = search in
-    simp (passed (after-is-held .is-held .ensures) (else1 .if1 .left), eq-eqb _ _ (rw (after-leader-of .leader-of .ensures, start .pre .1) at (else2 .if2 .left)), ne-eqb _ _ (else3 .if3 .left))
+    simp (
+      passed (after-is-held .is-held .ensures) (else1 .if1 .left),
+      eq-eqb _ _ (rw (after-leader-of .leader-of .ensures, start .pre .1) at (else2 .if2 .left)),
+      ne-eqb _ _ (else3 .if3 .left),
+    )
 
 pub leader-ok-spec : {M : Type 1} → statement M
 leader-ok-spec =
     tie.close
     (tie.spec
-    add-x
-    mul-x
-    shared-slice-read-x
-    is-held-requires
+    (λ c. search needs)
+    (λ c. search needs)
+    (λ c. search needs)
+    (λ c κs. search needs)
     returns
     leader-of-requires
     returns-2
     returns-3
-    sub-result
-    add-result
-    mul-result
-    shared-slice-read-result
+    (λ c. search needs)
+    (λ c. search needs)
+    (λ c. search needs)
+    (λ c. search needs)
     returns-4)

@@ -20,15 +20,6 @@ Inv-loop state n count i₀ i = (i ≤ count) × (n ≡ memberCount state) × (c
 abbrev μ-loop : tie.MeasureT-loop
 μ-loop state n count i₀ i = count - i
 
-shared-slice-read-n : tie.Need-shared-slice-read-n Inv-loop μ-loop
-shared-slice-read-n c = search needs
-
-shared-slice-read-wide : tie.Need-shared-slice-read-wide Inv-loop μ-loop
-shared-slice-read-wide c = search needs
-
-wide-requires : tie.Need-wide-requires Inv-loop μ-loop
-wide-requires c κs = search needs
-
 returns : tie.Need-returns Inv-loop μ-loop
 unfolding leadersOk
 returns c =
@@ -53,19 +44,22 @@ returns-2 c =
     let in-loop : tie.In-loop Inv-loop μ-loop = search in
     let at-loop : tie.At-loop Inv-loop μ-loop = search in
     let start : tie.Start Inv-loop μ-loop = search in
-    simp (le-leb _ _ (rw (at-loop .loop .inv .2) at (at-loop .loop .inv .3)), all-stop _ (leaderOk (start .args .state .now)) (at-loop .loop .i) (rw (at-loop .loop .inv .2) at (in-loop .loop-test .taken)) (failed (after-leader-ok .leader-ok .ensures) (c .if2 .taken)))
-
-add-i : tie.Need-add-i Inv-loop μ-loop
-add-i c = search needs
-
-loop-less : tie.Need-loop-less Inv-loop μ-loop
-loop-less c = search needs
+    simp (
+      le-leb _ _ (rw (at-loop .loop .inv .2) at (at-loop .loop .inv .3)),
+      all-stop _ (leaderOk (start .args .state .now)) (at-loop .loop .i)
+          (rw (at-loop .loop .inv .2) at (in-loop .loop-test .taken)) (failed (after-leader-ok .leader-ok .ensures) (c .if2 .taken)),
+    )
 
 loop-again : tie.Need-loop-again Inv-loop μ-loop
 loop-again c =
     let after-leader-ok : tie.After-leader-ok Inv-loop μ-loop = search in
-    let at-loop : tie.At-loop Inv-loop μ-loop = search in
-    (omega arith, at-loop .loop .inv .1, at-loop .loop .inv .2, at-loop .loop .inv .3, all-more _ _ (at-loop .loop .inv .4) (passed (after-leader-ok .leader-ok .ensures) (c .if2 .left)))
+    let at-loop : tie.At-loop Inv-loop μ-loop = search in (
+      omega arith,
+      at-loop .loop .inv .1,
+      at-loop .loop .inv .2,
+      at-loop .loop .inv .3,
+      all-more _ _ (at-loop .loop .inv .4) (passed (after-leader-ok .leader-ok .ensures) (c .if2 .left)),
+    )
 
 last-ok-requires : tie.Need-last-ok-requires Inv-loop μ-loop
 last-ok-requires c κs =
@@ -78,7 +72,11 @@ unfolding leadersOk
 returns-3 c =
     let at-loop : tie.At-loop Inv-loop μ-loop = search in
     let start : tie.Start Inv-loop μ-loop = search in
-    let e : at-loop .loop .i ≡ leaderCount (start .args .state .now) = omega arith in simp (le-leb _ _ (rw (at-loop .loop .inv .2) at (at-loop .loop .inv .3)), rw e at (at-loop .loop .inv .4)) (c .last-ok .ensures)
+    let e : at-loop .loop .i
+    ≡ leaderCount (start .args .state .now) = omega arith in simp (
+      le-leb _ _ (rw (at-loop .loop .inv .2) at (at-loop .loop .inv .3)),
+      rw e at (at-loop .loop .inv .4),
+    ) (c .last-ok .ensures)
 
 pub leaders-ok-spec : {M : Type 1} → statement M
 leaders-ok-spec =
@@ -86,15 +84,15 @@ leaders-ok-spec =
     (tie.spec
     Inv-loop
     μ-loop
-    shared-slice-read-n
-    shared-slice-read-wide
-    wide-requires
+    (λ c. search needs)
+    (λ c. search needs)
+    (λ c κs. search needs)
     returns
     loop-holds
     leader-ok-requires
     returns-2
-    add-i
-    loop-less
+    (λ c. search needs)
+    (λ c. search needs)
     loop-again
     last-ok-requires
     returns-3)

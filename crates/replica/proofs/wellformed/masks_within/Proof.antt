@@ -20,24 +20,13 @@ abbrev μ-loop : tie.MeasureT-loop
 loop-holds : tie.Need-loop-holds Inv-loop μ-loop
 loop-holds c = (omega arith, all-none _)
 
-add-round-within : tie.Need-add-round-within Inv-loop μ-loop
-add-round-within c = search needs
-
-round-within-requires : tie.Need-round-within-requires Inv-loop μ-loop
-round-within-requires c κs = search needs
-
 returns : tie.Need-returns Inv-loop μ-loop
 returns c =
     let after-round-within : tie.After-round-within Inv-loop μ-loop = search in
     let at-loop : tie.At-loop Inv-loop μ-loop = search in
     let start : tie.Start Inv-loop μ-loop = search in
-    sym (all-stop 32 (λ k. masksWithin (start .args .state .now) (k + 1)) (at-loop .loop .i) (omega arith) (failed (after-round-within .round-within .ensures) (c .if1 .taken)))
-
-add-i : tie.Need-add-i Inv-loop μ-loop
-add-i c = search needs
-
-loop-less : tie.Need-loop-less Inv-loop μ-loop
-loop-less c = search needs
+    sym (all-stop 32 (λ k. masksWithin (start .args .state .now) (k + 1)) (at-loop .loop .i) (omega arith)
+    (failed (after-round-within .round-within .ensures) (c .if1 .taken)))
 
 loop-again : tie.Need-loop-again Inv-loop μ-loop
 loop-again c =
@@ -57,10 +46,10 @@ masks-within-spec =
     Inv-loop
     μ-loop
     loop-holds
-    add-round-within
-    round-within-requires
+    (λ c. search needs)
+    (λ c κs. search needs)
     returns
-    add-i
-    loop-less
+    (λ c. search needs)
+    (λ c. search needs)
     loop-again
     returns-2)

@@ -34,7 +34,15 @@ cell-ok-requires : tie.Need-cell-ok-requires Inv-loop μ-loop
 cell-ok-requires c κs =
     let at-loop : tie.At-loop Inv-loop μ-loop = search in
     let start : tie.Start Inv-loop μ-loop = search in
-    let g = legal-range _ (start .pre .2) in (start .pre .0, at-loop .loop .inv .1, rw (start .pre .1) at (start .pre .2), start .pre .3, start .pre .4, start .pre .5, omega (arith, g .high))
+    let g = legal-range _ (start .pre .2) in (
+      start .pre .0,
+      at-loop .loop .inv .1,
+      rw (start .pre .1) at (start .pre .2),
+      start .pre .3,
+      start .pre .4,
+      start .pre .5,
+      omega (arith, g .high),
+    )
 
 returns : tie.Need-returns Inv-loop μ-loop
 returns c =
@@ -42,13 +50,8 @@ returns c =
     let in-loop : tie.In-loop Inv-loop μ-loop = search in
     let at-loop : tie.At-loop Inv-loop μ-loop = search in
     let start : tie.Start Inv-loop μ-loop = search in
-    sym (all-stop (start .args .n) (cellOk (start .args .state .now) (start .args .round)) (at-loop .loop .p) (in-loop .loop-test .taken) (failed (after-cell-ok .cell-ok .ensures) (c .if1 .taken)))
-
-add-p : tie.Need-add-p Inv-loop μ-loop
-add-p c = search needs
-
-loop-less : tie.Need-loop-less Inv-loop μ-loop
-loop-less c = search needs
+    sym (all-stop (start .args .n) (cellOk (start .args .state .now) (start .args .round)) (at-loop .loop .p) (in-loop .loop-test .taken)
+    (failed (after-cell-ok .cell-ok .ensures) (c .if1 .taken)))
 
 loop-again : tie.Need-loop-again Inv-loop μ-loop
 loop-again c =
@@ -72,7 +75,7 @@ members-ok-spec =
     loop-holds
     cell-ok-requires
     returns
-    add-p
-    loop-less
+    (λ c. search needs)
+    (λ c. search needs)
     loop-again
     returns-2)

@@ -21,38 +21,24 @@ abbrev μ-loop : tie.MeasureT-loop
 loop-holds : tie.Need-loop-holds Inv-loop μ-loop
 loop-holds c = (omega arith, all-none _)
 
-add-ordered-mask : tie.Need-add-ordered-mask Inv-loop μ-loop
-add-ordered-mask c = search needs
-
-ordered-mask-requires : tie.Need-ordered-mask-requires Inv-loop μ-loop
-ordered-mask-requires c κs = search needs
-
-add-held-mask : tie.Need-add-held-mask Inv-loop μ-loop
-add-held-mask c = search needs
-
-held-mask-requires : tie.Need-held-mask-requires Inv-loop μ-loop
-held-mask-requires c κs = search needs
-
 returns : tie.Need-returns Inv-loop μ-loop
 returns c =
     let after-held-mask : tie.After-held-mask Inv-loop μ-loop = search in
     let after-ordered-mask : tie.After-ordered-mask Inv-loop μ-loop = search in
     let at-loop : tie.At-loop Inv-loop μ-loop = search in
     let start : tie.Start Inv-loop μ-loop = search in
-    sym (all-stop 32 (λ k. subset (orderedMask (start .args .state .now) (k + 1)) (heldMask (start .args .state .now) (k + 1))) (at-loop .loop .i) (omega arith) (ne-eqb _ _ (rw (after-ordered-mask .ordered-mask .ensures, after-held-mask .held-mask .ensures) at (c .if1 .taken))))
-
-add-i : tie.Need-add-i Inv-loop μ-loop
-add-i c = search needs
-
-loop-less : tie.Need-loop-less Inv-loop μ-loop
-loop-less c = search needs
+    sym (all-stop 32 (λ k. subset (orderedMask (start .args .state .now) (k + 1)) (heldMask (start .args .state .now) (k + 1))) (at-loop .loop .i)
+    (omega arith) (ne-eqb _ _ (rw (after-ordered-mask .ordered-mask .ensures, after-held-mask .held-mask .ensures) at (c .if1 .taken))))
 
 loop-again : tie.Need-loop-again Inv-loop μ-loop
 loop-again c =
     let after-held-mask : tie.After-held-mask Inv-loop μ-loop = search in
     let after-ordered-mask : tie.After-ordered-mask Inv-loop μ-loop = search in
-    let at-loop : tie.At-loop Inv-loop μ-loop = search in
-    (omega arith, all-more _ _ (at-loop .loop .inv .1) (eq-eqb _ _ (rw (after-ordered-mask .ordered-mask .ensures, after-held-mask .held-mask .ensures) at (c .if1 .left))))
+    let at-loop : tie.At-loop Inv-loop μ-loop = search in (
+      omega arith,
+      all-more _ _ (at-loop .loop .inv .1)
+          (eq-eqb _ _ (rw (after-ordered-mask .ordered-mask .ensures, after-held-mask .held-mask .ensures) at (c .if1 .left))),
+    )
 
 returns-2 : tie.Need-returns-2 Inv-loop μ-loop
 returns-2 c =
@@ -66,12 +52,12 @@ ordered-held-spec =
     Inv-loop
     μ-loop
     loop-holds
-    add-ordered-mask
-    ordered-mask-requires
-    add-held-mask
-    held-mask-requires
+    (λ c. search needs)
+    (λ c κs. search needs)
+    (λ c. search needs)
+    (λ c κs. search needs)
     returns
-    add-i
-    loop-less
+    (λ c. search needs)
+    (λ c. search needs)
     loop-again
     returns-2)

@@ -22,13 +22,9 @@ returns c =
     let after-masks-admitted : tie.After-masks-admitted = search in
     let start : tie.Start = search in
     let e : start .args .terms .n ≡ memberCount (start .args .state .now) = ap (λ (t : Terms). t .n) (start .pre .1) in
-    sym (masks-refused (memberCount (start .args .state .now)) (start .args .round) (start .args .source) (start .args .state .now) (start .args .body .now) (start .pre .2) (start .pre .4) (start .pre .5) (start .pre .6) (start .pre .7) (rw e at (failed (after-masks-admitted .masks-admitted .ensures) (c .if1 .taken))))
-
-shared-slice-read-strong-held : tie.Need-shared-slice-read-strong-held
-shared-slice-read-strong-held c = search needs
-
-strong-held-requires : tie.Need-strong-held-requires
-strong-held-requires c κs = search needs
+    sym (masks-refused (memberCount (start .args .state .now)) (start .args .round) (start .args .source) (start .args .state .now)
+    (start .args .body .now) (start .pre .2) (start .pre .4) (start .pre .5) (start .pre .6) (start .pre .7)
+    (rw e at (failed (after-masks-admitted .masks-admitted .ensures) (c .if1 .taken))))
 
 returns-2 : tie.Need-returns-2
 unfolding strongOf
@@ -38,7 +34,10 @@ returns-2 c =
     let after-masks-admitted : tie.After-masks-admitted = search in
     let start : tie.Start = search in
     let e : start .args .terms .n ≡ memberCount (start .args .state .now) = ap (λ (t : Terms). t .n) (start .pre .1) in
-    sym (sym (masks-passed (memberCount (start .args .state .now)) (start .args .round) (start .args .source) (start .args .state .now) (start .args .body .now) (start .pre .2) (start .pre .4) (start .pre .5) (start .pre .6) (start .pre .7) (rw e at (passed (after-masks-admitted .masks-admitted .ensures) (else1 .if1 .left)))) ∙ and-fails-left _ (failed (after-strong-held .strong-held .ensures) (c .if2 .taken)))
+    sym (sym (masks-passed (memberCount (start .args .state .now)) (start .args .round) (start .args .source) (start .args .state .now)
+    (start .args .body .now) (start .pre .2) (start .pre .4) (start .pre .5) (start .pre .6) (start .pre .7)
+    (rw e at (passed (after-masks-admitted .masks-admitted .ensures) (else1 .if1 .left))))
+    ∙ and-fails-left _ (failed (after-strong-held .strong-held .ensures) (c .if2 .taken)))
 
 weak-ok-requires : tie.Need-weak-ok-requires
 weak-ok-requires c κs =
@@ -55,7 +54,10 @@ returns-3 c =
     let after-masks-admitted : tie.After-masks-admitted = search in
     let start : tie.Start = search in
     let e : start .args .terms .n ≡ memberCount (start .args .state .now) = ap (λ (t : Terms). t .n) (start .pre .1) in
-    rw e at (c .weak-ok .ensures) ∙ rw (passed (after-strong-held .strong-held .ensures) (else2 .if2 .left)) at (masks-passed (memberCount (start .args .state .now)) (start .args .round) (start .args .source) (start .args .state .now) (start .args .body .now) (start .pre .2) (start .pre .4) (start .pre .5) (start .pre .6) (start .pre .7) (rw e at (passed (after-masks-admitted .masks-admitted .ensures) (else1 .if1 .left))))
+    rw e at (c .weak-ok .ensures)
+    ∙ rw (passed (after-strong-held .strong-held .ensures) (else2 .if2 .left)) at (masks-passed (memberCount (start .args .state .now))
+    (start .args .round) (start .args .source) (start .args .state .now) (start .args .body .now) (start .pre .2) (start .pre .4) (start .pre .5)
+    (start .pre .6) (start .pre .7) (rw e at (passed (after-masks-admitted .masks-admitted .ensures) (else1 .if1 .left))))
 
 pub record-ok-spec : {M : Type 1} → statement M
 record-ok-spec =
@@ -63,8 +65,8 @@ record-ok-spec =
     (tie.spec
     masks-admitted-requires
     returns
-    shared-slice-read-strong-held
-    strong-held-requires
+    (λ c. search needs)
+    (λ c κs. search needs)
     returns-2
     weak-ok-requires
     returns-3)

@@ -16,50 +16,26 @@ use borrow.Author.Needs.{needs}
 use Rattle.replica.proofs.wellformed.round_cells_ok.Statement.{statement}
 use Rattle.replica.proofs.wellformed.round_cells_ok.Tie as tie
 
-shared-slice-read-n : tie.Need-shared-slice-read-n
-shared-slice-read-n c = search needs
-
-cell-at-requires : tie.Need-cell-at-requires
-cell-at-requires c κs = search needs
-
-add-end : tie.Need-add-end
-add-end c = search needs
-
-held-mask-requires : tie.Need-held-mask-requires
-held-mask-requires c κs = search needs
-
-mul-is-zero : tie.Need-mul-is-zero
-mul-is-zero c = search needs
-
-sub-is-zero : tie.Need-sub-is-zero
-sub-is-zero c = search needs
-
-part-is-zero-start : tie.Need-part-is-zero-start
-part-is-zero-start c = search needs
-
-part-is-zero-end : tie.Need-part-is-zero-end
-part-is-zero-end c = search needs
-
-is-zero-requires : tie.Need-is-zero-requires
-is-zero-requires c κs = search needs
-
 returns : tie.Need-returns
 returns c =
     let then1 : tie.Then1 = search in
     let after-held-mask : tie.After-held-mask = search in
     let after-cell-at : tie.After-cell-at = search in
     let start : tie.Start = search in
-    c .is-zero .ensures ∙ words-part (start .args .state .now) _ _ (cellAt (start .args .round) 0) 160 (after-cell-at .cell-at .ensures) (omega (arith, after-cell-at .cell-at .ensures)) (omega arith) ∙ round-empty (start .args .state .now) (start .args .round) (sym (after-held-mask .held-mask .ensures) ∙ then1 .if1 .taken)
-
-members-ok-requires : tie.Need-members-ok-requires
-members-ok-requires c κs = search needs
+    c .is-zero .ensures
+    ∙ words-part (start .args .state .now) _ _ (cellAt (start .args .round) 0) 160 (after-cell-at .cell-at .ensures)
+    (omega (arith, after-cell-at .cell-at .ensures)) (omega arith)
+    ∙ round-empty (start .args .state .now) (start .args .round) (sym (after-held-mask .held-mask .ensures) ∙ then1 .if1 .taken)
 
 returns-2 : tie.Need-returns-2
 returns-2 c =
     let after-members-ok : tie.After-members-ok = search in
     let start : tie.Start = search in
     let g = legal-range _ (start .pre .1) in
-    sym (sym (round-rest (start .args .state .now) (start .args .round) (memberCount (start .args .state .now)) (g .high) (masks-small (start .args .state .now) (start .args .round) (round-elim (masksWithin (start .args .state .now)) (start .pre .2) (start .args .round) (start .pre .3) (start .pre .4)) .held)) ∙ and-fails-left _ (failed (after-members-ok .members-ok .ensures) (c .if2 .taken)))
+    sym (sym (round-rest (start .args .state .now) (start .args .round) (memberCount (start .args .state .now)) (g .high)
+    (masks-small (start .args .state .now) (start .args .round)
+    (round-elim (masksWithin (start .args .state .now)) (start .pre .2) (start .args .round) (start .pre .3) (start .pre .4)) .held))
+    ∙ and-fails-left _ (failed (after-members-ok .members-ok .ensures) (c .if2 .taken)))
 
 rest-cells-zero-requires : tie.Need-rest-cells-zero-requires
 rest-cells-zero-requires c κs =
@@ -77,23 +53,25 @@ returns-3 c =
     let n = memberCount (start .args .state .now) in
     let place : after-cell-at .cell-at .result + 10 * n ≡ cellAt (start .args .round) n = omega (arith, after-cell-at .cell-at .ensures) in
     c .rest-cells-zero .ensures ∙ ap (λ (a : ℕ). all (10 * (16 - n)) (λ i. eqb (getD (start .args .state .now) (a + i) 0) 0)) place
-    ∙ rw (passed (after-members-ok .members-ok .ensures) (else2 .if2 .left)) at (round-rest (start .args .state .now) (start .args .round) n (g .high) (masks-small (start .args .state .now) (start .args .round) (round-elim (masksWithin (start .args .state .now)) (start .pre .2) (start .args .round) (start .pre .3) (start .pre .4)) .held))
+    ∙ rw (passed (after-members-ok .members-ok .ensures) (else2 .if2 .left)) at (round-rest (start .args .state .now) (start .args .round) n (g .high)
+    (masks-small (start .args .state .now) (start .args .round)
+    (round-elim (masksWithin (start .args .state .now)) (start .pre .2) (start .args .round) (start .pre .3) (start .pre .4)) .held))
 
 pub round-cells-ok-spec : {M : Type 1} → statement M
 round-cells-ok-spec =
     tie.close
     (tie.spec
-    shared-slice-read-n
-    cell-at-requires
-    add-end
-    held-mask-requires
-    mul-is-zero
-    sub-is-zero
-    part-is-zero-start
-    part-is-zero-end
-    is-zero-requires
+    (λ c. search needs)
+    (λ c κs. search needs)
+    (λ c. search needs)
+    (λ c κs. search needs)
+    (λ c. search needs)
+    (λ c. search needs)
+    (λ c. search needs)
+    (λ c. search needs)
+    (λ c κs. search needs)
     returns
-    members-ok-requires
+    (λ c κs. search needs)
     returns-2
     rest-cells-zero-requires
     returns-3)

@@ -22,27 +22,13 @@ abbrev μ-loop : tie.MeasureT-loop
 loop-holds : tie.Need-loop-holds Inv-loop μ-loop
 loop-holds c = (omega arith, omega arith, all-intro _ (λ k. ltb k (c .args .count) || eqb (weakOf (c .args .body .now) k) 0) (λ k b. or-left _ (lt-ltb _ _ b)))
 
-add-if1 : tie.Need-add-if1 Inv-loop μ-loop
-add-if1 c = search needs
-
-mul-if1 : tie.Need-mul-if1 Inv-loop μ-loop
-mul-if1 c = search needs
-
-shared-slice-read-if1 : tie.Need-shared-slice-read-if1 Inv-loop μ-loop
-shared-slice-read-if1 c = search needs
-
 returns : tie.Need-returns Inv-loop μ-loop
 unfolding weakOf
 returns c =
     let at-loop : tie.At-loop Inv-loop μ-loop = search in
     let start : tie.Start Inv-loop μ-loop = search in
-    sym (all-stop 5 (λ k. ltb k (start .args .count) || eqb (weakOf (start .args .body .now) k) 0) (at-loop .loop .i) (omega arith) (rw (le-ltb (at-loop .loop .i) (start .args .count) (omega arith)) (ne-eqb _ _ (c .if1 .taken))))
-
-add-i : tie.Need-add-i Inv-loop μ-loop
-add-i c = search needs
-
-loop-less : tie.Need-loop-less Inv-loop μ-loop
-loop-less c = search needs
+    sym (all-stop 5 (λ k. ltb k (start .args .count) || eqb (weakOf (start .args .body .now) k) 0) (at-loop .loop .i) (omega arith)
+    (rw (le-ltb (at-loop .loop .i) (start .args .count) (omega arith)) (ne-eqb _ _ (c .if1 .taken))))
 
 loop-again : tie.Need-loop-again Inv-loop μ-loop
 unfolding weakOf
@@ -63,11 +49,11 @@ slots-zero-spec =
     Inv-loop
     μ-loop
     loop-holds
-    add-if1
-    mul-if1
-    shared-slice-read-if1
+    (λ c. search needs)
+    (λ c. search needs)
+    (λ c. search needs)
     returns
-    add-i
-    loop-less
+    (λ c. search needs)
+    (λ c. search needs)
     loop-again
     returns-2)

@@ -21,38 +21,24 @@ abbrev μ-loop : tie.MeasureT-loop
 loop-holds : tie.Need-loop-holds Inv-loop μ-loop
 loop-holds c = (omega arith, all-none _)
 
-add-votes-mask : tie.Need-add-votes-mask Inv-loop μ-loop
-add-votes-mask c = search needs
-
-votes-mask-requires : tie.Need-votes-mask-requires Inv-loop μ-loop
-votes-mask-requires c κs = search needs
-
-add-heard-mask : tie.Need-add-heard-mask Inv-loop μ-loop
-add-heard-mask c = search needs
-
-heard-mask-requires : tie.Need-heard-mask-requires Inv-loop μ-loop
-heard-mask-requires c κs = search needs
-
 returns : tie.Need-returns Inv-loop μ-loop
 returns c =
     let after-heard-mask : tie.After-heard-mask Inv-loop μ-loop = search in
     let after-votes-mask : tie.After-votes-mask Inv-loop μ-loop = search in
     let at-loop : tie.At-loop Inv-loop μ-loop = search in
     let start : tie.Start Inv-loop μ-loop = search in
-    sym (all-stop 32 (λ k. subset (votesMask (start .args .state .now) (k + 1)) (heardMask (start .args .state .now) (k + 1))) (at-loop .loop .i) (omega arith) (ne-eqb _ _ (rw (after-votes-mask .votes-mask .ensures, after-heard-mask .heard-mask .ensures) at (c .if1 .taken))))
-
-add-i : tie.Need-add-i Inv-loop μ-loop
-add-i c = search needs
-
-loop-less : tie.Need-loop-less Inv-loop μ-loop
-loop-less c = search needs
+    sym (all-stop 32 (λ k. subset (votesMask (start .args .state .now) (k + 1)) (heardMask (start .args .state .now) (k + 1))) (at-loop .loop .i)
+    (omega arith) (ne-eqb _ _ (rw (after-votes-mask .votes-mask .ensures, after-heard-mask .heard-mask .ensures) at (c .if1 .taken))))
 
 loop-again : tie.Need-loop-again Inv-loop μ-loop
 loop-again c =
     let after-heard-mask : tie.After-heard-mask Inv-loop μ-loop = search in
     let after-votes-mask : tie.After-votes-mask Inv-loop μ-loop = search in
-    let at-loop : tie.At-loop Inv-loop μ-loop = search in
-    (omega arith, all-more _ _ (at-loop .loop .inv .1) (eq-eqb _ _ (rw (after-votes-mask .votes-mask .ensures, after-heard-mask .heard-mask .ensures) at (c .if1 .left))))
+    let at-loop : tie.At-loop Inv-loop μ-loop = search in (
+      omega arith,
+      all-more _ _ (at-loop .loop .inv .1)
+          (eq-eqb _ _ (rw (after-votes-mask .votes-mask .ensures, after-heard-mask .heard-mask .ensures) at (c .if1 .left))),
+    )
 
 returns-2 : tie.Need-returns-2 Inv-loop μ-loop
 returns-2 c =
@@ -66,12 +52,12 @@ votes-heard-spec =
     Inv-loop
     μ-loop
     loop-holds
-    add-votes-mask
-    votes-mask-requires
-    add-heard-mask
-    heard-mask-requires
+    (λ c. search needs)
+    (λ c κs. search needs)
+    (λ c. search needs)
+    (λ c κs. search needs)
     returns
-    add-i
-    loop-less
+    (λ c. search needs)
+    (λ c. search needs)
     loop-again
     returns-2)

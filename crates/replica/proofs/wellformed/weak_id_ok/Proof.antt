@@ -33,7 +33,9 @@ returns-3 c =
     let else2 : tie.Else2 = search in
     let else1 : tie.Else1 = search in
     let start : tie.Start = search in
-    rw (after-held-mask .held-mask .ensures) at (c .has .ensures) ∙ weak-held (start .args .state .now) (start .args .n) (start .args .round) (start .args .last) (start .args .x) (start .pre .1) (start .pre .2) (start .pre .4) (start .pre .5) (else1 .if1 .left) (else2 .if2 .left)
+    rw (after-held-mask .held-mask .ensures) at (c .has .ensures)
+    ∙ weak-held (start .args .state .now) (start .args .n) (start .args .round) (start .args .last) (start .args .x) (start .pre .1)
+    (start .pre .2) (start .pre .4) (start .pre .5) (else1 .if1 .left) (else2 .if2 .left)
 
 pub weak-id-ok-spec : {M : Type 1} → statement M
 weak-id-ok-spec =

@@ -16,22 +16,14 @@ use Rattle.replica.proofs.wellformed.weak_ids_ok.Statement.{statement}
 use Rattle.replica.proofs.wellformed.weak_ids_ok.Tie as tie
 
 abbrev Inv-loop : tie.InvT-loop
-Inv-loop state n round body count last₀ i₀ last i = (i ≤ count) × (15 ≤ last) × (i ≡ 0 → last ≡ 15) × (1 ≤ i → last ≡ weakOf body (i - 1)) × (all i (λ k. (rises body k && weakIdOk n round (weakOf body k)) && heldId state (weakOf body k)) ≡ true)
+Inv-loop state n round body count last₀ i₀ last i = (i ≤ count) × (15 ≤ last) × (i ≡ 0 → last ≡ 15) × (1 ≤ i → last ≡ weakOf body (i - 1))
+    × (all i (λ k. (rises body k && weakIdOk n round (weakOf body k)) && heldId state (weakOf body k)) ≡ true)
 
 abbrev μ-loop : tie.MeasureT-loop
 μ-loop state n round body count last₀ i₀ last i = count - i
 
 loop-holds : tie.Need-loop-holds Inv-loop μ-loop
 loop-holds c = (omega arith, omega arith, λ _. refl, λ h. absurd (omega arith), all-none _)
-
-add-x : tie.Need-add-x Inv-loop μ-loop
-add-x c = search needs
-
-mul-x : tie.Need-mul-x Inv-loop μ-loop
-mul-x c = search needs
-
-shared-slice-read-x : tie.Need-shared-slice-read-x Inv-loop μ-loop
-shared-slice-read-x c = search needs
 
 weak-id-ok-requires : tie.Need-weak-id-ok-requires Inv-loop μ-loop
 weak-id-ok-requires c κs =
@@ -46,13 +38,10 @@ returns c =
     let in-loop : tie.In-loop Inv-loop μ-loop = search in
     let at-loop : tie.At-loop Inv-loop μ-loop = search in
     let start : tie.Start Inv-loop μ-loop = search in
-    sym (all-stop _ _ (at-loop .loop .i) (in-loop .loop-test .taken) (sym (weak-slot (start .args .state .now) (start .args .n) (start .args .round) (start .args .body .now) (at-loop .loop .i) (at-loop .loop .last) _ refl (at-loop .loop .inv .2) (at-loop .loop .inv .3)) ∙ failed (after-weak-id-ok .weak-id-ok .ensures) (c .if1 .taken)))
-
-add-i : tie.Need-add-i Inv-loop μ-loop
-add-i c = search needs
-
-loop-less : tie.Need-loop-less Inv-loop μ-loop
-loop-less c = search needs
+    sym (all-stop _ _ (at-loop .loop .i) (in-loop .loop-test .taken)
+    (sym (weak-slot (start .args .state .now) (start .args .n) (start .args .round) (start .args .body .now) (at-loop .loop .i)
+    (at-loop .loop .last) _ refl (at-loop .loop .inv .2) (at-loop .loop .inv .3))
+    ∙ failed (after-weak-id-ok .weak-id-ok .ensures) (c .if1 .taken)))
 
 loop-again : tie.Need-loop-again Inv-loop μ-loop
 unfolding weakOf
@@ -63,10 +52,17 @@ loop-again c =
     let y = passed (after-weak-id-ok .weak-id-ok .ensures) (c .if1 .left) in
     let k : at-loop .loop .i ≡ at-loop .loop .i + 1 - 1 = omega arith in (
       omega arith,
-      omega (arith, at-loop .loop .inv .1, weak-above (start .args .state .now) (start .args .n) (start .args .round) (at-loop .loop .last) (getD (start .args .body .now) (5 + at-loop .loop .i) 0) y),
+      omega (
+        arith,
+        at-loop .loop .inv .1,
+        weak-above (start .args .state .now) (start .args .n) (start .args .round) (at-loop .loop .last)
+            (getD (start .args .body .now) (5 + at-loop .loop .i) 0) y,
+      ),
       λ h. absurd (omega arith),
       λ h. ap (weakOf (start .args .body .now)) k,
-      all-more _ _ (at-loop .loop .inv .4) (sym (weak-slot (start .args .state .now) (start .args .n) (start .args .round) (start .args .body .now) (at-loop .loop .i) (at-loop .loop .last) _ refl (at-loop .loop .inv .2) (at-loop .loop .inv .3)) ∙ y),
+      all-more _ _ (at-loop .loop .inv .4)
+          (sym (weak-slot (start .args .state .now) (start .args .n) (start .args .round) (start .args .body .now) (at-loop .loop .i)
+          (at-loop .loop .last) _ refl (at-loop .loop .inv .2) (at-loop .loop .inv .3)) ∙ y),
     )
 
 returns-2 : tie.Need-returns-2 Inv-loop μ-loop
@@ -82,12 +78,12 @@ weak-ids-ok-spec =
     Inv-loop
     μ-loop
     loop-holds
-    add-x
-    mul-x
-    shared-slice-read-x
+    (λ c. search needs)
+    (λ c. search needs)
+    (λ c. search needs)
     weak-id-ok-requires
     returns
-    add-i
-    loop-less
+    (λ c. search needs)
+    (λ c. search needs)
     loop-again
     returns-2)

@@ -12,24 +12,13 @@ use borrow.Author.Needs.{needs}
 use Rattle.replica.proofs.wellformed.weak_ok.Statement.{statement}
 use Rattle.replica.proofs.wellformed.weak_ok.Tie as tie
 
-faulty-of-requires : tie.Need-faulty-of-requires
-faulty-of-requires c κs = search needs
-
-shared-slice-read-if1 : tie.Need-shared-slice-read-if1
-shared-slice-read-if1 c = search needs
-
 returns : tie.Need-returns
 unfolding weakCountOf
 returns c =
     let after-faulty-of : tie.After-faulty-of = search in
     let start : tie.Start = search in
-    sym (and-fails-left _ (weak-many (start .args .n) (start .args .round) (start .args .body .now) (rw (after-faulty-of .faulty-of .ensures) at (c .if1 .taken))))
-
-shared-slice-read-wide : tie.Need-shared-slice-read-wide
-shared-slice-read-wide c = search needs
-
-wide-requires : tie.Need-wide-requires
-wide-requires c κs = search needs
+    sym (and-fails-left _
+    (weak-many (start .args .n) (start .args .round) (start .args .body .now) (rw (after-faulty-of .faulty-of .ensures) at (c .if1 .taken))))
 
 weak-ids-ok-requires : tie.Need-weak-ids-ok-requires
 unfolding weakCountOf
@@ -37,7 +26,15 @@ weak-ids-ok-requires c κs =
     let else1 : tie.Else1 = search in
     let after-faulty-of : tie.After-faulty-of = search in
     let start : tie.Start = search in
-    let g = legal-range _ (start .pre .2) in (start .pre .0, start .pre .1, start .pre .3, start .pre .4, start .pre .5, start .pre .6, omega (arith, c .wide .ensures, after-faulty-of .faulty-of .ensures, else1 .if1 .left))
+    let g = legal-range _ (start .pre .2) in (
+      start .pre .0,
+      start .pre .1,
+      start .pre .3,
+      start .pre .4,
+      start .pre .5,
+      start .pre .6,
+      omega (arith, c .wide .ensures, after-faulty-of .faulty-of .ensures, else1 .if1 .left),
+    )
 
 returns-2 : tie.Need-returns-2
 unfolding weakCountOf
@@ -49,7 +46,8 @@ returns-2 c =
     let start : tie.Start = search in
     let g = legal-range _ (start .pre .2) in
     let few : weakCountOf (start .args .body .now) ≤ faulty (start .args .n) = omega (arith, after-faulty-of .faulty-of .ensures, else1 .if1 .left) in
-    sym (sym (weak-all (start .args .state .now) (start .args .n) (start .args .round) (start .args .body .now) (omega arith) few) ∙ and-fails-left _ (rw (after-wide .wide .ensures) at (failed (after-weak-ids-ok .weak-ids-ok .ensures) (c .if2 .taken))))
+    sym (sym (weak-all (start .args .state .now) (start .args .n) (start .args .round) (start .args .body .now) (omega arith) few)
+    ∙ and-fails-left _ (rw (after-wide .wide .ensures) at (failed (after-weak-ids-ok .weak-ids-ok .ensures) (c .if2 .taken))))
 
 unused-zero-requires : tie.Need-unused-zero-requires
 unused-zero-requires c κs =
@@ -70,17 +68,19 @@ returns-3 c =
     let start : tie.Start = search in
     let g = legal-range _ (start .pre .2) in
     let few : weakCountOf (start .args .body .now) ≤ faulty (start .args .n) = omega (arith, after-faulty-of .faulty-of .ensures, else1 .if1 .left) in
-    rw (after-wide .wide .ensures) at (c .unused-zero .ensures) ∙ sym (rw (rw (after-wide .wide .ensures) at (passed (after-weak-ids-ok .weak-ids-ok .ensures) (else2 .if2 .left))) at (sym (weak-all (start .args .state .now) (start .args .n) (start .args .round) (start .args .body .now) (omega arith) few)))
+    rw (after-wide .wide .ensures) at (c .unused-zero .ensures)
+    ∙ sym (rw (rw (after-wide .wide .ensures) at (passed (after-weak-ids-ok .weak-ids-ok .ensures) (else2 .if2 .left)))
+    at (sym (weak-all (start .args .state .now) (start .args .n) (start .args .round) (start .args .body .now) (omega arith) few)))
 
 pub weak-ok-spec : {M : Type 1} → statement M
 weak-ok-spec =
     tie.close
     (tie.spec
-    faulty-of-requires
-    shared-slice-read-if1
+    (λ c κs. search needs)
+    (λ c. search needs)
     returns
-    shared-slice-read-wide
-    wide-requires
+    (λ c. search needs)
+    (λ c κs. search needs)
     weak-ids-ok-requires
     returns-2
     unused-zero-requires

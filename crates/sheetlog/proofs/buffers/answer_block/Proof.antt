@@ -13,7 +13,9 @@ use Rattle.sheetlog.proofs.buffers.flush.Reads as flush-reads
 use Rattle.sheetlog.proofs.buffers.take_byte.Reads as take-byte-reads
 
 abbrev Inv-loop : tie.InvT-loop
-Inv-loop input line₀ kept out₀ state₀ fill₀ i₀ line out state fill i = (i ≤ length input) × (fill .kept ≤ length line₀) × (fill .filled ≤ length out₀) × (length line ≡ length line₀) × (length out ≡ length out₀) × (length state ≡ length state₀) × Follows line₀ kept state₀ line (fill .kept) state (take i input)
+Inv-loop input line₀ kept out₀ state₀ fill₀ i₀ line out state fill i = (i ≤ length input) × (fill .kept ≤ length line₀) × (fill .filled ≤ length out₀)
+    × (length line ≡ length line₀) × (length out ≡ length out₀) × (length state ≡ length state₀)
+    × Follows line₀ kept state₀ line (fill .kept) state (take i input)
 
 abbrev μ-loop : tie.MeasureT-loop
 μ-loop input line₀ kept out₀ state₀ fill₀ i₀ line out state fill i = length input - i
@@ -21,35 +23,25 @@ abbrev μ-loop : tie.MeasureT-loop
 loop-holds : tie.Need-loop-holds Inv-loop μ-loop
 loop-holds c = (search needs, search needs, search needs, search needs, search needs, search needs, follows-none _ _ _)
 
-shared-slice-read-take-byte : tie.Need-shared-slice-read-take-byte Inv-loop μ-loop
-shared-slice-read-take-byte c = search needs
-
-take-byte-requires : tie.Need-take-byte-requires Inv-loop μ-loop
-take-byte-requires c κs = search needs
-
-add-i : tie.Need-add-i Inv-loop μ-loop
-add-i c = search needs
-
-loop-less : tie.Need-loop-less Inv-loop μ-loop
-loop-less c = search needs
-
 loop-again : tie.Need-loop-again Inv-loop μ-loop
-loop-again c = (search needs, search needs, search needs, search needs, search needs, search needs, follows-turn _ _ (c .before .before .before .before .before .before .before .before .before .before .before .loop-test .taken) (c .before .before .before .before .before .before .before .before .before .before .before .before .loop .inv .6) (c .before .before .before .before .before .before .take-byte .ensures .2))
-
-flush-requires : tie.Need-flush-requires Inv-loop μ-loop
-flush-requires c κs = search needs
-
-same-length : tie.Need-same-length Inv-loop μ-loop
-same-length c = search needs
-
-same-length-2 : tie.Need-same-length-2 Inv-loop μ-loop
-same-length-2 c = search needs
-
-same-length-3 : tie.Need-same-length-3 Inv-loop μ-loop
-same-length-3 c = search needs
+loop-again c =
+    let after-take-byte : tie.After-take-byte Inv-loop μ-loop = search in
+    let in-loop : tie.In-loop Inv-loop μ-loop = search in
+    let at-loop : tie.At-loop Inv-loop μ-loop = search in (
+      search needs,
+      search needs,
+      search needs,
+      search needs,
+      search needs,
+      search needs,
+      follows-turn _ _ (in-loop .loop-test .taken) (at-loop .loop .inv .6) (after-take-byte .take-byte .ensures .2),
+    )
 
 returns : tie.Need-returns Inv-loop μ-loop
-returns c = (search needs, follows-all _ _ (c .before .before .loop-test .left) (c .before .before .before .loop .inv .6))
+returns c =
+    let after-loop : tie.After-loop Inv-loop μ-loop = search in
+    let at-loop : tie.At-loop Inv-loop μ-loop = search in
+    (search needs, follows-all _ _ (after-loop .loop-test .left) (at-loop .loop .inv .6))
 
 pub answer-block-spec : {M : Type 1} → statement M
 answer-block-spec =
@@ -58,13 +50,13 @@ answer-block-spec =
     Inv-loop
     μ-loop
     loop-holds
-    shared-slice-read-take-byte
-    take-byte-requires
-    add-i
-    loop-less
+    (λ c. search needs)
+    (λ c κs. search needs)
+    (λ c. search needs)
+    (λ c. search needs)
     loop-again
-    flush-requires
-    same-length
-    same-length-2
-    same-length-3
+    (λ c κs. search needs)
+    (λ c. search needs)
+    (λ c. search needs)
+    (λ c. search needs)
     returns)

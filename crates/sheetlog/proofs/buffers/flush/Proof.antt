@@ -8,7 +8,9 @@ use Rattle.sheetlog.proofs.buffers.flush.Lts as lts
 use Rattle.io.proofs.write_all.Reads as write-all-reads
 
 slice-aggregate-write-all : tie.Need-slice-aggregate-write-all
-slice-aggregate-write-all c = sym (length-take-le _ _ (c .before .before .pre))
+slice-aggregate-write-all c =
+    let start : tie.Start = search in
+    sym (length-take-le _ _ (start .pre))
 
 write-all-requires : tie.Need-write-all-requires
 write-all-requires c κs = search needs

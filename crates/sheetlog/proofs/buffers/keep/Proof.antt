@@ -15,10 +15,14 @@ same-length : tie.Need-same-length
 same-length c = search needs
 
 returns : tie.Need-returns
-returns c = (search needs, λ whole k. keeps-more whole _ (c .before .pre .0) (c .if1 .taken) k)
+returns c =
+    let start : tie.Start = search in
+    (search needs, λ whole k. keeps-more whole _ (start .pre .0) (c .if1 .taken) k)
 
 returns-2 : tie.Need-returns-2
-returns-2 c = (search needs, λ whole k. keeps-full whole _ (c .before .pre .0) (c .if1 .left) k)
+returns-2 c =
+    let start : tie.Start = search in
+    (search needs, λ whole k. keeps-full whole _ (start .pre .0) (c .if1 .left) k)
 
 pub keep-spec : {M : Type 1} → statement M
 keep-spec = tie.close (tie.spec slice-write-line add-result same-length returns returns-2)

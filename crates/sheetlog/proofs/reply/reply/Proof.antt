@@ -13,47 +13,36 @@ use Rattle.transcript.proofs.command.parse.Reads as parse-reads
 use Rattle.transcript.proofs.text.answer_line.Reads as answer-line-reads
 use Rattle.transcript.proofs.text.other_line.Reads as other-line-reads
 
-parse-requires : tie.Need-parse-requires
-parse-requires c κs = search needs
-
-is-other-requires : tie.Need-is-other-requires
-is-other-requires c κs = search needs
-
-other-line-requires : tie.Need-other-line-requires
-other-line-requires c κs = search needs
-
 returns : tie.Need-returns
-returns c = other-reply _ _ _ (c .before .before .before .parse .ensures) (sym (c .before .before .is-other .ensures) ∙ c .before .if1 .taken) (c .other-line .ensures)
-
-call-requires : tie.Need-call-requires
-call-requires c κs = search needs
-
-status-requires : tie.Need-status-requires
-status-requires c κs = search needs
-
-number-requires : tie.Need-number-requires
-number-requires c κs = search needs
-
-answer-line-requires : tie.Need-answer-line-requires
-answer-line-requires c κs = search needs
-
-same-length : tie.Need-same-length
-same-length c = search needs
+returns c =
+    let then1 : tie.Then1 = search in
+    let after-is-other : tie.After-is-other = search in
+    let after-parse : tie.After-parse = search in
+    other-reply _ _ _ (after-parse .parse .ensures) (sym (after-is-other .is-other .ensures) ∙ then1 .if1 .taken) (c .other-line .ensures)
 
 returns-2 : tie.Need-returns-2
-returns-2 c = call-reply _ _ _ _ (c .before .before .before .before .before .before .call .result) (c .before .before .status .result) _ (c .before .before .before .before .before .before .before .before .before .before .before .before .parse .ensures) (sym (c .before .before .before .before .before .before .before .before .before .before .before .is-other .ensures) ∙ c .before .before .before .before .before .before .before .before .before .before .if1 .left) (c .before .before .before .before .before .before .call .ensures) (c .before .number .ensures) (c .before .before .status .ensures) (c .answer-line .ensures)
+returns-2 c =
+    let after-number : tie.After-number = search in
+    let after-status : tie.After-status = search in
+    let after-call : tie.After-call = search in
+    let else1 : tie.Else1 = search in
+    let after-is-other : tie.After-is-other = search in
+    let after-parse : tie.After-parse = search in
+    call-reply _ _ _ _ (after-call .call .result) (after-status .status .result) _ (after-parse .parse .ensures)
+    (sym (after-is-other .is-other .ensures) ∙ else1 .if1 .left) (after-call .call .ensures) (after-number .number .ensures)
+    (after-status .status .ensures) (c .answer-line .ensures)
 
 pub reply-spec : {M : Type 1} → statement M
 reply-spec =
     tie.close
     (tie.spec
-    parse-requires
-    is-other-requires
-    other-line-requires
+    (λ c κs. search needs)
+    (λ c κs. search needs)
+    (λ c κs. search needs)
     returns
-    call-requires
-    status-requires
-    number-requires
-    answer-line-requires
-    same-length
+    (λ c κs. search needs)
+    (λ c κs. search needs)
+    (λ c κs. search needs)
+    (λ c κs. search needs)
+    (λ c. search needs)
     returns-2)

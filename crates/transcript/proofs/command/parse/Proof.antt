@@ -14,26 +14,11 @@ use Rattle.transcript.proofs.command.other.Reads as other-reads
 use Rattle.transcript.proofs.command.read_words.Reads as read-words-reads
 use Rattle.transcript.proofs.command.word_count.Reads as word-count-reads
 
-other-requires : tie.Need-other-requires
-other-requires c κs = search needs
-
 returns : tie.Need-returns
 returns c =
     let then1 : tie.Then1 = search in
     let start : tie.Start = search in
     c .other .ensures ∙ no-line (start .args .line .now) (then1 .if1 .taken)
-
-shared-slice-read-kind-of : tie.Need-shared-slice-read-kind-of
-shared-slice-read-kind-of c = search needs
-
-kind-of-requires : tie.Need-kind-of-requires
-kind-of-requires c κs = search needs
-
-word-count-requires : tie.Need-word-count-requires
-word-count-requires c κs = search needs
-
-other-requires-2 : tie.Need-other-requires-2
-other-requires-2 c κs = search needs
 
 returns-2 : tie.Need-returns-2
 returns-2 c =
@@ -41,16 +26,14 @@ returns-2 c =
     let after-word-count : tie.After-word-count = search in
     let after-kind-of : tie.After-kind-of = search in
     let start : tie.Start = search in
-    c .other2 .ensures ∙ no-kind (after-kind-of .kind-of .result) (drop 1 (start .args .line .now)) (sym (after-word-count .word-count .ensures) ∙ then2 .if2 .taken) ∙ ap (λ (k : Kind). commandFrom k (drop 1 (start .args .line .now))) (after-kind-of .kind-of .ensures)
+    c .other2 .ensures ∙ no-kind (after-kind-of .kind-of .result) (drop 1 (start .args .line .now)) (sym (after-word-count .word-count .ensures)
+    ∙ then2 .if2 .taken) ∙ ap (λ (k : Kind). commandFrom k (drop 1 (start .args .line .now))) (after-kind-of .kind-of .ensures)
 
 read-words-requires : tie.Need-read-words-requires
 read-words-requires c κs =
     let after-word-count : tie.After-word-count = search in
     let after-kind-of : tie.After-kind-of = search in
     (rw (after-word-count .word-count .ensures) (few-words (after-kind-of .kind-of .result)), omega arith)
-
-other-requires-3 : tie.Need-other-requires-3
-other-requires-3 c κs = search needs
 
 returns-3 : tie.Need-returns-3
 returns-3 c =
@@ -60,7 +43,9 @@ returns-3 c =
     let after-kind-of : tie.After-kind-of = search in
     let start : tie.Start = search in
     let e = rw (after-word-count .word-count .ensures) at (after-read-words .read-words .ensures) in
-    c .other3 .ensures ∙ no-command (after-kind-of .kind-of .result) (drop 1 (start .args .line .now)) (after-read-words .read-words .result) e (then3 .if3 .taken) ∙ ap (λ (k : Kind). commandFrom k (drop 1 (start .args .line .now))) (after-kind-of .kind-of .ensures)
+    c .other3 .ensures
+    ∙ no-command (after-kind-of .kind-of .result) (drop 1 (start .args .line .now)) (after-read-words .read-words .result) e (then3 .if3 .taken)
+    ∙ ap (λ (k : Kind). commandFrom k (drop 1 (start .args .line .now))) (after-kind-of .kind-of .ensures)
 
 returns-4 : tie.Need-returns-4
 returns-4 c =
@@ -71,20 +56,22 @@ returns-4 c =
     let after-kind-of : tie.After-kind-of = search in
     let start : tie.Start = search in
     let e = rw (after-word-count .word-count .ensures) at (after-read-words .read-words .ensures) in
-    a-command (after-kind-of .kind-of .result) (drop 1 (start .args .line .now)) (after-read-words .read-words .result) e (λ z. else2 .if2 .left (after-word-count .word-count .ensures ∙ z)) (else3 .if3 .left) ∙ ap (λ (k : Kind). commandFrom k (drop 1 (start .args .line .now))) (after-kind-of .kind-of .ensures)
+    a-command (after-kind-of .kind-of .result) (drop 1 (start .args .line .now)) (after-read-words .read-words .result) e (λ z. else2 .if2 .left
+    (after-word-count .word-count .ensures ∙ z)) (else3 .if3 .left)
+    ∙ ap (λ (k : Kind). commandFrom k (drop 1 (start .args .line .now))) (after-kind-of .kind-of .ensures)
 
 pub parse-spec : {M : Type 1} → statement M
 parse-spec =
     tie.close
     (tie.spec
-    other-requires
+    (λ c κs. search needs)
     returns
-    shared-slice-read-kind-of
-    kind-of-requires
-    word-count-requires
-    other-requires-2
+    (λ c. search needs)
+    (λ c κs. search needs)
+    (λ c κs. search needs)
+    (λ c κs. search needs)
     returns-2
     read-words-requires
-    other-requires-3
+    (λ c κs. search needs)
     returns-3
     returns-4)

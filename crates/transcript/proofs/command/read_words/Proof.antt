@@ -4,7 +4,8 @@ use Prim.Native.Nat.{suc, _≤_, _-_, _+_}
 use lib.ListN.{length, drop, length-drop}
 use lib.Seq.{sets}
 use Rattle.transcript.specs.Grammar.{numeralValue, upToSpace, wordsOk, wordsIn, placed}
-use Rattle.transcript.proofs.Words.{word-short, part-word, words-all, values-all, words-short, words-apart, words-bad, words-next, values-next, placed-turn, words-more, words-end, values-end, scan-no, scan-yes}
+use Rattle.transcript.proofs.Words.{word-short, part-word, words-all, values-all, words-short, words-apart, words-bad, words-next, values-next}
+use Rattle.transcript.proofs.Words.{placed-turn, words-more, words-end, values-end, scan-no, scan-yes}
 use borrow.Author.Needs.{needs}
 use Rattle.transcript.proofs.command.read_words.Statement.{statement}
 use Rattle.transcript.proofs.command.read_words.Tie as tie
@@ -15,7 +16,9 @@ use Rattle.transcript.proofs.numeral.numeral.Reads as numeral-reads
 use Rattle.transcript.proofs.numeral.word_end.Reads as word-end-reads
 
 abbrev Inv-loop : tie.InvT-loop
-Inv-loop line count words₀ at₀ i₀ words at i = (i ≤ count) × (count ≤ 12) × (at ≤ length line) × (wordsOk count (drop 1 line) ≡ wordsOk (count - i) (drop at line)) × (placed (wordsIn count (drop 1 line)) ≡ sets words i (wordsIn (count - i) (drop at line)))
+Inv-loop line count words₀ at₀ i₀ words at i = (i ≤ count) × (count ≤ 12) × (at ≤ length line)
+    × (wordsOk count (drop 1 line) ≡ wordsOk (count - i) (drop at line))
+    × (placed (wordsIn count (drop 1 line)) ≡ sets words i (wordsIn (count - i) (drop at line)))
 
 abbrev μ-loop : tie.MeasureT-loop
 μ-loop line count words₀ at₀ i₀ words at i = count - i
@@ -23,21 +26,13 @@ abbrev μ-loop : tie.MeasureT-loop
 loop-holds : tie.Need-loop-holds Inv-loop μ-loop
 loop-holds c = (omega arith, omega arith, omega arith, words-all _ _, values-all _ _)
 
-no-words-requires : tie.Need-no-words-requires Inv-loop μ-loop
-no-words-requires c κs = search needs
-
 returns : tie.Need-returns Inv-loop μ-loop
 returns c =
     let then1 : tie.Then1 Inv-loop μ-loop = search in
     let at-loop : tie.At-loop Inv-loop μ-loop = search in
     let start : tie.Start Inv-loop μ-loop = search in
-    c .no-words .ensures ∙ scan-no _ _ (at-loop .loop .inv .3 ∙ words-short _ _ (start .args .count - (at-loop .loop .i + 1)) _ (omega arith) (then1 .if1 .taken))
-
-shared-slice-read-if2 : tie.Need-shared-slice-read-if2 Inv-loop μ-loop
-shared-slice-read-if2 c = search needs
-
-no-words-requires-2 : tie.Need-no-words-requires-2 Inv-loop μ-loop
-no-words-requires-2 c κs = search needs
+    c .no-words .ensures
+    ∙ scan-no _ _ (at-loop .loop .inv .3 ∙ words-short _ _ (start .args .count - (at-loop .loop .i + 1)) _ (omega arith) (then1 .if1 .taken))
 
 returns-2 : tie.Need-returns-2 Inv-loop μ-loop
 returns-2 c =
@@ -45,31 +40,18 @@ returns-2 c =
     let else1 : tie.Else1 Inv-loop μ-loop = search in
     let at-loop : tie.At-loop Inv-loop μ-loop = search in
     let start : tie.Start Inv-loop μ-loop = search in
-    c .no-words2 .ensures ∙ scan-no _ _ (at-loop .loop .inv .3 ∙ words-apart _ _ (start .args .count - (at-loop .loop .i + 1)) _ (omega arith) (else1 .if1 .left) (then2 .if2 .taken))
-
-add-start : tie.Need-add-start Inv-loop μ-loop
-add-start c = search needs
-
-word-end-requires : tie.Need-word-end-requires Inv-loop μ-loop
-word-end-requires c κs = search needs
+    c .no-words2 .ensures
+    ∙ scan-no _ _ (at-loop .loop .inv .3
+    ∙ words-apart _ _ (start .args .count - (at-loop .loop .i + 1)) _ (omega arith) (else1 .if1 .left) (then2 .if2 .taken))
 
 sub-numeral : tie.Need-sub-numeral Inv-loop μ-loop
 sub-numeral c = omega arith
-
-part-numeral-start : tie.Need-part-numeral-start Inv-loop μ-loop
-part-numeral-start c = search needs
 
 part-numeral-end : tie.Need-part-numeral-end Inv-loop μ-loop
 part-numeral-end c =
     let at-loop : tie.At-loop Inv-loop μ-loop = search in
     let start : tie.Start Inv-loop μ-loop = search in
     omega (arith, word-short (drop (at-loop .loop .at + 1) (start .args .line .now)), length-drop (at-loop .loop .at + 1) (start .args .line .now))
-
-numeral-requires : tie.Need-numeral-requires Inv-loop μ-loop
-numeral-requires c κs = search needs
-
-no-words-requires-3 : tie.Need-no-words-requires-3 Inv-loop μ-loop
-no-words-requires-3 c κs = search needs
 
 returns-3 : tie.Need-returns-3 Inv-loop μ-loop
 returns-3 c =
@@ -78,23 +60,11 @@ returns-3 c =
     let else1 : tie.Else1 Inv-loop μ-loop = search in
     let at-loop : tie.At-loop Inv-loop μ-loop = search in
     let start : tie.Start Inv-loop μ-loop = search in
-    let e : after-numeral .numeral .result ≡ numeralValue (upToSpace (drop (at-loop .loop .at + 1) (start .args .line .now))) = after-numeral .numeral .ensures ∙ ap numeralValue (part-word _ _ _ (after-word-end .word-end .ensures)) in
-    c .no-words3 .ensures ∙ scan-no _ _ (at-loop .loop .inv .3 ∙ words-bad _ _ (start .args .count - (at-loop .loop .i + 1)) _ (omega arith) (else1 .if1 .left) (omega arith))
-
-cast-words : tie.Need-cast-words Inv-loop μ-loop
-cast-words c = search needs
-
-mul-words : tie.Need-mul-words Inv-loop μ-loop
-mul-words c = search needs
-
-array-write-words : tie.Need-array-write-words Inv-loop μ-loop
-array-write-words c = search needs
-
-add-i : tie.Need-add-i Inv-loop μ-loop
-add-i c = search needs
-
-loop-less : tie.Need-loop-less Inv-loop μ-loop
-loop-less c = search needs
+    let e : after-numeral .numeral .result ≡ numeralValue (upToSpace (drop (at-loop .loop .at + 1) (start .args .line .now)))
+    = after-numeral .numeral .ensures ∙ ap numeralValue (part-word _ _ _ (after-word-end .word-end .ensures)) in
+    c .no-words3 .ensures
+    ∙ scan-no _ _ (at-loop .loop .inv .3
+    ∙ words-bad _ _ (start .args .count - (at-loop .loop .i + 1)) _ (omega arith) (else1 .if1 .left) (omega arith))
 
 loop-again : tie.Need-loop-again Inv-loop μ-loop
 loop-again c =
@@ -104,7 +74,8 @@ loop-again c =
     let else1 : tie.Else1 Inv-loop μ-loop = search in
     let at-loop : tie.At-loop Inv-loop μ-loop = search in
     let start : tie.Start Inv-loop μ-loop = search in
-    let e : after-numeral .numeral .result ≡ numeralValue (upToSpace (drop (at-loop .loop .at + 1) (start .args .line .now))) = after-numeral .numeral .ensures ∙ ap numeralValue (part-word _ _ _ (after-word-end .word-end .ensures)) in
+    let e : after-numeral .numeral .result ≡ numeralValue (upToSpace (drop (at-loop .loop .at + 1) (start .args .line .now)))
+    = after-numeral .numeral .ensures ∙ ap numeralValue (part-word _ _ _ (after-word-end .word-end .ensures)) in
     let p : start .args .count - at-loop .loop .i ≡ suc (start .args .count - (at-loop .loop .i + 1)) = omega arith in (
       omega arith,
       omega arith,
@@ -112,9 +83,6 @@ loop-again c =
       at-loop .loop .inv .3 ∙ words-next _ _ _ _ p (else1 .if1 .left) _ _ (after-word-end .word-end .ensures) e (c .if3 .left) (else2 .if2 .left),
       placed-turn _ _ _ _ _ _ (at-loop .loop .inv .4) (values-next _ _ _ _ p (else1 .if1 .left) _ _ (after-word-end .word-end .ensures) e (c .if3 .left)),
     )
-
-no-words-requires-4 : tie.Need-no-words-requires-4 Inv-loop μ-loop
-no-words-requires-4 c κs = search needs
 
 returns-4 : tie.Need-returns-4 Inv-loop μ-loop
 returns-4 c =
@@ -127,7 +95,8 @@ returns-5 c =
     let at-loop : tie.At-loop Inv-loop μ-loop = search in
     let start : tie.Start Inv-loop μ-loop = search in
     let z : start .args .count - at-loop .loop .i ≡ 0 = omega arith in
-    scan-yes _ _ _ (at-loop .loop .inv .3 ∙ words-end _ _ _ z (c .if4 .left)) (at-loop .loop .inv .4 ∙ ap (sets (at-loop .loop .words) (at-loop .loop .i)) (values-end _ _ z))
+    scan-yes _ _ _ (at-loop .loop .inv .3 ∙ words-end _ _ _ z (c .if4 .left))
+    (at-loop .loop .inv .4 ∙ ap (sets (at-loop .loop .words) (at-loop .loop .i)) (values-end _ _ z))
 
 pub read-words-spec : {M : Type 1} → statement M
 read-words-spec =
@@ -136,25 +105,25 @@ read-words-spec =
     Inv-loop
     μ-loop
     loop-holds
-    no-words-requires
+    (λ c κs. search needs)
     returns
-    shared-slice-read-if2
-    no-words-requires-2
+    (λ c. search needs)
+    (λ c κs. search needs)
     returns-2
-    add-start
-    word-end-requires
+    (λ c. search needs)
+    (λ c κs. search needs)
     sub-numeral
-    part-numeral-start
+    (λ c. search needs)
     part-numeral-end
-    numeral-requires
-    no-words-requires-3
+    (λ c κs. search needs)
+    (λ c κs. search needs)
     returns-3
-    cast-words
-    mul-words
-    array-write-words
-    add-i
-    loop-less
+    (λ c. search needs)
+    (λ c. search needs)
+    (λ c. search needs)
+    (λ c. search needs)
+    (λ c. search needs)
     loop-again
-    no-words-requires-4
+    (λ c κs. search needs)
     returns-4
     returns-5)

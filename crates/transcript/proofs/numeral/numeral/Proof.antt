@@ -5,7 +5,8 @@ use Prim.Native.Nat.{_≤_, _-_}
 use lib.ListN.{length, drop}
 use Rattle.transcript.specs.Grammar.{allDigits, valueFrom, valueOf, largest}
 use Rattle.transcript.proofs.Booleans.{passed, failed}
-use Rattle.transcript.proofs.Numerals.{digit-low, digit-high, digits-next, digits-stop, value-turn, value-over, value-end, digits-end, not-led, not-digits, too-large, a-numeral}
+use Rattle.transcript.proofs.Numerals.{digit-low, digit-high, digits-next, digits-stop, value-turn, value-over, value-end, digits-end, not-led}
+use Rattle.transcript.proofs.Numerals.{not-digits, too-large, a-numeral}
 use borrow.Author.Needs.{needs}
 use Rattle.transcript.proofs.numeral.numeral.Statement.{statement}
 use Rattle.transcript.proofs.numeral.numeral.Tie as tie
@@ -21,9 +22,6 @@ Inv-loop s value₀ i₀ value i = (i ≤ length s) × (value ≤ largest) × (a
 abbrev μ-loop : tie.MeasureT-loop
 μ-loop s value₀ i₀ value i = length s - i
 
-is-led-requires : tie.Need-is-led-requires Inv-loop μ-loop
-is-led-requires c κs = search needs
-
 returns : tie.Need-returns Inv-loop μ-loop
 returns c =
     let after-is-led : tie.After-is-led Inv-loop μ-loop = search in
@@ -31,12 +29,6 @@ returns c =
 
 loop-holds : tie.Need-loop-holds Inv-loop μ-loop
 loop-holds c = (omega arith, omega arith, refl, refl)
-
-shared-slice-read-b : tie.Need-shared-slice-read-b Inv-loop μ-loop
-shared-slice-read-b c = search needs
-
-is-digit-requires : tie.Need-is-digit-requires Inv-loop μ-loop
-is-digit-requires c κs = search needs
 
 returns-2 : tie.Need-returns-2 Inv-loop μ-loop
 returns-2 c =
@@ -53,9 +45,6 @@ sub-wide c =
     let after-is-digit : tie.After-is-digit Inv-loop μ-loop = search in
     digit-low _ (passed (after-is-digit .is-digit .ensures) (c .if2 .left))
 
-wide-requires : tie.Need-wide-requires Inv-loop μ-loop
-wide-requires c κs = search needs
-
 add-value : tie.Need-add-value Inv-loop μ-loop
 add-value c =
     let else2 : tie.Else2 Inv-loop μ-loop = search in
@@ -67,13 +56,9 @@ returns-3 c =
     let after-wide : tie.After-wide Inv-loop μ-loop = search in
     let in-loop : tie.In-loop Inv-loop μ-loop = search in
     let at-loop : tie.At-loop Inv-loop μ-loop = search in
-    too-large _ (value-over _ (at-loop .loop .i + 1) _ (value-turn _ _ _ _ (in-loop .loop-test .taken) (after-wide .wide .ensures) (at-loop .loop .inv .3)) (c .if3 .taken))
-
-add-i : tie.Need-add-i Inv-loop μ-loop
-add-i c = search needs
-
-loop-less : tie.Need-loop-less Inv-loop μ-loop
-loop-less c = search needs
+    too-large _
+    (value-over _ (at-loop .loop .i + 1) _ (value-turn _ _ _ _ (in-loop .loop-test .taken) (after-wide .wide .ensures) (at-loop .loop .inv .3))
+    (c .if3 .taken))
 
 loop-again : tie.Need-loop-again Inv-loop μ-loop
 loop-again c =
@@ -81,8 +66,13 @@ loop-again c =
     let else2 : tie.Else2 Inv-loop μ-loop = search in
     let after-is-digit : tie.After-is-digit Inv-loop μ-loop = search in
     let in-loop : tie.In-loop Inv-loop μ-loop = search in
-    let at-loop : tie.At-loop Inv-loop μ-loop = search in
-    (omega arith, omega arith, at-loop .loop .inv .2 ∙ digits-next _ _ (in-loop .loop-test .taken) (passed (after-is-digit .is-digit .ensures) (else2 .if2 .left)), value-turn _ _ _ _ (in-loop .loop-test .taken) (after-wide .wide .ensures) (at-loop .loop .inv .3))
+    let at-loop : tie.At-loop Inv-loop μ-loop = search in (
+      omega arith,
+      omega arith,
+      at-loop .loop .inv .2
+          ∙ digits-next _ _ (in-loop .loop-test .taken) (passed (after-is-digit .is-digit .ensures) (else2 .if2 .left)),
+      value-turn _ _ _ _ (in-loop .loop-test .taken) (after-wide .wide .ensures) (at-loop .loop .inv .3),
+    )
 
 returns-4 : tie.Need-returns-4 Inv-loop μ-loop
 returns-4 c =
@@ -90,7 +80,9 @@ returns-4 c =
     let else1 : tie.Else1 Inv-loop μ-loop = search in
     let after-is-led : tie.After-is-led Inv-loop μ-loop = search in
     let e = value-end _ _ _ (c .loop-test .left) (at-loop .loop .inv .3) in
-    sym e ∙ a-numeral _ (passed (after-is-led .is-led .ensures) (else1 .if1 .left)) (digits-end _ _ (c .loop-test .left) (at-loop .loop .inv .2)) (rw e (at-loop .loop .inv .1))
+    sym e
+    ∙ a-numeral _ (passed (after-is-led .is-led .ensures) (else1 .if1 .left)) (digits-end _ _ (c .loop-test .left) (at-loop .loop .inv .2))
+    (rw e (at-loop .loop .inv .1))
 
 pub numeral-spec : {M : Type 1} → statement M
 numeral-spec =
@@ -98,18 +90,18 @@ numeral-spec =
     (tie.spec
     Inv-loop
     μ-loop
-    is-led-requires
+    (λ c κs. search needs)
     returns
     loop-holds
-    shared-slice-read-b
-    is-digit-requires
+    (λ c. search needs)
+    (λ c κs. search needs)
     returns-2
     mul-value
     sub-wide
-    wide-requires
+    (λ c κs. search needs)
     add-value
     returns-3
-    add-i
-    loop-less
+    (λ c. search needs)
+    (λ c. search needs)
     loop-again
     returns-4)

@@ -11,30 +11,19 @@ use Rattle.transcript.proofs.text.put_byte.Reads as put-byte-reads
 use Rattle.transcript.proofs.text.put_items.Reads as put-items-reads
 use Rattle.transcript.proofs.text.put_number.Reads as put-number-reads
 
-slice-aggregate-put-number : tie.Need-slice-aggregate-put-number
-slice-aggregate-put-number c = search needs
-
-put-number-requires : tie.Need-put-number-requires
-put-number-requires c κs = search needs
-
-slice-aggregate-put-items : tie.Need-slice-aggregate-put-items
-slice-aggregate-put-items c = search needs
-
-slice-aggregate-put-items-2 : tie.Need-slice-aggregate-put-items-2
-slice-aggregate-put-items-2 c = search needs
-
 put-items-requires : tie.Need-put-items-requires
 put-items-requires c κs =
     let start : tie.Start = search in
     omega (arith, decimal-few (start .args .number))
 
-slice-aggregate-put-byte : tie.Need-slice-aggregate-put-byte
-slice-aggregate-put-byte c = search needs
-
 put-byte-requires : tie.Need-put-byte-requires
 put-byte-requires c κs =
     let start : tie.Start = search in
-    omega (arith, decimal-few (start .args .number), items-few (start .args .current ∷ start .args .committed ∷ start .args .leaders ∷ start .args .journal ∷ []))
+    omega (
+      arith,
+      decimal-few (start .args .number),
+      items-few (start .args .current ∷ start .args .committed ∷ start .args .leaders ∷ start .args .journal ∷ []),
+    )
 
 returns : tie.Need-returns
 returns c =
@@ -47,11 +36,11 @@ pub answer-line-spec : {M : Type 1} → statement M
 answer-line-spec =
     tie.close
     (tie.spec
-    slice-aggregate-put-number
-    put-number-requires
-    slice-aggregate-put-items
-    slice-aggregate-put-items-2
+    (λ c. search needs)
+    (λ c κs. search needs)
+    (λ c. search needs)
+    (λ c. search needs)
     put-items-requires
-    slice-aggregate-put-byte
+    (λ c. search needs)
     put-byte-requires
     returns)

@@ -28,32 +28,32 @@ loop-holds c = (omega arith, refl, append-nil _)
 returns-2 : tie.Need-returns-2 Inv-loop μ-loop
 returns-2 c =
     let at-loop : tie.At-loop Inv-loop μ-loop = search in
-    let else1 : tie.Else1 Inv-loop μ-loop = search in
-    (at-loop .loop .inv .1, at-loop .loop .inv .0, ap (λ (r : List ℕ). r ++ drop (at-loop .loop .i) (at-loop .loop .bytes)) (sym (digits-done (at-loop .loop .i) _ (c .if2 .taken))) ∙ at-loop .loop .inv .2 ∙ decimal-more _ (else1 .if1 .left))
-
-sub-i : tie.Need-sub-i Inv-loop μ-loop
-sub-i c = search needs
-
-last-digit-requires : tie.Need-last-digit-requires Inv-loop μ-loop
-last-digit-requires c κs = search needs
-
-array-write-bytes : tie.Need-array-write-bytes Inv-loop μ-loop
-array-write-bytes c = search needs
-
-loop-less : tie.Need-loop-less Inv-loop μ-loop
-loop-less c = search needs
+    let else1 : tie.Else1 Inv-loop μ-loop = search in (
+      at-loop .loop .inv .1,
+      at-loop .loop .inv .0,
+      ap (λ (r : List ℕ). r ++ drop (at-loop .loop .i) (at-loop .loop .bytes))
+          (sym (digits-done (at-loop .loop .i) _ (c .if2 .taken))) ∙ at-loop .loop .inv .2 ∙ decimal-more _ (else1 .if1 .left),
+    )
 
 loop-again : tie.Need-loop-again Inv-loop μ-loop
 loop-again c =
     let else2 : tie.Else2 Inv-loop μ-loop = search in
-    let at-loop : tie.At-loop Inv-loop μ-loop = search in
-    (omega arith, search needs, digits-turn _ _ (at-loop .loop .i - 1) (at-loop .loop .i) _ _ (omega arith) (omega arith) (else2 .if2 .left) (c .last-digit .ensures) (at-loop .loop .inv .2))
+    let at-loop : tie.At-loop Inv-loop μ-loop = search in (
+      omega arith,
+      search needs,
+      digits-turn _ _ (at-loop .loop .i - 1) (at-loop .loop .i) _ _ (omega arith) (omega arith) (else2 .if2 .left)
+          (c .last-digit .ensures) (at-loop .loop .inv .2),
+    )
 
 returns-3 : tie.Need-returns-3 Inv-loop μ-loop
 returns-3 c =
     let at-loop : tie.At-loop Inv-loop μ-loop = search in
-    let else1 : tie.Else1 Inv-loop μ-loop = search in
-    (at-loop .loop .inv .1, at-loop .loop .inv .0, ap (λ (r : List ℕ). r ++ drop (at-loop .loop .i) (at-loop .loop .bytes)) (sym (digits-out (at-loop .loop .i) (at-loop .loop .rest) (omega arith))) ∙ at-loop .loop .inv .2 ∙ decimal-more _ (else1 .if1 .left))
+    let else1 : tie.Else1 Inv-loop μ-loop = search in (
+      at-loop .loop .inv .1,
+      at-loop .loop .inv .0,
+      ap (λ (r : List ℕ). r ++ drop (at-loop .loop .i) (at-loop .loop .bytes))
+          (sym (digits-out (at-loop .loop .i) (at-loop .loop .rest) (omega arith))) ∙ at-loop .loop .inv .2 ∙ decimal-more _ (else1 .if1 .left),
+    )
 
 pub digits-of-spec : {M : Type 1} → statement M
 digits-of-spec =
@@ -64,9 +64,9 @@ digits-of-spec =
     returns
     loop-holds
     returns-2
-    sub-i
-    last-digit-requires
-    array-write-bytes
-    loop-less
+    (λ c. search needs)
+    (λ c κs. search needs)
+    (λ c. search needs)
+    (λ c. search needs)
     loop-again
     returns-3)

@@ -13,19 +13,10 @@ returns c =
     let start : tie.Start = search in
     no-list (start .args .out .now) (start .args .letter) (start .args .ids .now) (c .if1 .taken)
 
-put-byte-requires : tie.Need-put-byte-requires
-put-byte-requires c κs = search needs
-
-put-items-requires : tie.Need-put-items-requires
-put-items-requires c κs = search needs
-
 put-byte-requires-2 : tie.Need-put-byte-requires-2
 put-byte-requires-2 c κs =
     let start : tie.Start = search in
     omega (arith, items-few (start .args .ids .now))
-
-same-length : tie.Need-same-length
-same-length c = search needs
 
 returns-2 : tie.Need-returns-2
 returns-2 c =
@@ -40,8 +31,8 @@ list-line-spec =
     tie.close
     (tie.spec
     returns
-    put-byte-requires
-    put-items-requires
+    (λ c κs. search needs)
+    (λ c κs. search needs)
     put-byte-requires-2
-    same-length
+    (λ c. search needs)
     returns-2)

@@ -25,21 +25,6 @@ loop-holds c = (omega arith, omega arith, rw items-none (appended-none _ _))
 put-byte-requires : tie.Need-put-byte-requires Inv-loop μ-loop
 put-byte-requires c κs = omega arith
 
-mul-put-number : tie.Need-mul-put-number Inv-loop μ-loop
-mul-put-number c = search needs
-
-shared-slice-read-put-number : tie.Need-shared-slice-read-put-number Inv-loop μ-loop
-shared-slice-read-put-number c = search needs
-
-put-number-requires : tie.Need-put-number-requires Inv-loop μ-loop
-put-number-requires c κs = search needs
-
-add-i : tie.Need-add-i Inv-loop μ-loop
-add-i c = search needs
-
-loop-less : tie.Need-loop-less Inv-loop μ-loop
-loop-less c = search needs
-
 loop-again : tie.Need-loop-again Inv-loop μ-loop
 loop-again c =
     let after-put-number : tie.After-put-number Inv-loop μ-loop = search in
@@ -48,12 +33,14 @@ loop-again c =
     let at-loop : tie.At-loop Inv-loop μ-loop = search in
     let start : tie.Start Inv-loop μ-loop = search in (
       omega arith,
-      omega (arith, after-put-byte .put-byte .ensures .last, after-put-number .put-number .ensures .last, decimal-few (getD (start .args .numbers .now) (at-loop .loop .i) 0)),
+      omega (
+        arith,
+        after-put-byte .put-byte .ensures .last,
+        after-put-number .put-number .ensures .last,
+        decimal-few (getD (start .args .numbers .now) (at-loop .loop .i) 0),
+      ),
       appended-item _ _ _ _ _ _ (in-loop .loop-test .taken) (at-loop .loop .inv .2) (after-put-byte .put-byte .ensures) (after-put-number .put-number .ensures),
     )
-
-same-length : tie.Need-same-length Inv-loop μ-loop
-same-length c = search needs
 
 returns : tie.Need-returns Inv-loop μ-loop
 returns c =
@@ -68,11 +55,11 @@ put-items-spec =
     μ-loop
     loop-holds
     put-byte-requires
-    mul-put-number
-    shared-slice-read-put-number
-    put-number-requires
-    add-i
-    loop-less
+    (λ c. search needs)
+    (λ c. search needs)
+    (λ c κs. search needs)
+    (λ c. search needs)
+    (λ c. search needs)
     loop-again
-    same-length
+    (λ c. search needs)
     returns)

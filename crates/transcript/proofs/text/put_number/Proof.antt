@@ -8,23 +8,8 @@ use Rattle.transcript.proofs.text.put_number.Lts as lts
 use Rattle.transcript.proofs.text.digits_of.Reads as digits-of-reads
 use Rattle.transcript.proofs.text.put_bytes.Reads as put-bytes-reads
 
-digits-of-requires : tie.Need-digits-of-requires
-digits-of-requires c κs = search needs
-
-sub-put-bytes : tie.Need-sub-put-bytes
-sub-put-bytes c = search needs
-
-part-put-bytes-start : tie.Need-part-put-bytes-start
-part-put-bytes-start c = search needs
-
 part-put-bytes-end : tie.Need-part-put-bytes-end
 part-put-bytes-end c = omega arith
-
-put-bytes-requires : tie.Need-put-bytes-requires
-put-bytes-requires c κs = search needs
-
-same-length : tie.Need-same-length
-same-length c = search needs
 
 returns : tie.Need-returns
 returns c =
@@ -36,10 +21,10 @@ pub put-number-spec : {M : Type 1} → statement M
 put-number-spec =
     tie.close
     (tie.spec
-    digits-of-requires
-    sub-put-bytes
-    part-put-bytes-start
+    (λ c κs. search needs)
+    (λ c. search needs)
+    (λ c. search needs)
     part-put-bytes-end
-    put-bytes-requires
-    same-length
+    (λ c κs. search needs)
+    (λ c. search needs)
     returns)

@@ -1,123 +1,68 @@
-use Rattle.record.specs.Questions.{masksOk, timeoutsOk, noVotesOk, bodyRefusal}
+-- Questions 4 to 6 are answered yes by what is required; each later test that passes leaves the questions after it, and one that fails gives its refusal.
+use Rattle.record.specs.Questions.{masksOk, strongOk, timeoutsOk, noVotesOk, recordQuestions, bodyRefusal}
 use Rattle.record.specs.Layout.{strongOf, timeoutsOf, noVotesOf}
+use Rattle.record.specs.Refusals.{firstNo}
 use Rattle.record.specs.declared.questions.Terms.{Terms}
+use Rattle.record.specs.declared.refusal.Refusal.{Refusal}
 use Rattle.record.proofs.Booleans.{passed, failed}
 use Rattle.record.proofs.Turn.{next, stop, done, known}
-use mathlib.Core.Path.{ap}
+use mathlib.Core.Path.{_≡_, ap}
+use mathlib.Core.List.{List}
+use Prim.Native.Nat.{ℕ}
+use lib.ListN.{drop}
 use borrow.Author.Needs.{needs}
 use Rattle.record.proofs.questions.check_known.Statement.{statement}
 use Rattle.record.proofs.questions.check_known.Tie as tie
-use Rattle.record.proofs.questions.check_known.Reads as reads
-use Rattle.record.proofs.questions.check_known.Lts as lts
-use Rattle.record.proofs.questions.lacks_leader.Reads as lacks-leader-reads
-use Rattle.record.proofs.questions.masks_ok.Reads as masks-ok-reads
-use Rattle.record.proofs.questions.no_votes_ok.Reads as no-votes-ok-reads
-use Rattle.record.proofs.questions.quorum_if.Reads as quorum-if-reads
-use Rattle.record.proofs.questions.strong_ok.Reads as strong-ok-reads
-use Rattle.record.proofs.questions.weak_ok.Reads as weak-ok-reads
 
-returns : tie.Need-returns
+abbrev n : tie.Start → ℕ
+n s = s .args .terms .n
+
+abbrev round : tie.Start → ℕ
+round s = s .args .round
+
+abbrev body : tie.Start → List ℕ
+body s = s .args .body .now
+
+-- the questions from the one at k on decide
+abbrev Left : tie.Start → ℕ → Type 0
+Left s k =
+    (r : Refusal) → r ≡ firstNo (drop k (recordQuestions (n s) (round s) (s .args .source) (body s)))
+    → r ≡ bodyRefusal (n s) (round s) (s .args .source) (body s)
+
+from-masks : (c : tie.Start) → Left c 3
+from-masks c r = known _ _ _ _ (c .pre .1) (c .pre .2) (c .pre .3) (c .pre .4)
+
+-- what each test asks
+masks : (c : tie.After-masks-ok) → c .masks-ok .result ≡ masksOk (n (search)) (body (search))
 unfolding masksOk strongOf timeoutsOf noVotesOf
-returns c =
-    let after-masks-ok : tie.After-masks-ok = search in
-    let start : tie.Start = search in
-    known _ _ _ _ (start .pre .1) (start .pre .2) (start .pre .3) (start .pre .4)
-    (stop _ _ (failed (after-masks-ok .masks-ok .ensures) (c .if1 .taken)))
+masks c = c .masks-ok .ensures
 
-returns-2 : tie.Need-returns-2
-unfolding masksOk strongOf timeoutsOf noVotesOf
-returns-2 c =
-    let after-strong-ok : tie.After-strong-ok = search in
-    let else1 : tie.Else1 = search in
-    let after-masks-ok : tie.After-masks-ok = search in
-    let start : tie.Start = search in
-    known _ _ _ _ (start .pre .1) (start .pre .2) (start .pre .3) (start .pre .4)
-    (next _ _ (passed (after-masks-ok .masks-ok .ensures) (else1 .if1 .left))
-    (stop _ _ (failed (after-strong-ok .strong-ok .ensures) (c .if2 .taken))))
+strong : (c : tie.After-strong-ok) → c .strong-ok .result ≡ strongOk (n (search)) (round (search)) (strongOf (body (search)))
+unfolding strongOf
+strong c = c .strong-ok .ensures
 
-returns-3 : tie.Need-returns-3
-unfolding masksOk timeoutsOk strongOf timeoutsOf noVotesOf
-returns-3 c =
-    let after-quorum-if : tie.After-quorum-if = search in
-    let after-lacks-leader : tie.After-lacks-leader = search in
-    let else2 : tie.Else2 = search in
-    let after-strong-ok : tie.After-strong-ok = search in
-    let else1 : tie.Else1 = search in
-    let after-masks-ok : tie.After-masks-ok = search in
-    let start : tie.Start = search in
-    known _ _ _ _ (start .pre .1) (start .pre .2) (start .pre .3) (start .pre .4)
-    (next _ _ (passed (after-masks-ok .masks-ok .ensures) (else1 .if1 .left))
-    (next _ _ (passed (after-strong-ok .strong-ok .ensures) (else2 .if2 .left))
-    (stop _ _ (failed (rw (after-lacks-leader .lacks-leader .ensures) at (after-quorum-if .quorum-if .ensures)) (c .if3 .taken)))))
+timeouts : (c : tie.After-quorum-if) → c .quorum-if .result ≡ timeoutsOk (n (search)) (round (search)) (body (search))
+unfolding timeoutsOk strongOf timeoutsOf
+timeouts c = cc
 
-returns-4 : tie.Need-returns-4
-unfolding masksOk timeoutsOk noVotesOk strongOf timeoutsOf noVotesOf
-returns-4 c =
-    let after-no-votes-ok : tie.After-no-votes-ok = search in
-    let else3 : tie.Else3 = search in
-    let after-quorum-if : tie.After-quorum-if = search in
-    let after-lacks-leader : tie.After-lacks-leader = search in
-    let else2 : tie.Else2 = search in
-    let after-strong-ok : tie.After-strong-ok = search in
-    let else1 : tie.Else1 = search in
-    let after-masks-ok : tie.After-masks-ok = search in
-    let start : tie.Start = search in
-    known _ _ _ _ (start .pre .1) (start .pre .2) (start .pre .3) (start .pre .4)
-    (next _ _ (passed (after-masks-ok .masks-ok .ensures) (else1 .if1 .left))
-    (next _ _ (passed (after-strong-ok .strong-ok .ensures) (else2 .if2 .left))
-    (next _ _ (passed (rw (after-lacks-leader .lacks-leader .ensures) at (after-quorum-if .quorum-if .ensures)) (else3 .if3 .left))
-    (stop _ _
-    (failed
-    (rw (after-lacks-leader .lacks-leader .ensures, ap (λ (t : Terms). t .leader) (start .pre .0)) at (after-no-votes-ok .no-votes-ok .ensures))
-    (c .if4 .taken))))))
+no-votes : (c : tie.After-no-votes-ok) → let s : tie.Start = search in c .no-votes-ok .result ≡ noVotesOk (n s) (round s) (s .args .source) (body s)
+unfolding noVotesOk strongOf noVotesOf
+no-votes c =
+    let s : tie.Start = search in
+    let l : tie.After-lacks-leader = search in
+    rw (l .lacks-leader .ensures, ap (λ (t : Terms). t .leader) (s .pre .0)) at (c .no-votes-ok .ensures)
 
-returns-5 : tie.Need-returns-5
-unfolding masksOk timeoutsOk noVotesOk strongOf timeoutsOf noVotesOf
-returns-5 c =
-    let after-weak-ok : tie.After-weak-ok = search in
-    let else4 : tie.Else4 = search in
-    let after-no-votes-ok : tie.After-no-votes-ok = search in
-    let else3 : tie.Else3 = search in
-    let after-quorum-if : tie.After-quorum-if = search in
-    let after-lacks-leader : tie.After-lacks-leader = search in
-    let else2 : tie.Else2 = search in
-    let after-strong-ok : tie.After-strong-ok = search in
-    let else1 : tie.Else1 = search in
-    let after-masks-ok : tie.After-masks-ok = search in
-    let start : tie.Start = search in
-    known _ _ _ _ (start .pre .1) (start .pre .2) (start .pre .3) (start .pre .4)
-    (next _ _ (passed (after-masks-ok .masks-ok .ensures) (else1 .if1 .left))
-    (next _ _ (passed (after-strong-ok .strong-ok .ensures) (else2 .if2 .left))
-    (next _ _ (passed (rw (after-lacks-leader .lacks-leader .ensures) at (after-quorum-if .quorum-if .ensures)) (else3 .if3 .left))
-    (next _ _
-    (passed
-    (rw (after-lacks-leader .lacks-leader .ensures, ap (λ (t : Terms). t .leader) (start .pre .0)) at (after-no-votes-ok .no-votes-ok .ensures))
-    (else4 .if4 .left))
-    (stop _ _ (failed (after-weak-ok .weak-ok .ensures) (c .if5 .taken)))))))
+from-strong : (c : tie.Else1) → Left (search) 4
+from-strong c r d = from-masks (search) r (next _ _ (passed (masks (search)) (c .if1 .left)) d)
 
-returns-6 : tie.Need-returns-6
-unfolding masksOk timeoutsOk noVotesOk strongOf timeoutsOf noVotesOf
-returns-6 c =
-    let after-weak-ok : tie.After-weak-ok = search in
-    let else4 : tie.Else4 = search in
-    let after-no-votes-ok : tie.After-no-votes-ok = search in
-    let else3 : tie.Else3 = search in
-    let after-quorum-if : tie.After-quorum-if = search in
-    let after-lacks-leader : tie.After-lacks-leader = search in
-    let else2 : tie.Else2 = search in
-    let after-strong-ok : tie.After-strong-ok = search in
-    let else1 : tie.Else1 = search in
-    let after-masks-ok : tie.After-masks-ok = search in
-    let start : tie.Start = search in
-    known _ _ _ _ (start .pre .1) (start .pre .2) (start .pre .3) (start .pre .4)
-    (next _ _ (passed (after-masks-ok .masks-ok .ensures) (else1 .if1 .left))
-    (next _ _ (passed (after-strong-ok .strong-ok .ensures) (else2 .if2 .left))
-    (next _ _ (passed (rw (after-lacks-leader .lacks-leader .ensures) at (after-quorum-if .quorum-if .ensures)) (else3 .if3 .left))
-    (next _ _
-    (passed
-    (rw (after-lacks-leader .lacks-leader .ensures, ap (λ (t : Terms). t .leader) (start .pre .0)) at (after-no-votes-ok .no-votes-ok .ensures))
-    (else4 .if4 .left))
-    (next _ _ (passed (after-weak-ok .weak-ok .ensures) (c .if5 .left)) done)))))
+from-timeouts : (c : tie.Else2) → Left (search) 5
+from-timeouts c r d = from-strong (search) r (next _ _ (passed (strong (search)) (c .if2 .left)) d)
+
+from-no-votes : (c : tie.Else3) → Left (search) 6
+from-no-votes c r d = from-timeouts (search) r (next _ _ (passed (timeouts (search)) (c .if3 .left)) d)
+
+from-weak : (c : tie.Else4) → Left (search) 7
+from-weak c r d = from-no-votes (search) r (next _ _ (passed (no-votes (search)) (c .if4 .left)) d)
 
 pub check-known-spec : {M : Type 1} → statement M
 check-known-spec =
@@ -127,14 +72,14 @@ check-known-spec =
     (λ c. search needs)
     (λ c. search needs)
     (λ c κs. search needs)
-    returns
+    (λ c. from-masks (search) _ (stop _ _ (failed (masks (search)) (c .if1 .taken))))
     (λ c κs. search needs)
-    returns-2
+    (λ c. from-strong (search) _ (stop _ _ (failed (strong (search)) (c .if2 .taken))))
     (λ c κs. search needs)
     (λ c κs. search needs)
-    returns-3
+    (λ c. from-timeouts (search) _ (stop _ _ (failed (timeouts (search)) (c .if3 .taken))))
     (λ c κs. search needs)
-    returns-4
+    (λ c. from-no-votes (search) _ (stop _ _ (failed (no-votes (search)) (c .if4 .taken))))
     (λ c κs. search needs)
-    returns-5
-    returns-6)
+    (λ c. let w : tie.After-weak-ok = search in from-weak (search) _ (stop _ _ (failed (w .weak-ok .ensures) (c .if5 .taken))))
+    (λ c. let w : tie.After-weak-ok = search in from-weak (search) _ (next _ _ (passed (w .weak-ok .ensures) (c .if5 .left)) done)))

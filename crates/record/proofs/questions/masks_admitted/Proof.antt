@@ -1,52 +1,46 @@
 -- `masks-strong`, `masks-lacking` and `masks-full` of `Parts`.
+use Rattle.record.specs.Questions.{strongOk, masksAdmitted}
 use Rattle.record.specs.Layout.{strongOf, timeoutsOf, noVotesOf}
+use Rattle.record.specs.Members.{within}
 use Rattle.record.specs.declared.questions.Terms.{Terms}
 use Rattle.record.proofs.Booleans.{passed, failed, and-fails-left}
 use Rattle.record.proofs.Parts.{masks-strong, masks-lacking, masks-full}
 use borrow.Author.Tests.{eq-eqb, ne-eqb}
-use mathlib.Core.Path.{sym, ap, _∙_}
+use mathlib.Core.Path.{_≡_, sym, ap, _∙_}
+use mathlib.Core.Bool.{true, _&&_}
+use lib.Bits.{bitOr}
+use lib.Dec.{eqb}
 use borrow.Author.Needs.{needs}
 use Rattle.record.proofs.questions.masks_admitted.Statement.{statement}
 use Rattle.record.proofs.questions.masks_admitted.Tie as tie
 
+strong : (c : tie.Else1) → let a = (let s : tie.Start = search in s .args) in strongOk (a .terms .n) (a .round) (strongOf (a .body .now)) ≡ true
+unfolding strongOf
+strong c = let a : tie.After-strong-ok = search in passed (a .strong-ok .ensures) (c .if1 .left)
+
+-- the mask has the previous leader
+full : (c : tie.Else2) → let a = (let s : tie.Start = search in s .args) in masksAdmitted (a .terms .n) (a .round) (a .source) (a .body .now)
+    ≡ (eqb (bitOr (timeoutsOf (a .body .now)) (noVotesOf (a .body .now))) 0 && within (a .terms .n) (strongOf (a .body .now)))
+unfolding strongOf
+full c = masks-full _ _ _ _ (strong (search)) (cc)
+
 returns : tie.Need-returns
 unfolding strongOf
-returns c =
-    let after-strong-ok : tie.After-strong-ok = search in
-    sym (masks-strong _ _ _ _ (failed (after-strong-ok .strong-ok .ensures) (c .if1 .taken)))
+returns c = let a : tie.After-strong-ok = search in sym (masks-strong _ _ _ _ (failed (a .strong-ok .ensures) (c .if1 .taken)))
 
 returns-2 : tie.Need-returns-2
 unfolding strongOf timeoutsOf noVotesOf
 returns-2 c =
-    let then2 : tie.Then2 = search in
-    let after-lacks-leader : tie.After-lacks-leader = search in
-    let else1 : tie.Else1 = search in
-    let after-strong-ok : tie.After-strong-ok = search in
-    let start : tie.Start = search in
-    rw (ap (λ (t : Terms). t .leader) (start .pre .0)) at (c .certificates-ok .ensures)
-    ∙ sym (masks-lacking _ _ _ _ (passed (after-strong-ok .strong-ok .ensures) (else1 .if1 .left))
-    (sym (after-lacks-leader .lacks-leader .ensures) ∙ then2 .if2 .taken))
+    let s : tie.Start = search in
+    rw (ap (λ (t : Terms). t .leader) (s .pre .0)) at (c .certificates-ok .ensures) ∙ sym (masks-lacking _ _ _ _ (strong (search)) (cc))
 
 returns-3 : tie.Need-returns-3
 unfolding strongOf timeoutsOf noVotesOf
-returns-3 c =
-    let else2 : tie.Else2 = search in
-    let after-lacks-leader : tie.After-lacks-leader = search in
-    let else1 : tie.Else1 = search in
-    let after-strong-ok : tie.After-strong-ok = search in
-    sym (masks-full _ _ _ _ (passed (after-strong-ok .strong-ok .ensures) (else1 .if1 .left)) (sym (after-lacks-leader .lacks-leader .ensures)
-    ∙ else2 .if2 .left) ∙ and-fails-left _ (ne-eqb _ _ (c .if3 .taken)))
+returns-3 c = sym (full (search) ∙ and-fails-left _ (ne-eqb _ _ (c .if3 .taken)))
 
 returns-4 : tie.Need-returns-4
 unfolding strongOf timeoutsOf noVotesOf
-returns-4 c =
-    let else3 : tie.Else3 = search in
-    let else2 : tie.Else2 = search in
-    let after-lacks-leader : tie.After-lacks-leader = search in
-    let else1 : tie.Else1 = search in
-    let after-strong-ok : tie.After-strong-ok = search in
-    sym (masks-full _ _ _ _ (passed (after-strong-ok .strong-ok .ensures) (else1 .if1 .left)) (sym (after-lacks-leader .lacks-leader .ensures)
-    ∙ else2 .if2 .left) ∙ rw (eq-eqb _ _ (else3 .if3 .left)) (sym (c .is-within .ensures)))
+returns-4 c = let e : tie.Else3 = search in sym (full (search) ∙ rw (eq-eqb _ _ (e .if3 .left)) (sym (c .is-within .ensures)))
 
 pub masks-admitted-spec : {M : Type 1} → statement M
 masks-admitted-spec =

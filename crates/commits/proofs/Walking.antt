@@ -20,6 +20,8 @@ use Rattle.protocol.specs.Premises.{WellFormed}
 use Rattle.protocol.specs.Masks.{parents}
 use Rattle.protocol.proofs.Paths.{path-held}
 use Rattle.protocol.proofs.Frontier.{path-start, parents-claim}
+use Rattle.replica.specs.State.{memberCount, vertices}
+use Rattle.commits.specs.Standing.{Standing}
 use Rattle.protocol.proofs.Chain.{walk-stop, walk-skip, walk-take, chain-some}
 
 -- ---- selections
@@ -67,7 +69,7 @@ module _ (n : ℕ) (pos : 0 < n) (v : Records) (W : WellFormed n v) (low q : ℕ
       → has (2 ^ leader n r) p ≡ path n v r (leader n r) (suc t) p
   here r l h t e p k = has-one (leader n r) p ∙ sym (path-start n v r (leader n r) p l h) ∙ ap (λ (x : ℕ). path n v r (leader n r) x p) (sym e)
 
-  pub start : low < q → held v q (leader n q) ≡ true → Walked n v low q (q - 1) (2 ^ q) (2 ^ leader n q)
+  start : low < q → held v q (leader n q) ≡ true → Walked n v low q (q - 1) (2 ^ q) (2 ^ leader n q)
   start l h = record {
     stand = q;
     down = omega arith;
@@ -126,21 +128,45 @@ module _ (n : ℕ) (pos : 0 < n) (v : Records) (W : WellFormed n v) (low q : ℕ
         }
 
   -- one round down: its leader is taken if it is among the parents, and passed over if not
-  pub take-leader : (t taken reached below : ℕ) → low < t → Walked n v low q t taken reached → below ≡ parents v (t + 1) reached n
+  take-leader : (t taken reached below : ℕ) → low < t → Walked n v low q t taken reached → below ≡ parents v (t + 1) reached n
       → has below (leader n t) ≡ true → Walked n v low q (t - 1) (add taken t) (2 ^ leader n t)
   take-leader zero taken reached b l w e h = absurd (not-suc-le-zero l)
   take-leader (suc t) taken reached b l w e h = rw (sub-one (suc t)) (taken-suc t taken reached l w (rw (e, add-one (suc t)) at h))
 
-  pub pass-leader : (t taken reached below : ℕ) → low < t → Walked n v low q t taken reached → below ≡ parents v (t + 1) reached n
+  pass-leader : (t taken reached below : ℕ) → low < t → Walked n v low q t taken reached → below ≡ parents v (t + 1) reached n
       → has below (leader n t) ≡ false → Walked n v low q (t - 1) taken below
   pass-leader zero taken reached b l w e h = absurd (not-suc-le-zero l)
   pass-leader (suc t) taken reached b l w e h = rw (sub-one (suc t), e, add-one (suc t)) (passed-suc t taken reached l w (rw (e, add-one (suc t)) at h))
 
   -- at the lower bound the rounds taken are the chain
-  pub finish : (t taken reached : ℕ) → t ≤ low → Walked n v low q t taken reached → select 32 (has taken) ≡ chain n v low q
+  finish : (t taken reached : ℕ) → t ≤ low → Walked n v low q t taken reached → select 32 (has taken) ≡ chain n v low q
   finish t taken reached l w = sym (w .rest ∙ ap (λ (x : List ℕ). x ++ select 32 (has taken)) (walk-stop n v low (w .stand) t l))
 
--- the same of equal masks
-pub walked-as : (n : ℕ) (v : Records) (low q t taken reached taken′ reached′ : ℕ) → taken′ ≡ taken → reached′ ≡ reached
-    → Walked n v low q t taken reached → Walked n v low q t taken′ reached′
-walked-as n v low q t taken reached taken′ reached′ e d w = rw (e, d) w
+-- ---- the walk over a state
+
+-- what each step of the code may use of the state that it walks
+pub record Walk (l : List ℕ) (n low q : ℕ) : Type 0 where
+  pub begun : (taken reached : ℕ) → taken ≡ 2 ^ q → reached ≡ 2 ^ leader n q → Walked n (vertices l) low q (q - 1) taken reached
+  pub took : (t taken reached below p : ℕ) → low < t → Walked n (vertices l) low q t taken reached → below ≡ parents (vertices l) (t + 1) reached n
+      → p ≡ leader n t → has below p ≡ true → (taken′ reached′ : ℕ) → taken′ ≡ add taken t → reached′ ≡ 2 ^ p
+      → Walked n (vertices l) low q (t - 1) taken′ reached′
+  pub passed : (t taken reached below p : ℕ) → low < t → Walked n (vertices l) low q t taken reached → below ≡ parents (vertices l) (t + 1) reached n
+      → p ≡ leader n t → has below p ≡ false → (taken′ reached′ : ℕ) → taken′ ≡ taken → reached′ ≡ below
+      → Walked n (vertices l) low q (t - 1) taken′ reached′
+  pub done : (t taken reached : ℕ) → t ≤ low → Walked n (vertices l) low q t taken reached → select 32 (has taken) ≡ chain n (vertices l) low q
+
+pub walk-known : (l : List ℕ) (n low q : ℕ) → Standing l → n ≡ memberCount l → low < q → q ≤ 31 → held (vertices l) q (leader n q) ≡ true → Walk l n low q
+walk-known l n low q S e above high there = record {
+  begun = λ taken reached a b. rw (a, b) (start n pos (vertices l) W low q high above there);
+  took = λ t taken reached below p k w d f h taken′ reached′ a b.
+      rw (a, b, f) (take-leader n pos (vertices l) W low q high t taken reached below k w d (rw f at h));
+  passed = λ t taken reached below p k w d f h taken′ reached′ a b.
+      rw (a, b) (pass-leader n pos (vertices l) W low q high t taken reached below k w d (rw f at h));
+  done = finish n pos (vertices l) W low q high;
+}
+  where
+    pos : 0 < n
+    pos = omega (arith, S .low)
+
+    W : WellFormed n (vertices l)
+    W = rw e (S .formed)

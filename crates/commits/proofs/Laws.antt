@@ -1,8 +1,8 @@
 -- Each case of the definitions, as a law. Assumes nothing.
-use mathlib.Core.Path.{_≡_, refl, sym, ap, ap₂, _∙_}
-use mathlib.Core.Bool.{Bool, true, false, cond, not, _&&_, _||_}
-use mathlib.Core.List.{List, [], _∷_, _++_}
-use Prim.Native.Nat.{ℕ, zero, suc, _+_, _-_, _*_, _/_, _%_, _^_, _≤_, _<_}
+use mathlib.Core.Path.{_≡_, refl, sym, ap, _∙_}
+use mathlib.Core.Bool.{true, false}
+use mathlib.Core.List.{List, [], _∷_}
+use Prim.Native.Nat.{ℕ, zero, suc, _+_, _-_, _^_, _≤_, _<_}
 use native.Mathlib.Nat.{not-suc-le-zero, add-zero}
 use native.Mathlib.Numerals.{add-one, sub-one}
 use native.Mathlib.Omega.{arith}
@@ -11,9 +11,8 @@ use lib.Bits.{bitOr}
 use borrow.Author.Tests.{lt-ltb, le-ltb}
 use Rattle.record.specs.Members.{leader, has, meets, idRound, idMember}
 use Rattle.record.specs.Layout.{strongOf, weakCountOf, weakOf}
-use mathlib.Core.Logic.{⊎-elim}
-use Rattle.record.proofs.Booleans.{which, never, and-fails-left, and-both, or-left, or-right, cond-true, cond-false}
-use Rattle.protocol.specs.Dag.{Records, present, held}
+use Rattle.record.proofs.Booleans.{and-fails-left, and-both, or-left, cond-true, cond-false}
+use Rattle.protocol.specs.Dag.{Records}
 use Rattle.protocol.specs.Masks.{parents, join, joinWeak, joinParents, joinRound, fill, historyMasks}
 use Rattle.replica.specs.Layout.{cellAt}
 use Rattle.replica.specs.State.{memberCount, currentRound, heldMask, timeoutsMask, vertices}
@@ -59,43 +58,58 @@ pub not-raised : (l : List ℕ) (q : ℕ) → q ≡ highestPassable l 32 → 1 +
 unfolding raiseRound
 not-raised l q e h = rw (← e, le-ltb _ _ h)
 
+-- ---- a vertex in its cell
+
+-- a weak id in use: an id of rounds 1 to 32
+pub record WeakWord (l : List ℕ) (r p at i : ℕ) : Type 0 where
+  pub is : getD l (at + (5 + i)) 0 ≡ weakOf (vertices l r p) i
+  pub slot : i < 5
+  pub inside : at + (5 + i) < length l
+  pub low : 16 ≤ getD l (at + (5 + i)) 0
+  pub high : getD l (at + (5 + i)) 0 < 528
+
+-- what the code may use of the cell
+pub record Cell (l : List ℕ) (r p at : ℕ) : Type 0 where
+  pub strong : getD l at 0 ≡ strongOf (vertices l r p)
+  pub weak-count : getD l (at + 4) 0 ≡ weakCountOf (vertices l r p)
+  pub weak : (i : ℕ) → i < getD l (at + 4) 0 → WeakWord l r p at i
+
+pub cell-known : (l : List ℕ) → Standing l → (r p at : ℕ) → 1 ≤ r → r ≤ 32 → p < 16 → at ≡ cellAt r p → Cell l r p at
+unfolding strongOf weakCountOf weakOf
+cell-known l S r p at low high few e = rw e (record {
+  strong = sym (S .words r p 0 low high few (omega arith) ∙ ap (λ (x : ℕ). getD l x 0) (add-zero (cellAt r p)));
+  weak-count = count-word;
+  weak = λ i h.
+      let k : i < weakCountOf (vertices l r p) = omega (arith, count-word) in
+      let a = S .formed .admitted r p (weak-present (vertices l r p) i k) in
+      let five : i < 5 = omega (arith, a .weak-few, S .high) in
+      let word = sym (S .words r p (5 + i) low high few (omega arith)) in
+      record {
+        is = word;
+        slot = five;
+        inside = omega (arith, S .size);
+        low = omega (arith, word, a .weak-low i five k);
+        high = omega (arith, word, a .weak-high i five k, a .round-high);
+      };
+})
+  where
+    count-word : getD l (cellAt r p + 4) 0 ≡ weakCountOf (vertices l r p)
+    count-word = sym (S .words r p 4 low high few (omega arith))
+
 -- ---- a union of strong masks, a member at a time
 
-pub parents-none : (v : Records) (r m : ℕ) → parents v r m 0 ≡ 0
+pub parents-none : (v : Records) (r m : ℕ) → 0 ≡ parents v r m 0
 unfolding parents
 parents-none v r m = refl
 
-pub parents-in : (v : Records) (r m p : ℕ) → has m p ≡ true → parents v r m (p + 1) ≡ bitOr (parents v r m p) (strongOf (v r p))
+pub parents-in : (l : List ℕ) (r m p at j o : ℕ) → Cell l r p at → j ≡ parents (vertices l) r m p → has m p ≡ true → o ≡ bitOr j (getD l at 0)
+    → o ≡ parents (vertices l) r m (p + 1)
 unfolding parents
-parents-in v r m p e = rw (add-one p) (rw e)
+parents-in l r m p at j o C e h d = rw (add-one p, h) (rw (e, C .strong) at d)
 
-pub parents-out : (v : Records) (r m p : ℕ) → has m p ≡ false → parents v r m (p + 1) ≡ parents v r m p
+pub parents-out : (v : Records) (r m p j o : ℕ) → j ≡ parents v r m p → has m p ≡ false → o ≡ j → o ≡ parents v r m (p + 1)
 unfolding parents
-parents-out v r m p e = rw (add-one p) (rw e)
-
--- the strong mask and the weak ids of a vertex, in its cell
-module _ (l : List ℕ) (S : Standing l) (r p : ℕ) (low : 1 ≤ r) (high : r ≤ 32) (few : p < 16) where
-  pub strong-word : strongOf (vertices l r p) ≡ getD l (cellAt r p) 0
-  unfolding strongOf
-  strong-word = S .words r p 0 low high few (omega arith) ∙ ap (λ (x : ℕ). getD l x 0) (add-zero (cellAt r p))
-
-  pub weak-count-word : weakCountOf (vertices l r p) ≡ getD l (cellAt r p + 4) 0
-  unfolding weakCountOf
-  weak-count-word = S .words r p 4 low high few (omega arith)
-
-  pub weak-word : (i : ℕ) → i < 5 → weakOf (vertices l r p) i ≡ getD l (cellAt r p + (5 + i)) 0
-  unfolding weakOf
-  weak-word i h = S .words r p (5 + i) low high few (omega arith)
-
--- the weak ids of a vertex are ids of rounds 1 to 32
-pub weak-range : (l : List ℕ) → Standing l → (r p i : ℕ) → i < weakCountOf (vertices l r p)
-    → (i < 5) × (16 ≤ weakOf (vertices l r p) i) × (weakOf (vertices l r p) i < 528)
-weak-range l S r p i h =
-    let a = S .formed .admitted r p (weak-present _ i h) in
-    let k : i < 5 = omega (arith, a .weak-few, S .high) in
-    let low = a .weak-low i k h in
-    let high = a .weak-high i k h in
-    (k, omega arith, omega (arith, a .round-high))
+parents-out v r m p j o e h d = rw (add-one p, h) (d ∙ e)
 
 -- ---- a history, an id, a weak parent, a vertex and a round at a time
 
@@ -103,22 +117,23 @@ pub join-weak-none : (h body : List ℕ) → h ≡ joinWeak h body 0
 unfolding joinWeak
 join-weak-none h body = refl
 
-pub join-weak-more : (h body : List ℕ) (i : ℕ) → join (joinWeak h body i) (idRound (weakOf body i)) (2 ^ idMember (weakOf body i)) ≡ joinWeak h body (i + 1)
+pub join-weak-more : (h body m o : List ℕ) (i x : ℕ) → m ≡ joinWeak h body i → x ≡ weakOf body i → o ≡ join m (idRound x) (2 ^ idMember x)
+    → o ≡ joinWeak h body (i + 1)
 unfolding joinWeak
-join-weak-more h body i = rw (add-one i)
+join-weak-more h body m o i x e d f = rw (add-one i) (rw (e, d) at f)
 
 pub join-round-none : (v : Records) (h : List ℕ) (r : ℕ) → h ≡ joinRound v h r 0
 unfolding joinRound
 join-round-none v h r = refl
 
-pub join-round-in : (v : Records) (h : List ℕ) (r p : ℕ) → has (getD (joinRound v h r p) (r - 1) 0) p ≡ true
-    → joinParents v (joinRound v h r p) r p ≡ joinRound v h r (p + 1)
-unfolding joinRound
-join-round-in v h r p e = rw (add-one p) (sym (cond-true _ _ e))
+module _ (v : Records) (h m o : List ℕ) (r p at : ℕ) (e : m ≡ joinRound v h r p) (d : at ≡ r - 1) where
+  pub join-round-in : has (getD m at 0) p ≡ true → o ≡ joinParents v m r p → o ≡ joinRound v h r (p + 1)
+  unfolding joinRound
+  join-round-in k f = rw (add-one p) (rw e at f ∙ sym (cond-true _ _ (rw (e, d) at k)))
 
-pub join-round-out : (v : Records) (h : List ℕ) (r p : ℕ) → has (getD (joinRound v h r p) (r - 1) 0) p ≡ false → joinRound v h r p ≡ joinRound v h r (p + 1)
-unfolding joinRound
-join-round-out v h r p e = rw (add-one p) (sym (cond-false _ _ e))
+  pub join-round-out : has (getD m at 0) p ≡ false → o ≡ m → o ≡ joinRound v h r (p + 1)
+  unfolding joinRound
+  join-round-out k f = rw (add-one p) (f ∙ e ∙ sym (cond-false _ _ (rw (e, d) at k)))
 
 pub fill-none : (n : ℕ) (v : Records) (h : List ℕ) → fill n v h 0 ≡ h
 unfolding fill
@@ -128,17 +143,6 @@ pub fill-step : (n : ℕ) (v : Records) (h : List ℕ) (k : ℕ) → 0 < k → f
 unfolding fill
 fill-step n v h zero l = absurd (not-suc-le-zero l)
 fill-step n v h (suc k) l = rw (sub-one (suc k), add-one (suc k))
-
-no-weak : (body : List ℕ) → present body ≡ false → weakCountOf body ≡ 0
-unfolding weakCountOf
-no-weak [] e = refl
-no-weak (w ∷ body) e = never refl e
-
-pub weak-few : (l : List ℕ) → Standing l → (r p : ℕ) → weakCountOf (vertices l r p) ≤ 5
-weak-few l S r p = ⊎-elim
-    (λ e. omega (arith, S .formed .admitted r p e .weak-few, S .high))
-    (λ e. omega (arith, no-weak (vertices l r p) e))
-    (which (held (vertices l) r p))
 
 pub join-strong : (v : Records) (h : List ℕ) (r p k s : ℕ) → k ≡ r - 1 - 1 → s ≡ strongOf (v r p)
     → joinWeak (set h k (bitOr (getD h k 0) s)) (v r p) (weakCountOf (v r p)) ≡ joinParents v h r p

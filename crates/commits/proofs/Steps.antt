@@ -16,7 +16,8 @@ use Rattle.record.specs.Members.{quorum, leader, has, meets, idOf, idMember}
 use Rattle.record.specs.Layout.{strongOf}
 use Rattle.record.specs.Questions.{roundOk}
 use Rattle.record.proofs.Booleans.{which, never, and-both, and-fails-left, and-fails-right, or-right, cond-true, cond-false}
-use Rattle.record.proofs.Below.{count-cong, count-le}
+use Rattle.record.proofs.Below.{count-cong, count-le, count-more, count-same}
+use Rattle.record.proofs.Below as below
 use Rattle.record.proofs.Masks.{has-zero, has-one, meets-count}
 use Rattle.protocol.specs.Dag.{Dag, present, held, votes, enough, committed}
 use Rattle.protocol.specs.Chain.{leaderId}
@@ -27,9 +28,9 @@ use Rattle.replica.specs.State.{firsts, dag, orderedId}
 use Rattle.replica.specs.WellFormed.{subset}
 use Rattle.replica.proofs.Laws.{subset-has}
 use Rattle.replica.proofs.Parents.{round-in}
-use Rattle.commits.specs.Commit.{appendLeader, appendLeaders, enter, enterAll, committable, lowest}
+use Rattle.commits.specs.Commit.{appendLeader, appendLeaders, enter, enterAll, committable}
 use Rattle.commits.specs.Standing.{Standing, Room, orderId, orderRound}
-use Rattle.commits.proofs.Laws.{strong-word}
+use Rattle.commits.proofs.Laws.{Cell}
 
 -- a cell that lies within the state is a record's body
 cell-present : (l : List ℕ) (r p : ℕ) → cellAt r p < length l → present (cell l r p) ≡ true
@@ -250,9 +251,22 @@ pub committable-low : (l : List ℕ) (q : ℕ) → q ≤ committedRound l → co
 unfolding committable
 committable-low l q h = and-fails-left _ (le-ltb (committedRound l) q h)
 
--- a vertex votes exactly if the strong mask in its cell has the leader
-pub vertex-vote : (l : List ℕ) → Standing l → (n q p at : ℕ) → q ≤ 31 → p < 16 → at ≡ cellAt (q + 1) p
-    → has (getD l at 0) (leader n q) ≡ votes n q (vertices l (suc q) p)
-vertex-vote l S n q p at high few e =
-    ap (λ (x : ℕ). has x (leader n q)) (ap (λ (x : ℕ). getD l x 0) e ∙ sym (strong-word l S (q + 1) p (omega arith) (omega arith) few))
-    ∙ ap (λ (x : ℕ). votes n q (vertices l x p)) (add-one q)
+-- the votes of the vertices of round q + 1, a member at a time: k of the members below p vote
+pub record Voting (l : List ℕ) (n q p k : ℕ) : Type 0 where
+  pub few : k ≤ p
+  pub is : k ≡ count p (λ m. votes n q (vertices l (suc q) m))
+
+pub voting-start : (l : List ℕ) (n q : ℕ) → Voting l n q 0 0
+voting-start l n q = record { few = omega arith; is = sym (below.count-none _) }
+
+module _ (l : List ℕ) (n q p k at : ℕ) (C : Cell l (q + 1) p at) (w : Voting l n q p k) where
+  -- a vertex votes exactly if the strong mask in its cell has the leader
+  vertex-vote : has (getD l at 0) (leader n q) ≡ votes n q (vertices l (suc q) p)
+  vertex-vote = rw (← add-one q) (ap (λ (x : ℕ). has x (leader n q)) (C .strong))
+
+  pub voting-in : (m : ℕ) → has (getD l at 0) (leader n q) ≡ true → m ≡ k + 1 → Voting l n q (p + 1) m
+  voting-in m h e =
+      record { few = omega (arith, w .few); is = e ∙ ap (λ (x : ℕ). x + 1) (w .is) ∙ sym (count-more p _ (sym vertex-vote ∙ h)) }
+
+  pub voting-out : (m : ℕ) → has (getD l at 0) (leader n q) ≡ false → m ≡ k → Voting l n q (p + 1) m
+  voting-out m h e = record { few = omega (arith, w .few); is = e ∙ w .is ∙ sym (count-same p _ (sym vertex-vote ∙ h)) }

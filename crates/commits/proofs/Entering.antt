@@ -39,11 +39,14 @@ order-keeps l mask y low high h = go (which (has mask (idMember y))) (which (ord
         subst Roomy (order-new l mask y a b) (alike-enter l y low high space .size ∙ h .0, room-kept l y (h .0) low high space b (h .1))
 
 -- and so does ordering a round's ids
-pub round-keeps : (l : List ℕ) (mask r k : ℕ) → 1 ≤ r → r ≤ 32 → k ≤ 16 → Roomy l → Roomy (orderRound l mask r k)
+round-keeps : (l : List ℕ) (mask r k : ℕ) → 1 ≤ r → r ≤ 32 → k ≤ 16 → Roomy l → Roomy (orderRound l mask r k)
 unfolding orderRound
 round-keeps l mask r zero low high few h = h
 round-keeps l mask r (suc k) low high few h =
     order-keeps (orderRound l mask r k) mask (idOf r k) (omega arith) (omega arith) (round-keeps l mask r k low high (omega arith) h)
+
+pub round-kept : (l m : List ℕ) (mask r k : ℕ) → 1 ≤ r → r ≤ 32 → k ≤ 16 → length l ≡ 5864 → Room l → m ≡ orderRound l mask r k → Roomy m
+round-kept l m mask r k low high few size room e = rw e (round-keeps l mask r k low high few (size, room))
 
 -- an id of the history of round r's leader that was not ordered at first
 pub wantedIn : ℕ → List ℕ → ℕ → ℕ → Bool

@@ -14,7 +14,7 @@ use lib.Dec.{ltb, leb}
 use Rattle.record.specs.Below.{select, least}
 use Rattle.record.specs.Members.{leader, has}
 use Rattle.record.proofs.Booleans.{which, never, and-left, and-right}
-use Rattle.record.proofs.Below.{least-sat, least-le}
+use Rattle.record.proofs.Below.{least-sat}
 use Rattle.protocol.specs.Dag.{held, committed}
 use Rattle.protocol.specs.Chain.{chain}
 use Rattle.protocol.proofs.Commit.{committed-held}
@@ -97,11 +97,11 @@ module _ (l : List ℕ) (G : Going l) (q : ℕ) (c : Committable l q) where
   }
 
 -- the lowest committable round of a state, if it is below 32
-pub lowest-is : (l : List ℕ) → lowest l < 32 → Committable l (lowest l)
+lowest-is : (l : List ℕ) → lowest l < 32 → Committable l (lowest l)
 lowest-is l h = committable-is l (lowest l) (least-sat 32 (committable l) h)
 
 -- after a commit of round q the lowest committable round is higher
-pub lowest-rises : (l : List ℕ) (q : ℕ) → q < 32 → committedRound l ≡ q → q < lowest l
+lowest-rises : (l : List ℕ) (q : ℕ) → q < 32 → committedRound l ≡ q → q < lowest l
 lowest-rises l q h e = ⊎-elim (λ k. k) (λ k. absurd (no k)) (lt-or-le q (lowest l))
   where
     no : lowest l ≤ q → ⊥
@@ -133,7 +133,7 @@ unfolding commitUpTo
 commit-over l zero h = refl
 commit-over l (suc k) h = rw (le-ltb (lowest l) 32 h)
 
-pub onward-next : (l₀ l m : List ℕ) (q : ℕ) → Onward l₀ l → q ≡ lowest l → q < 32 → m ≡ commit l q → Onward l₀ m
+onward-next : (l₀ l m : List ℕ) (q : ℕ) → Onward l₀ l → q ≡ lowest l → q < 32 → m ≡ commit l q → Onward l₀ m
 onward-next l₀ l m q o e h d =
     let c : Committable l q = rw e (lowest-is l (omega arith)) in
     rw d (record {
@@ -148,12 +148,36 @@ onward-next l₀ l m q o e h d =
 pub onward-end : (l₀ l : List ℕ) → Onward l₀ l → 32 ≤ lowest l → l ≡ commitUpTo l₀ 31
 onward-end l₀ l o h = sym (o .is ∙ commit-over l (o .left) h)
 
--- what the code asks before each commit
-pub onward-ready : (l₀ l : List ℕ) (q : ℕ) → Onward l₀ l → q ≡ lowest l → q < 32 → Committable l q
-onward-ready l₀ l q o e h = rw e (lowest-is l (omega arith))
+-- what the code may use of the state after the commit of round q
+pub record Later (n : ℕ) (l₀ : List ℕ) (q : ℕ) (m : List ℕ) : Type 0 where
+  pub onward : Onward l₀ m
+  pub members : n ≡ memberCount m
+  pub rises : q < lowest m
 
-pub onward-rises : (l₀ l m : List ℕ) (q : ℕ) → Onward l₀ l → q ≡ lowest l → q < 32 → m ≡ commit l q → q < lowest m
-onward-rises l₀ l m q o e h d = lowest-rises m q h (ap committedRound d ∙ commit-round l (o .going) q (onward-ready l₀ l q o e h))
+-- and of the state before, of which q is the lowest committable round
+pub record Soon (n : ℕ) (l₀ : List ℕ) (q : ℕ) (l : List ℕ) : Type 0 where
+  pub going : Going l
+  pub members : n ≡ memberCount l
+  pub low : committedRound l < q
+  pub high : q ≤ 31
+  pub there : held (vertices l) q (leader n q) ≡ true
+  pub next : (m : List ℕ) → m ≡ commit l q → Later n l₀ q m
 
-pub lowest-le : (l : List ℕ) → lowest l ≤ 32
-lowest-le l = least-le 32 (committable l)
+pub soon : (n : ℕ) (l₀ : List ℕ) (q : ℕ) (l : List ℕ) → n ≡ memberCount l₀ → Onward l₀ l → q ≡ lowest l → q < 32 → Soon n l₀ q l
+soon n l₀ q l f o e h =
+    let c : Committable l q = rw e (lowest-is l (omega arith)) in
+    let same : n ≡ memberCount l = f ∙ sym (o .alike .members) in
+    record {
+      going = o .going;
+      members = same;
+      low = c .low;
+      high = c .high;
+      there = rw same (c .there);
+      next = λ m d.
+          let w = onward-next l₀ l m q o e h d in
+          record {
+            onward = w;
+            members = f ∙ sym (w .alike .members);
+            rises = lowest-rises m q h (ap committedRound d ∙ commit-round l (o .going) q c);
+          };
+    }

@@ -130,9 +130,9 @@ pub round-none : (l : List ℕ) (mask r : ℕ) → l ≡ orderRound l mask r 0
 unfolding orderRound
 round-none l mask r = refl
 
-pub round-more : (l : List ℕ) (mask r p : ℕ) → orderId (orderRound l mask r p) mask (idOf r p) ≡ orderRound l mask r (p + 1)
+pub round-more : (l m o : List ℕ) (mask r p : ℕ) → m ≡ orderRound l mask r p → o ≡ orderId m mask (idOf r p) → o ≡ orderRound l mask r (p + 1)
 unfolding orderRound
-round-more l mask r p = rw (add-one p)
+round-more l m o mask r p e d = rw (add-one p) (rw e at d)
 
 -- a round with nothing new changes nothing
 pub round-old : (l : List ℕ) (mask r k : ℕ) → 1 ≤ r → r ≤ 32 → k ≤ 16 → subset mask (orderedMask l r) ≡ true → l ≡ orderRound l mask r k

@@ -121,7 +121,7 @@ module _ (n : ℕ) (l : List ℕ) (S : Standing l) (R : Room l) (e : n ≡ membe
   entering (suc y) = subst Entering (add-one y) (⊎-elim (enter-step y (entering y)) (skip-step y (entering y)) (which (wanted y)))
 
   -- the first 16 numbers are no ids
-  pub start : l ≡ soFar 16
+  start : l ≡ soFar 16
   unfolding soFarIn
   start = enter-none l
       ∙ ap (enterAll l) (sym (select-none 16 wanted (λ y k. ⊎-elim (λ h. absurd (omega (arith, wanted-range y h .0))) (λ h. h) (which (wanted y)))))
@@ -141,10 +141,10 @@ module _ (n : ℕ) (l : List ℕ) (S : Standing l) (R : Room l) (e : n ≡ membe
       go (inr a) (inl b) = sym (order-new (soFar y) mask y (h ∙ b) (same ∙ a)) ∙ so-far-in y (and-both (ap not a) b)
       go (inr a) (inr b) = sym (order-out (soFar y) mask y (h ∙ b)) ∙ so-far-out y (and-fails-right (not (orderedId l y)) b)
 
-  pub so-far-alike : (y : ℕ) → Alike l (soFar y)
+  so-far-alike : (y : ℕ) → Alike l (soFar y)
   so-far-alike y = entering y .alike
 
-  pub so-far-room : (y : ℕ) → Room (soFar y)
+  so-far-room : (y : ℕ) → Room (soFar y)
   so-far-room y = entering y .room
 
   -- after the last id the history has been ordered
@@ -171,7 +171,7 @@ module _ (n : ℕ) (l : List ℕ) (S : Standing l) (R : Room l) (e : n ≡ membe
       ∙ ap soFar (omega arith)
 
   -- one round, by its mask in the history's masks
-  pub round-step : (s : ℕ) (x : List ℕ) (mask : ℕ) → s < 32 → x ≡ soFar (16 * (s + 1)) → mask ≡ getD (historyMasks n (vertices l) r (leader n r)) s 0
+  round-step : (s : ℕ) (x : List ℕ) (mask : ℕ) → s < 32 → x ≡ soFar (16 * (s + 1)) → mask ≡ getD (historyMasks n (vertices l) r (leader n r)) s 0
       → orderRound x mask (s + 1) 16 ≡ soFar (16 * (s + 1 + 1))
   round-step s x mask high e d = rw e (members-step (s + 1) mask 16 (omega arith) named ∙ ap soFar (omega arith))
     where
@@ -188,8 +188,24 @@ module _ (n : ℕ) (l : List ℕ) (S : Standing l) (R : Room l) (e : n ≡ membe
       nothing-above k ∙ so-far-out y (⊎-elim (λ h. absurd (omega (arith, wanted-range y h .2))) (λ h. h) (which (wanted y))) ∙ ap soFar (omega arith)
 
   -- so the leader's round is the last
-  pub last-round : r ≤ 32 → soFar (16 * (r + 1)) ≡ orderLeader (vertices l) l r
+  last-round : r ≤ 32 → soFar (16 * (r + 1)) ≡ orderLeader (vertices l) l r
   last-round high = nothing-above (528 - 16 * (r + 1)) ∙ ap soFar (omega arith) ∙ finish
+
+-- what each step of the code may use, that orders the history of round r's leader round by round
+pub record Growth (n : ℕ) (l : List ℕ) (r : ℕ) : Type 0 where
+  pub begun : l ≡ soFarIn n l r 16
+  pub kept : (s : ℕ) (m : List ℕ) → m ≡ soFarIn n l r (16 * (s + 1)) → Roomy m
+  pub more : (s : ℕ) (m o : List ℕ) (mask : ℕ) → s < 32 → m ≡ soFarIn n l r (16 * (s + 1))
+      → mask ≡ getD (historyMasks n (vertices l) r (leader n r)) s 0 → o ≡ orderRound m mask (s + 1) 16 → o ≡ soFarIn n l r (16 * (s + 1 + 1))
+  pub done : (m : List ℕ) → m ≡ soFarIn n l r (16 * (r + 1)) → m ≡ orderLeader (vertices l) l r
+
+pub growth : (n : ℕ) (l : List ℕ) (r : ℕ) → Standing l → Room l → n ≡ memberCount l → r ≤ 31 → held (vertices l) r (leader n r) ≡ true → Growth n l r
+growth n l r S R e high there = record {
+  begun = start n l S R e r there;
+  kept = λ s m d. let y = 16 * (s + 1) in rw d (so-far-alike n l S R e r there y .size ∙ S .size, so-far-room n l S R e r there y);
+  more = λ s m o mask h d k f. f ∙ round-step n l S R e r there s m mask h d k;
+  done = λ m d. d ∙ last-round n l S R e r there (omega arith);
+}
 
 -- ordering a leader's history leaves the rest alike, and room for more
 pub leader-alike : (l : List ℕ) → Standing l → Room l → (r : ℕ) → held (vertices l) r (leader (memberCount l) r) ≡ true → Alike l (orderLeader (vertices l) l r)

@@ -1,10 +1,9 @@
-use Rattle.commits.proofs.Entering.{soFarIn, start, round-step, last-round, so-far-alike, so-far-room}
+-- The loop's invariant: the history's ids of the rounds up to r are ordered. The measure is how many rounds are left.
+use Rattle.commits.proofs.Entering.{Roomy, soFarIn, Growth, growth}
 use Rattle.record.proofs.Masks.{leader-lt}
-use mathlib.Core.Path.{_≡_, ap, ap₂, _∙_}
-use mathlib.Core.List.{List}
-use Prim.Native.Nat.{ℕ, _+_, _*_, _-_, _≤_}
+use mathlib.Core.Path.{_≡_, sym, _∙_}
+use Prim.Native.Nat.{_+_, _*_, _-_, _≤_, _<_}
 use native.Mathlib.Omega.{arith}
-use lib.ListN.{length, getD}
 use borrow.Author.Needs.{needs}
 use Rattle.commits.proofs.commit.order_leader.Statement.{statement}
 use Rattle.commits.proofs.commit.order_leader.Tie as tie
@@ -15,74 +14,29 @@ Inv-loop state₀ n round masks r₀ state r = (r ≤ round) × (state ≡ soFar
 abbrev μ-loop : tie.MeasureT-loop
 μ-loop state₀ n round masks r₀ state r = round - r
 
-leader-of-requires : tie.Need-leader-of-requires Inv-loop μ-loop
-leader-of-requires c κs =
-    let the-start : tie.Start Inv-loop μ-loop = search in
-    (omega (arith, the-start .pre .0 .low), the-start .pre .3)
+known : (c : tie.Start Inv-loop μ-loop) → Growth (c .args .n) (c .args .state .now) (c .args .round)
+known c = growth _ _ _ (c .pre .0) (c .pre .1) (c .pre .2) (c .pre .4) (c .pre .5)
 
-history-of-requires : tie.Need-history-of-requires Inv-loop μ-loop
-history-of-requires c κs =
-    let the-start : tie.Start Inv-loop μ-loop = search in
-    let s = the-start in (
-      s .pre .0,
-      s .pre .2,
-      s .pre .3,
-      omega arith,
-      omega (arith, c .leader-of .ensures, leader-lt (s .args .n) (s .args .round) (omega (arith, s .pre .0 .low)), s .pre .0 .high),
-    )
+small : (c : tie.After-leader-of Inv-loop μ-loop) → c .leader-of .result < 16
+small c =
+    let s : tie.Start Inv-loop μ-loop = search in
+    omega (arith, leader-lt (s .args .n) (s .args .round) (omega (arith, s .pre .0 .low)), s .pre .0 .high)
 
-loop-holds : tie.Need-loop-holds Inv-loop μ-loop
-loop-holds c =
-    let the-start : tie.Start Inv-loop μ-loop = search in
-    let s = the-start in (omega arith, start (s .args .n) (s .args .state .now) (s .pre .0) (s .pre .1) (s .pre .2) (s .args .round) (s .pre .5))
-
-order-round-requires : tie.Need-order-round-requires Inv-loop μ-loop
-order-round-requires c κs =
-    let at-loop : tie.At-loop Inv-loop μ-loop = search in
-    let the-start : tie.Start Inv-loop μ-loop = search in
-    let s = the-start in
-    let y = 16 * (at-loop .loop .r + 1) in (
-      ap length (at-loop .loop .inv .1)
-          ∙ so-far-alike (s .args .n) (s .args .state .now) (s .pre .0) (s .pre .1) (s .pre .2) (s .args .round) (s .pre .5) y .size
-          ∙ s .pre .0 .size,
-      omega arith,
-      omega arith,
-      rw (at-loop .loop .inv .1) (so-far-room (s .args .n) (s .args .state .now) (s .pre .0) (s .pre .1) (s .pre .2) (s .args .round) (s .pre .5) y),
-    )
+roomy : (c : tie.At-loop Inv-loop μ-loop) → Roomy (c .loop .state)
+roomy c = known (search) .kept _ _ (c .loop .inv .1)
 
 loop-again : tie.Need-loop-again Inv-loop μ-loop
 loop-again c =
-    let after-order-round : tie.After-order-round Inv-loop μ-loop = search in
-    let after-wide : tie.After-wide Inv-loop μ-loop = search in
-    let at-loop : tie.At-loop Inv-loop μ-loop = search in
-    let after-history-of : tie.After-history-of Inv-loop μ-loop = search in
-    let after-leader-of : tie.After-leader-of Inv-loop μ-loop = search in
-    let the-start : tie.Start Inv-loop μ-loop = search in
-    let s = the-start in
-    let masks = rw (after-leader-of .leader-of .ensures) at (after-history-of .history-of .ensures) in
-    let mask = ap₂ (λ (x : List ℕ) (k : ℕ). getD x k 0) masks (after-wide .wide .ensures) in (
-      omega arith,
-      after-order-round .order-round .ensures
-          ∙ round-step (s .args .n) (s .args .state .now) (s .pre .0) (s .pre .1) (s .pre .2) (s .args .round) (s .pre .5) (at-loop .loop .r) _ _
-          (omega arith) (at-loop .loop .inv .1) mask,
-    )
-
-same-length : tie.Need-same-length Inv-loop μ-loop
-same-length c =
-    let at-loop : tie.At-loop Inv-loop μ-loop = search in
-    let the-start : tie.Start Inv-loop μ-loop = search in
-    let s = the-start in ap length (at-loop .loop .inv .1)
-    ∙ so-far-alike (s .args .n) (s .args .state .now) (s .pre .0) (s .pre .1) (s .pre .2) (s .args .round) (s .pre .5)
-    (16 * (at-loop .loop .r + 1)) .size
+    let a : tie.At-loop Inv-loop μ-loop = search in
+    let o : tie.After-order-round Inv-loop μ-loop = search in
+    (omega arith, known (search) .more _ _ _ _ (omega arith) (a .loop .inv .1) (cc) (o .order-round .ensures))
 
 returns : tie.Need-returns Inv-loop μ-loop
 returns c =
-    let at-loop : tie.At-loop Inv-loop μ-loop = search in
-    let the-start : tie.Start Inv-loop μ-loop = search in
-    let s = the-start in
-    let e : at-loop .loop .r ≡ s .args .round = omega arith in
-    at-loop .loop .inv .1 ∙ ap (λ (x : ℕ). soFarIn (s .args .n) (s .args .state .now) (s .args .round) (16 * (x + 1))) e
-    ∙ last-round (s .args .n) (s .args .state .now) (s .pre .0) (s .pre .1) (s .pre .2) (s .args .round) (s .pre .5) (omega arith)
+    let s : tie.Start Inv-loop μ-loop = search in
+    let a : tie.At-loop Inv-loop μ-loop = search in
+    let e : a .loop .r ≡ s .args .round = omega arith in
+    known (search) .done _ (cc)
 
 pub order-leader-spec : {M : Type 1} → statement M
 order-leader-spec =
@@ -90,16 +44,16 @@ order-leader-spec =
     (tie.spec
     Inv-loop
     μ-loop
-    leader-of-requires
-    history-of-requires
-    loop-holds
+    (λ c κs. let s : tie.Start Inv-loop μ-loop = search in search needs)
+    (λ c κs. let h = small (search) in let s : tie.Start Inv-loop μ-loop = search in search needs)
+    (λ c. (omega arith, known (search) .begun))
     (λ c κs. search needs)
     (λ c. search needs)
     (λ c. search needs)
     (λ c. search needs)
-    order-round-requires
+    (λ c κs. let k = roomy (search) in search needs)
     (λ c. search needs)
     (λ c. search needs)
     loop-again
-    same-length
+    (λ c. let s : tie.Start Inv-loop μ-loop = search in roomy (search) .0 ∙ sym (s .pre .0 .size))
     returns)

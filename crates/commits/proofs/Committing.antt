@@ -1,16 +1,15 @@
 -- One commit, step by step: what stays alike, and what is left to do. Assumes nothing.
-use mathlib.Core.Path.{_≡_, refl, sym, ap, ap₂, _∙_, subst}
-use mathlib.Core.Bool.{Bool, true, false}
-use mathlib.Core.Logic.{_⊎_, inl, inr, ⊎-elim}
+use mathlib.Core.Path.{_≡_, refl, sym, ap, ap₂, _∙_}
+use mathlib.Core.Bool.{true, false}
+use mathlib.Core.Logic.{⊎-elim}
 use mathlib.Core.List.{List, [], _∷_, _++_}
-use Prim.Native.Nat.{ℕ, zero, suc, _+_, _-_, _≤_, _<_}
-use native.Mathlib.Numerals.{add-one}
+use Prim.Native.Nat.{ℕ, _+_, _≤_, _<_}
 use native.Mathlib.Omega.{arith}
 use borrow.Author.Tests.{lt-ltb, eq-eqb}
 use lib.Dec.{eqb}
 use lib.ListN.{length, getD, set}
 use lib.Seq.{getD-set-other}
-use Rattle.record.specs.Below.{count, select}
+use Rattle.record.specs.Below.{select}
 use Rattle.record.specs.Members.{leader, has, add, idRound, idMember}
 use Rattle.record.specs.Questions.{roundOk}
 use Rattle.record.proofs.Booleans.{which, and-cong, or-left, or-right}
@@ -41,50 +40,48 @@ unfolding orderLeaders
 order-more v l [] r = refl
 order-more v l (x ∷ rs) r = order-more v (orderLeader v l x) rs r
 
+-- what the ordering asks of a state
+pub record Led (n mask : ℕ) (l : List ℕ) : Type 0 where
+  pub standing : Standing l
+  pub room : Room l
+  pub members : n ≡ memberCount l
+  pub there : (r : ℕ) → r < 32 → has mask r ≡ true → held (vertices l) r (leader n r) ≡ true
+
 -- the histories of the leaders of the rounds below r that are taken have been ordered
 pub record Ordering (n : ℕ) (l₀ : List ℕ) (mask r : ℕ) (l : List ℕ) : Type 0 where
   pub alike : Alike l₀ l
-  pub standing : Standing l
-  pub room : Room l
+  pub led : Led n mask l
   pub is : l ≡ orderLeaders (vertices l₀) l₀ (select r (has mask))
 
-module _ (n : ℕ) (l₀ : List ℕ) (e : n ≡ memberCount l₀) (mask : ℕ) (there : (r : ℕ) → r < 32 → has mask r ≡ true
-    → held (vertices l₀) r (leader n r) ≡ true) where
-  pub ordering-start : Standing l₀ → Room l₀ → has mask 0 ≡ false → Ordering n l₀ mask 1 l₀
-  ordering-start S R z = record {
+module _ (n : ℕ) (l₀ : List ℕ) (mask : ℕ) where
+  pub ordering-start : Led n mask l₀ → has mask 0 ≡ false → Ordering n l₀ mask 1 l₀
+  ordering-start L z = record {
     alike = alike-self l₀;
-    standing = S;
-    room = R;
+    led = L;
     is = order-none (vertices l₀) l₀ ∙ ap (orderLeaders (vertices l₀) l₀) (sym (select-out 0 (has mask) z ∙ select-zero (has mask)));
   }
-
-  -- the leader's vertex is held in the state as it is now
-  pub ordering-held : (r : ℕ) (l : List ℕ) → Ordering n l₀ mask r l → r < 32 → has mask r ≡ true → held (vertices l) r (leader n r) ≡ true
-  ordering-held r l o k h = rw (vertices-same (o .alike)) (there r k h)
-
-  pub ordering-members : (r : ℕ) (l : List ℕ) → Ordering n l₀ mask r l → n ≡ memberCount l
-  ordering-members r l o = e ∙ sym (o .alike .members)
 
   pub ordering-in : (r : ℕ) (l m : List ℕ) → Ordering n l₀ mask r l → r < 32 → has mask r ≡ true → m ≡ orderLeader (vertices l) l r
       → Ordering n l₀ mask (r + 1) m
   ordering-in r l m o b h d =
-      let k : held (vertices l) r (leader (memberCount l) r) ≡ true = rw (ordering-members r l o) at (ordering-held r l o b h) in
-      let A = leader-alike l (o .standing) (o .room) r k in
+      let L = o .led in
+      let k : held (vertices l) r (leader (memberCount l) r) ≡ true = rw (L .members) at (L .there r b h) in
+      let A = leader-alike l (L .standing) (L .room) r k in
       rw d (record {
         alike = alike-then (o .alike) A;
-        standing = standing-kept A (o .standing);
-        room = leader-room l (o .standing) (o .room) r k;
+        led = record {
+          standing = standing-kept A (L .standing);
+          room = leader-room l (L .standing) (L .room) r k;
+          members = L .members ∙ sym (A .members);
+          there = λ q a t. rw (vertices-same A) (L .there q a t);
+        };
         is = ap₂ (λ (v : Records) (x : List ℕ). orderLeader v x r) (vertices-same (o .alike)) (o .is) ∙ order-more (vertices l₀) l₀ (select r (has mask)) r
             ∙ ap (orderLeaders (vertices l₀) l₀) (sym (select-in r (has mask) h));
       })
 
   pub ordering-out : (r : ℕ) (l m : List ℕ) → Ordering n l₀ mask r l → has mask r ≡ false → m ≡ l → Ordering n l₀ mask (r + 1) m
-  ordering-out r l m o h d = rw d (record {
-    alike = o .alike;
-    standing = o .standing;
-    room = o .room;
-    is = o .is ∙ ap (orderLeaders (vertices l₀) l₀) (sym (select-out r (has mask) h));
-  })
+  ordering-out r l m o h d =
+      rw d (record { alike = o .alike; led = o .led; is = o .is ∙ ap (orderLeaders (vertices l₀) l₀) (sym (select-out r (has mask) h)) })
 
 -- so for any list of rounds whose leaders' vertices are held
 pub ordered-kept : (rs l : List ℕ) (v : Records) → v ≡ vertices l → Standing l → Room l
@@ -174,13 +171,6 @@ quiet-room {l} {m} q R = omega (
     same y e = let h = round-range (idRound y) e in ap (λ (x : ℕ). has x (idMember y)) (q .ordered (idRound y) (h .0) (h .1))
 
 -- ---- one commit
-
--- what the ordering asks of a state whose leaders were appended
-pub record Led (n mask : ℕ) (l : List ℕ) : Type 0 where
-  pub standing : Standing l
-  pub room : Room l
-  pub members : n ≡ memberCount l
-  pub there : (r : ℕ) → r < 32 → has mask r ≡ true → held (vertices l) r (leader n r) ≡ true
 
 -- what each later step may use of the rounds taken
 pub record Taken (l : List ℕ) (n q mask : ℕ) : Type 0 where

@@ -1,27 +1,25 @@
 -- The commits one after the other, until no round is committable. Assumes nothing.
-use mathlib.Core.Path.{_≡_, refl, sym, ap, _∙_, subst}
-use mathlib.Core.Bool.{Bool, true, false}
+use mathlib.Core.Path.{_≡_, refl, sym, ap, _∙_}
+use mathlib.Core.Bool.{true}
 use mathlib.Core.Logic.{_⊎_, inl, inr, ⊎-elim}
 use mathlib.Core.List.{List}
 use Prim.Native.Nat.{ℕ, zero, suc, _+_, _-_, _≤_, _<_}
 use native.Mathlib.Nat.{not-suc-le-zero}
 use native.Mathlib.Numerals.{sub-one}
 use native.Mathlib.Omega.{arith}
-use lib.ListN.{length, getD, set}
+use lib.ListN.{set}
 use lib.Seq.{getD-set-same, getD-set-other}
 use borrow.Author.Tests.{lt-ltb, le-ltb, ltb-true, ltb-false, leb-true}
 use lib.Dec.{ltb, leb}
-use Rattle.record.specs.Below.{select, least}
-use Rattle.record.specs.Members.{leader, has}
+use Rattle.record.specs.Members.{leader}
 use Rattle.record.proofs.Booleans.{which, never, and-left, and-right}
 use Rattle.record.proofs.Below.{least-sat}
-use Rattle.protocol.specs.Dag.{held, committed}
-use Rattle.protocol.specs.Chain.{chain}
+use Rattle.protocol.specs.Dag.{held}
 use Rattle.protocol.proofs.Commit.{committed-held}
 use Rattle.protocol.proofs.Chain.{chain-held}
 use Rattle.protocol.proofs.Laws.{chain-length}
 use Rattle.replica.specs.State.{memberCount, committedRound, leaderCount, vertices, dag}
-use Rattle.commits.specs.Commit.{appendLeaders, orderLeaders, taken, commit, committable, lowest, commitUpTo}
+use Rattle.commits.specs.Commit.{appendLeaders, taken, commit, committable, lowest, commitUpTo}
 use Rattle.commits.specs.Standing.{Standing, Room}
 use Rattle.commits.proofs.Steps.{committable-low}
 use Rattle.commits.proofs.Frame.{Alike, alike-self, alike-then, vertices-same, standing-kept}

@@ -4,7 +4,7 @@ use Rattle.protocol.specs.Masks.{joinRound}
 use Rattle.replica.specs.State.{vertices}
 use mathlib.Core.Path.{_≡_, _∙_}
 use mathlib.Core.Logic.{⊎-elim}
-use Prim.Native.Nat.{_≤_, _<_, _-_}
+use Prim.Native.Nat.{_≤_, _-_}
 use native.Mathlib.Omega.{arith}
 use borrow.Author.Needs.{needs}
 use Rattle.commits.proofs.history.join_round.Statement.{statement}
@@ -15,9 +15,6 @@ Inv-loop state n masks₀ round at p₀ masks p = (p ≤ n) × (masks ≡ joinRo
 
 abbrev μ-loop : tie.MeasureT-loop
 μ-loop state n masks₀ round at p₀ masks p = n - p
-
-small : (c : tie.In-loop Inv-loop μ-loop) → let a : tie.At-loop Inv-loop μ-loop = search in a .loop .p < 16
-small c = let s : tie.Start Inv-loop μ-loop = search in omega (arith, s .pre .0 .high)
 
 loop-again : tie.Need-loop-again Inv-loop μ-loop
 loop-again c =
@@ -48,8 +45,8 @@ join-round-spec =
     (λ c. (omega arith, join-round-none _ _ _))
     (λ c. search needs)
     (λ c. search needs)
-    (λ c κs. let h = small (search) in search needs)
-    (λ c κs. let h = small (search) in let s : tie.Start Inv-loop μ-loop = search in search needs)
+    (λ c κs. let s : tie.Start Inv-loop μ-loop = search in search needs)
+    (λ c κs. let s : tie.Start Inv-loop μ-loop = search in search needs)
     (λ c. search needs)
     (λ c. search needs)
     loop-again

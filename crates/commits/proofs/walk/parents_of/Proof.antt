@@ -4,7 +4,7 @@ use Rattle.protocol.specs.Masks.{parents}
 use Rattle.replica.specs.State.{vertices}
 use mathlib.Core.Path.{_≡_}
 use mathlib.Core.Logic.{⊎-elim}
-use Prim.Native.Nat.{_≤_, _<_, _-_}
+use Prim.Native.Nat.{_≤_, _-_}
 use native.Mathlib.Omega.{arith}
 use borrow.Author.Needs.{needs}
 use Rattle.commits.proofs.walk.parents_of.Statement.{statement}
@@ -16,16 +16,13 @@ Inv-loop state n round mask members joined₀ p₀ joined p = (p ≤ n) × (join
 abbrev μ-loop : tie.MeasureT-loop
 μ-loop state n round mask members joined₀ p₀ joined p = n - p
 
-small : (c : tie.In-loop Inv-loop μ-loop) → let a : tie.At-loop Inv-loop μ-loop = search in a .loop .p < 16
-small c = let s : tie.Start Inv-loop μ-loop = search in omega (arith, s .pre .0 .high)
-
 loop-again : tie.Need-loop-again Inv-loop μ-loop
 loop-again c =
     let s : tie.Start Inv-loop μ-loop = search in
     let a : tie.At-loop Inv-loop μ-loop = search in (
       omega arith,
       ⊎-elim
-          (λ w. let k = cell-known _ (s .pre .0) _ _ _ (s .pre .2) (s .pre .3) (small (search)) (w .1 .ensures) in
+          (λ w. let k = cell-known _ (s .pre .0) _ _ _ (s .pre .2) (s .pre .3) (omega (arith, s .pre .0 .high)) (w .1 .ensures) in
           parents-in _ _ _ _ _ _ _ k (a .loop .inv .1) (cc) (w .3))
           (λ w. parents-out _ _ _ _ _ _ (a .loop .inv .1) (cc) (w .1))
           (c .if1 .came),
@@ -45,10 +42,10 @@ parents-of-spec =
     Inv-loop
     μ-loop
     (λ c. (omega arith, parents-none _ _ _))
-    (λ c κs. let h = small (search) in search needs)
-    (λ c κs. let h = small (search) in search needs)
+    (λ c κs. let s : tie.Start Inv-loop μ-loop = search in search needs)
+    (λ c κs. let s : tie.Start Inv-loop μ-loop = search in search needs)
     (λ c. search needs)
-    (λ c. let h = small (search) in let s : tie.Start Inv-loop μ-loop = search in search needs)
+    (λ c. let s : tie.Start Inv-loop μ-loop = search in search needs)
     (λ c. search needs)
     (λ c. search needs)
     loop-again

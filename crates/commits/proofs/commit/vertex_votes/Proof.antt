@@ -16,9 +16,6 @@ Inv-loop state n q voted count₀ p₀ count p = (p ≤ n) × Voting state n q p
 abbrev μ-loop : tie.MeasureT-loop
 μ-loop state n q voted count₀ p₀ count p = n - p
 
-small : (c : tie.In-loop Inv-loop μ-loop) → let a : tie.At-loop Inv-loop μ-loop = search in a .loop .p < 16
-small c = let s : tie.Start Inv-loop μ-loop = search in omega (arith, s .pre .0 .high)
-
 voted-small : (c : tie.Start Inv-loop μ-loop) → c .args .voted < 32
 voted-small c = omega (arith, leader-small (c .args .n) (c .args .q) (omega arith))
 
@@ -26,7 +23,7 @@ known : (c : tie.After-cell-at Inv-loop μ-loop) → let s : tie.Start Inv-loop 
     Cell (s .args .state .now) (s .args .q + 1) (a .loop .p) (c .cell-at .result)
 known c =
     let s : tie.Start Inv-loop μ-loop = search in
-    cell-known _ (s .pre .0) _ _ _ (omega arith) (omega arith) (small (search)) (c .cell-at .ensures)
+    cell-known _ (s .pre .0) _ _ _ (omega arith) (omega arith) (omega (arith, s .pre .0 .high)) (c .cell-at .ensures)
 
 loop-again : tie.Need-loop-again Inv-loop μ-loop
 loop-again c =
@@ -54,11 +51,11 @@ vertex-votes-spec =
     μ-loop
     (λ c. (omega arith, voting-start _ _ _))
     (λ c. search needs)
-    (λ c κs. let h = small (search) in search needs)
+    (λ c κs. let s : tie.Start Inv-loop μ-loop = search in search needs)
     (λ c. search needs)
     (λ c. search needs)
     (λ c κs. let h = voted-small (search) in search needs)
-    (λ c. let h = small (search) in search needs)
+    (λ c. let s : tie.Start Inv-loop μ-loop = search in search needs)
     (λ c. search needs)
     (λ c. search needs)
     loop-again

@@ -12,7 +12,8 @@ use lib.ListN.{getD, set, take, drop, length, length-set, length-drop}
 use lib.Seq.{getD-set-same, getD-set-other}
 use borrow.Author.Tests.{lt-ltb, le-ltb, le-leb, lt-leb, eq-eqb}
 use Rattle.record.specs.Below.{count, select}
-use Rattle.record.specs.Members.{quorum, leader, has, meets, idOf, idMember}
+use Rattle.record.specs.Members.{quorum, leader, has, add, with, meets, idOf, idMember}
+use Rattle.record.specs.declared.members.Members.{Members}
 use Rattle.record.specs.Layout.{strongOf}
 use Rattle.record.specs.Questions.{roundOk}
 use Rattle.record.proofs.Booleans.{which, never, and-both, and-fails-left, and-fails-right, or-right, cond-true, cond-false}
@@ -20,7 +21,9 @@ use Rattle.record.proofs.Below.{count-cong, count-le, count-more, count-same}
 use Rattle.record.proofs.Below as below
 use Rattle.record.proofs.Masks.{has-zero, has-one, meets-count}
 use Rattle.protocol.specs.Dag.{Dag, present, held, votes, enough, committed}
+use Rattle.protocol.specs.Masks.{voters}
 use Rattle.protocol.specs.Chain.{leaderId}
+use Rattle.protocol.proofs.Voters.{voters-in, voters-out}
 use Rattle.protocol.proofs.History.{id-round, id-member}
 use Rattle.replica.specs.Layout.{cellAt}
 use Rattle.replica.specs.State.{memberCount, committedRound, leaderCount, journalCount, heldMask, heardMask, votesMask, orderedMask, cell, vertices}
@@ -251,22 +254,25 @@ pub committable-low : (l : List ℕ) (q : ℕ) → q ≤ committedRound l → co
 unfolding committable
 committable-low l q h = and-fails-left _ (le-ltb (committedRound l) q h)
 
--- the votes of the vertices of round q + 1, a member at a time: k of the members below p vote
-pub record Voting (l : List ℕ) (n q p k : ℕ) : Type 0 where
-  pub few : k ≤ p
-  pub is : k ≡ count p (λ m. votes n q (vertices l (suc q) m))
+-- the mask has the voters below p among the vertices of round q + 1
+pub record Voters (l : List ℕ) (n q p : ℕ) (m : Members) : Type 0 where
+  pub bits : m .bits ≡ voters n (vertices l) q p
+  pub group : m .n ≡ n
 
-pub voting-start : (l : List ℕ) (n q : ℕ) → Voting l n q 0 0
-voting-start l n q = record { few = omega arith; is = sym (below.count-none _) }
-
-module _ (l : List ℕ) (n q p k at : ℕ) (C : Cell l (q + 1) p at) (w : Voting l n q p k) where
+module _ (l : List ℕ) (n q p at : ℕ) (C : Cell l (q + 1) p at) where
   -- a vertex votes exactly if the strong mask in its cell has the leader
   vertex-vote : has (getD l at 0) (leader n q) ≡ votes n q (vertices l (suc q) p)
   vertex-vote = rw (← add-one q) (ap (λ (x : ℕ). has x (leader n q)) (C .strong))
 
-  pub voting-in : (m : ℕ) → has (getD l at 0) (leader n q) ≡ true → m ≡ k + 1 → Voting l n q (p + 1) m
-  voting-in m h e =
-      record { few = omega (arith, w .few); is = e ∙ ap (λ (x : ℕ). x + 1) (w .is) ∙ sym (count-more p _ (sym vertex-vote ∙ h)) }
+  -- so the mask of the voters below p becomes that of the voters below p + 1
+  pub voter-in : (m o : Members) → Voters l n q p m → has (getD l at 0) (leader n q) ≡ true → o ≡ with m p → Voters l n q (p + 1) o
+  voter-in m o w h e = rw e (record {
+    bits = ap (λ (x : ℕ). add x p) (w .bits) ∙ sym (voters-in n (vertices l) q p (sym vertex-vote ∙ h)) ∙ ap (voters n (vertices l) q) (sym (add-one p));
+    group = w .group;
+  })
 
-  pub voting-out : (m : ℕ) → has (getD l at 0) (leader n q) ≡ false → m ≡ k → Voting l n q (p + 1) m
-  voting-out m h e = record { few = omega (arith, w .few); is = e ∙ w .is ∙ sym (count-same p _ (sym vertex-vote ∙ h)) }
+  pub voter-out : (m o : Members) → Voters l n q p m → has (getD l at 0) (leader n q) ≡ false → o ≡ m → Voters l n q (p + 1) o
+  voter-out m o w h e = rw e (record {
+    bits = w .bits ∙ sym (voters-out n (vertices l) q p (sym vertex-vote ∙ h)) ∙ ap (voters n (vertices l) q) (sym (add-one p));
+    group = w .group;
+  })

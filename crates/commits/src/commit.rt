@@ -3,9 +3,10 @@ ghost use mathlib.Core.Path.{_≡_};
 ghost use mathlib.Core.Bool.{true, false};
 ghost use Prim.Native.Nat.{ℕ, suc, _<_, _≤_};
 ghost use lib.ListN.{length};
-ghost use Rattle.record.specs.Below.{count, select};
+ghost use Rattle.record.specs.Below.{select};
 ghost use Rattle.record.specs.Members.{leader, has};
-ghost use Rattle.protocol.specs.Dag.{held, votes, committed};
+ghost use Rattle.protocol.specs.Dag.{held, committed};
+ghost use Rattle.protocol.specs.Masks.{voters};
 ghost use Rattle.replica.specs.Layout.{stateSize};
 ghost use Rattle.replica.specs.State.{memberCount, committedRound, leaderCount, journalCount, vertices, dag, orderedId};
 ghost use Rattle.commits.specs.Commit.{appendLeader, appendLeaders, enter, orderLeader, orderLeaders, commit, committable, lowest, commitAll};
@@ -15,7 +16,6 @@ use super::walk::taken_rounds;
 use record::members::Members;
 use record::members::leader_of;
 use record::members::power;
-use record::members::quorum_of;
 use replica::layout::COMMITTED_ROUND;
 use replica::layout::JOURNAL;
 use replica::layout::JOURNAL_COUNT;
@@ -31,22 +31,22 @@ use replica::layout::ordered_mask;
 use replica::layout::votes_mask;
 use replica::layout::wide;
 
-// How many vertices of round q + 1 vote for the leader of round q.
-fn vertex_votes(state: &[u32], n: u32, q: u32, voted: u32) -> u32
+// The members whose vertices of round q + 1 vote for the leader of round q.
+fn vertex_voters(state: &[u32], n: u32, q: u32, voted: u32) -> Members
     requires { ⌜ Standing (now state) × (n ≡ memberCount (now state)) × (q ≤ 31) × (voted ≡ leader n q) ⌝ }
-    ensures { λ r. ⌜ r ≡ count n (λ p. votes n q (vertices (now (state .entry)) (suc q) p)) ⌝ }
+    ensures { λ r. ⌜ (r .bits ≡ voters n (vertices (now (state .entry))) q n) × (r .n ≡ n) ⌝ }
 {
-    let mut count: u32 = 0;
+    let mut voters = Members { bits: 0, n };
     let mut p: u32 = 0;
     while p < n {
         let at = cell_at(q + 1, p);
         let strong = Members { bits: state[at], n };
         if strong.has(voted) {
-            count += 1;
+            voters = voters.with(p);
         }
         p += 1;
     }
-    count
+    voters
 }
 
 // Round q is committed directly: its leader's vertex is held, and a quorum of first messages or of vertices votes for it.
@@ -69,7 +69,8 @@ fn is_committed(state: &[u32], n: u32, q: u32) -> bool
     if votes.meets_quorum() {
         return true;
     }
-    quorum_of(n) <= vertex_votes(state, n, q, leader)
+    let voters = vertex_voters(state, n, q, leader);
+    voters.meets_quorum()
 }
 
 // The lowest committable round, 32 if there is none.

@@ -7,5 +7,6 @@ pub mod Agreement
 pub mod Frontier
 pub mod History
 pub mod Masks
+pub mod Voters
 pub mod Laws
 pub mod Witness

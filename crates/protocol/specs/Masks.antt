@@ -1,13 +1,13 @@
--- The same sets as masks, for programs: what strong paths reach one round further down, and a history as 32 masks filled by falling round.
+-- The same sets as masks, for programs: the voters, what strong paths reach one round further down, and a history as 32 masks filled by falling round.
 use mathlib.Core.Path.{_≡_}
 use mathlib.Core.Bool.{true, cond}
 use mathlib.Core.List.{List}
 use Prim.Native.Nat.{ℕ, zero, suc, _-_, _^_, _≤_, _<_}
 use lib.Bits.{bitOr}
 use lib.ListN.{getD, set, take, replicate}
-use Rattle.record.specs.Members.{legal, has, idOf, idRound, idMember}
+use Rattle.record.specs.Members.{legal, has, add, meets, idOf, idRound, idMember}
 use Rattle.record.specs.Layout.{strongOf, weakCountOf, weakOf}
-use Rattle.protocol.specs.Dag.{Records, held}
+use Rattle.protocol.specs.Dag.{Records, held, votes, enough}
 use Rattle.protocol.specs.Paths.{path, history}
 use Rattle.protocol.specs.Premises.{WellFormed}
 
@@ -35,6 +35,11 @@ joinRound v h r zero = h
 joinRound v h r (suc k) = cond (has (getD (joinRound v h r k) (r - 1) 0) k) (joinParents v (joinRound v h r k) r k) (joinRound v h r k)
 
 module _ (n : ℕ) where
+  -- the members below k whose vertices of round r + 1 vote for the leader of round r
+  unfoldable pub voters : Records → ℕ → ℕ → ℕ
+  voters v r zero = 0
+  voters v r (suc k) = cond (votes n r (v (suc r) k)) (add (voters v r k) k) (voters v r k)
+
   -- so for the rounds k + 1, k, .. 2
   unfoldable pub fill : Records → List ℕ → ℕ → List ℕ
   fill v h zero = h
@@ -43,6 +48,10 @@ module _ (n : ℕ) where
   -- the history of the vertex of round r and member p, as masks
   unfoldable pub historyMasks : Records → ℕ → ℕ → List ℕ
   historyMasks v r p = fill v (join (replicate 32 0) r (2 ^ p)) (r - 1)
+
+  -- the mask of the voters meets the quorum exactly if enough members vote
+  abbrev pub VotersClaim : Type 0
+  VotersClaim = (v : Records) (r : ℕ) → meets n (voters v r n) ≡ enough n (λ p. votes n r (v (suc r) p))
 
   -- the members that paths from the vertex of round r and member p reach in round t, from those that they reach in round t + 1
   abbrev pub ParentsClaim : Type 0

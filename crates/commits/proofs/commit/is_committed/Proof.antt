@@ -6,6 +6,7 @@ use Rattle.record.specs.Members.{leader}
 use Rattle.record.proofs.Booleans.{passed, failed}
 use Rattle.record.proofs.Masks.{leader-small, leader-lt}
 use native.Mathlib.Numerals.{add-one}
+use Rattle.protocol.proofs.Voters.{voters-claim}
 use native.Mathlib.Omega.{arith}
 use mathlib.Core.Path.{_≡_, ap₂, _∙_}
 use Prim.Native.Nat.{suc}
@@ -42,10 +43,12 @@ returns-2 c = let e : tie.Else1 = search in let h = heard (search) in by-message
 returns-3 : tie.Need-returns-3
 returns-3 c =
     let e : tie.Else1 = search in
-    let q : tie.After-quorum-of = search in
+    let s : tie.Start = search in
     let h = heard (search) in
-    ap₂ leb (q .quorum-of .ensures) (c .vertex-votes .ensures)
-    ∙ by-vertices _ (let s : tie.Start = search in dag (s .args .state .now)) _ (passed (led (search)) (e .if1 .left)) (cc)
+    cc (
+      voters-claim (s .args .n) (vertices (s .args .state .now)) (s .args .q),
+      by-vertices _ (dag (s .args .state .now)) _ (passed (led (search)) (e .if1 .left)) (cc),
+    )
 
 pub is-committed-spec : {M : Type 1} → statement M
 is-committed-spec =

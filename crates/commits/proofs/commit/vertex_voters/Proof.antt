@@ -1,20 +1,21 @@
--- The loop's invariant: the votes of the members below p are counted. The measure is how many members are left.
-use Rattle.commits.proofs.Steps.{Voting, voting-start, voting-in, voting-out}
+-- The loop's invariant: the members below p that vote are in the mask. The measure is how many members are left.
+use Rattle.commits.proofs.Steps.{Voters, voter-in, voter-out}
 use Rattle.commits.proofs.Laws.{Cell, cell-known}
+use Rattle.protocol.proofs.Voters.{voters-none}
 use Rattle.record.proofs.Masks.{leader-small}
-use mathlib.Core.Path.{_≡_}
+use mathlib.Core.Path.{_≡_, refl, sym, _∙_}
 use mathlib.Core.Logic.{⊎-elim}
 use Prim.Native.Nat.{_+_, _≤_, _<_, _-_}
 use native.Mathlib.Omega.{arith}
 use borrow.Author.Needs.{needs}
-use Rattle.commits.proofs.commit.vertex_votes.Statement.{statement}
-use Rattle.commits.proofs.commit.vertex_votes.Tie as tie
+use Rattle.commits.proofs.commit.vertex_voters.Statement.{statement}
+use Rattle.commits.proofs.commit.vertex_voters.Tie as tie
 
 abbrev Inv-loop : tie.InvT-loop
-Inv-loop state n q voted count₀ p₀ count p = (p ≤ n) × Voting state n q p count
+Inv-loop state n q voted voters₀ p₀ mask p = (p ≤ n) × Voters state n q p mask
 
 abbrev μ-loop : tie.MeasureT-loop
-μ-loop state n q voted count₀ p₀ count p = n - p
+μ-loop state n q voted voters₀ p₀ mask p = n - p
 
 voted-small : (c : tie.Start Inv-loop μ-loop) → c .args .voted < 32
 voted-small c = omega (arith, leader-small (c .args .n) (c .args .q) (omega arith))
@@ -31,8 +32,8 @@ loop-again c =
     let k = known (search) in (
       omega arith,
       ⊎-elim
-          (λ w. voting-in _ _ _ _ _ _ k (a .loop .inv .1) _ (cc) (w .1))
-          (λ w. voting-out _ _ _ _ _ _ k (a .loop .inv .1) _ (cc) (w .1))
+          (λ w. voter-in _ _ _ _ _ k _ _ (a .loop .inv .1) (cc) (w .2 ∙ w .1 .ensures))
+          (λ w. voter-out _ _ _ _ _ k _ _ (a .loop .inv .1) (cc) (w .1))
           (c .if1 .came),
     )
 
@@ -41,21 +42,21 @@ returns c =
     let s : tie.Start Inv-loop μ-loop = search in
     let a : tie.At-loop Inv-loop μ-loop = search in
     let e : a .loop .p ≡ s .args .n = omega arith in
-    rw e at (a .loop .inv .1 .is)
+    (rw e at (a .loop .inv .1 .bits), a .loop .inv .1 .group)
 
-pub vertex-votes-spec : {M : Type 1} → statement M
-vertex-votes-spec =
+pub vertex-voters-spec : {M : Type 1} → statement M
+vertex-voters-spec =
     tie.close
     (tie.spec
     Inv-loop
     μ-loop
-    (λ c. (omega arith, voting-start _ _ _))
+    (λ c. (omega arith, record { bits = sym (voters-none _ _ _); group = refl }))
     (λ c. search needs)
     (λ c κs. let s : tie.Start Inv-loop μ-loop = search in search needs)
     (λ c. search needs)
     (λ c. search needs)
     (λ c κs. let h = voted-small (search) in search needs)
-    (λ c. let s : tie.Start Inv-loop μ-loop = search in search needs)
+    (λ c κs. let s : tie.Start Inv-loop μ-loop = search in search needs)
     (λ c. search needs)
     (λ c. search needs)
     loop-again

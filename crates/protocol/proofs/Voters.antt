@@ -1,0 +1,62 @@
+-- The mask of the voters has exactly the members whose vertices vote, so it meets the quorum exactly if they are enough.
+use mathlib.Core.Path.{_≡_, refl, sym, ap, _∙_}
+use mathlib.Core.Bool.{Bool, true, false}
+use mathlib.Core.Logic.{_⊎_, inl, inr}
+use Prim.Native.Nat.{ℕ, zero, suc, _^_, _≤_, _<_}
+use native.Mathlib.Nat.{eq-or-lt-of-le}
+use native.Mathlib.Omega.{arith}
+use lib.Dec.{leb}
+use lib.Pow.{pow-pos}
+use Rattle.record.specs.Members.{quorum, has, add}
+use Rattle.record.proofs.Booleans.{which}
+use Rattle.record.proofs.Below.{count-cong}
+use Rattle.record.proofs.Masks.{has-bound, has-add-same, has-add-other, add-lt, meets-count}
+use Rattle.protocol.specs.Dag.{Records, votes}
+use Rattle.protocol.specs.Masks.{voters, VotersClaim}
+
+module _ (n : ℕ) (v : Records) (r : ℕ) where
+  abbrev vote : ℕ → Bool
+  vote p = votes n r (v (suc r) p)
+
+  -- the next member joins if it votes, and not otherwise
+  pub voters-none : voters n v r 0 ≡ 0
+  unfolding voters
+  voters-none = refl
+
+  pub voters-in : (k : ℕ) → vote k ≡ true → voters n v r (suc k) ≡ add (voters n v r k) k
+  unfolding voters
+  voters-in k e = rw e
+
+  pub voters-out : (k : ℕ) → vote k ≡ false → voters n v r (suc k) ≡ voters n v r k
+  unfolding voters
+  voters-out k e = rw e
+
+  -- the mask with the next member, from what holds of it without
+  lt-next : (m k : ℕ) → k < m → voters n v r k < 2 ^ m → (vote k ≡ true) ⊎ (vote k ≡ false) → voters n v r (suc k) < 2 ^ m
+  lt-next m k l h (inl e) = rw (voters-in k e) (add-lt m (voters n v r k) k h l)
+  lt-next m k l h (inr e) = rw (voters-out k e) h
+
+  voters-lt : (m k : ℕ) → k ≤ m → voters n v r k < 2 ^ m
+  voters-lt m zero l = rw voters-none (pow-pos m)
+  voters-lt m (suc k) l = lt-next m k (omega arith) (voters-lt m k (omega arith)) (which (vote k))
+
+  -- of the members below k there is no k
+  no-last : (k : ℕ) → (has (voters n v r k) k ≡ true) ⊎ (has (voters n v r k) k ≡ false) → has (voters n v r k) k ≡ false
+  no-last k (inl h) = absurd (omega (arith, has-bound k (voters n v r k) k (voters-lt k k (omega arith)) h))
+  no-last k (inr h) = h
+
+  has-next : (k p : ℕ) → (p < k → has (voters n v r k) p ≡ vote p) → (vote k ≡ true) ⊎ (vote k ≡ false) → (p ≡ k) ⊎ (p < k)
+      → has (voters n v r (suc k)) p ≡ vote p
+  has-next k p h (inl e) (inl q) = rw (voters-in k e, q) (has-add-same (voters n v r k) k ∙ sym e)
+  has-next k p h (inl e) (inr q) = rw (voters-in k e) (has-add-other (voters n v r k) k p (λ d. absurd (omega arith)) ∙ h q)
+  has-next k p h (inr e) (inl q) = rw (voters-out k e, q) (no-last k (which (has (voters n v r k) k)) ∙ sym e)
+  has-next k p h (inr e) (inr q) = rw (voters-out k e) (h q)
+
+  voters-has : (k p : ℕ) → p < k → has (voters n v r k) p ≡ vote p
+  voters-has zero p l = absurd (omega arith)
+  voters-has (suc k) p l = has-next k p (voters-has k p) (which (vote k)) (eq-or-lt-of-le (omega arith))
+
+pub voters-claim : (n : ℕ) → VotersClaim n
+voters-claim n v r =
+    meets-count n (voters n v r n) (voters-lt n v r n n (omega arith))
+    ∙ ap (leb (quorum n)) (count-cong n (has (voters n v r n)) (λ p. votes n r (v (suc r) p)) (λ p l. voters-has n v r n p l))

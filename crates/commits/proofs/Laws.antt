@@ -70,14 +70,14 @@ pub record WeakWord (l : List ℕ) (r p at i : ℕ) : Type 0 where
 
 -- what the code may use of the cell
 pub record Cell (l : List ℕ) (r p at : ℕ) : Type 0 where
-  pub strong : getD l at 0 ≡ strongOf (vertices l r p)
+  pub strong : getD l (at + 0) 0 ≡ strongOf (vertices l r p)
   pub weak-count : getD l (at + 4) 0 ≡ weakCountOf (vertices l r p)
   pub weak : (i : ℕ) → i < getD l (at + 4) 0 → WeakWord l r p at i
 
 pub cell-known : (l : List ℕ) → Standing l → (r p at : ℕ) → 1 ≤ r → r ≤ 32 → p < 16 → at ≡ cellAt r p → Cell l r p at
 unfolding strongOf weakCountOf weakOf
 cell-known l S r p at low high few e = rw e (record {
-  strong = sym (S .words r p 0 low high few (omega arith) ∙ ap (λ (x : ℕ). getD l x 0) (add-zero (cellAt r p)));
+  strong = sym (S .words r p 0 low high few (omega arith));
   weak-count = count-word;
   weak = λ i h.
       let k : i < weakCountOf (vertices l r p) = omega (arith, count-word) in
@@ -102,7 +102,7 @@ pub parents-none : (v : Records) (r m : ℕ) → 0 ≡ parents v r m 0
 unfolding parents
 parents-none v r m = refl
 
-pub parents-in : (l : List ℕ) (r m p at j o : ℕ) → Cell l r p at → j ≡ parents (vertices l) r m p → has m p ≡ true → o ≡ bitOr j (getD l at 0)
+pub parents-in : (l : List ℕ) (r m p at j o : ℕ) → Cell l r p at → j ≡ parents (vertices l) r m p → has m p ≡ true → o ≡ bitOr j (getD l (at + 0) 0)
     → o ≡ parents (vertices l) r m (p + 1)
 unfolding parents
 parents-in l r m p at j o C e h d = rw (add-one p, h) (rw (e, C .strong) at d)

@@ -261,17 +261,17 @@ pub record Voters (l : List ℕ) (n q p : ℕ) (m : Members) : Type 0 where
 
 module _ (l : List ℕ) (n q p at : ℕ) (C : Cell l (q + 1) p at) where
   -- a vertex votes exactly if the strong mask in its cell has the leader
-  vertex-vote : has (getD l at 0) (leader n q) ≡ votes n q (vertices l (suc q) p)
+  vertex-vote : has (getD l (at + 0) 0) (leader n q) ≡ votes n q (vertices l (suc q) p)
   vertex-vote = rw (← add-one q) (ap (λ (x : ℕ). has x (leader n q)) (C .strong))
 
   -- so the mask of the voters below p becomes that of the voters below p + 1
-  pub voter-in : (m o : Members) → Voters l n q p m → has (getD l at 0) (leader n q) ≡ true → o ≡ with m p → Voters l n q (p + 1) o
+  pub voter-in : (m o : Members) → Voters l n q p m → has (getD l (at + 0) 0) (leader n q) ≡ true → o ≡ with m p → Voters l n q (p + 1) o
   voter-in m o w h e = rw e (record {
     bits = ap (λ (x : ℕ). add x p) (w .bits) ∙ sym (voters-in n (vertices l) q p (sym vertex-vote ∙ h)) ∙ ap (voters n (vertices l) q) (sym (add-one p));
     group = w .group;
   })
 
-  pub voter-out : (m o : Members) → Voters l n q p m → has (getD l at 0) (leader n q) ≡ false → o ≡ m → Voters l n q (p + 1) o
+  pub voter-out : (m o : Members) → Voters l n q p m → has (getD l (at + 0) 0) (leader n q) ≡ false → o ≡ m → Voters l n q (p + 1) o
   voter-out m o w h e = rw e (record {
     bits = w .bits ∙ sym (voters-out n (vertices l) q p (sym vertex-vote ∙ h)) ∙ ap (voters n (vertices l) q) (sym (add-one p));
     group = w .group;

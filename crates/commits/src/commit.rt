@@ -13,6 +13,7 @@ ghost use Rattle.commits.specs.Commit.{appendLeader, appendLeaders, ente
 ghost use Rattle.commits.specs.Standing.{Standing, Room, orderId, orderRound};
 use super::history::history_of;
 use super::walk::taken_rounds;
+use record::layout::STRONG;
 use record::members::Members;
 use record::members::leader_of;
 use record::members::power;
@@ -40,7 +41,10 @@ fn vertex_voters(state: &[u32], n: u32, q: u32, voted: u32) -> Members
     let mut p: u32 = 0;
     while p < n {
         let at = cell_at(q + 1, p);
-        let strong = Members { bits: state[at], n };
+        let strong = Members {
+            bits: state[at + STRONG],
+            n,
+        };
         if strong.has(voted) {
             voters = voters.with(p);
         }

@@ -7,6 +7,7 @@ ghost use Rattle.protocol.specs.Masks.{join, joinWeak, joinParents, joinRound, 
 ghost use Rattle.replica.specs.Layout.{stateSize, cellAt};
 ghost use Rattle.replica.specs.State.{memberCount, vertices};
 ghost use Rattle.commits.specs.Standing.{Standing};
+use record::layout::STRONG;
 use record::layout::WEAK;
 use record::layout::WEAK_COUNT;
 use record::members::Members;
@@ -44,7 +45,7 @@ fn join_parents(state: &[u32], masks: &mut [u32; 32], round: u32, member: u32)
 {
     let at = cell_at(round, member);
     let below = wide(round - 2);
-    masks[below] = masks[below] | state[at];
+    masks[below] = masks[below] | state[at + STRONG];
     join_weak(state, masks, round, member);
 }
 

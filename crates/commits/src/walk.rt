@@ -10,6 +10,7 @@ ghost use Rattle.protocol.specs.Chain.{chain};
 ghost use Rattle.protocol.specs.Masks.{parents};
 ghost use Rattle.replica.specs.State.{memberCount, vertices};
 ghost use Rattle.commits.specs.Standing.{Standing};
+use record::layout::STRONG;
 use record::members::Members;
 use record::members::leader_of;
 use record::members::power;
@@ -26,7 +27,7 @@ fn parents_of(state: &[u32], n: u32, round: u32, mask: u32) -> u32
     while p < n {
         if members.has(p) {
             let at = cell_at(round, p);
-            joined = joined | state[at];
+            joined = joined | state[at + STRONG];
         }
         p += 1;
     }

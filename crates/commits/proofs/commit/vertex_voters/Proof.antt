@@ -55,6 +55,7 @@ vertex-voters-spec =
     (λ c κs. let s : tie.Start Inv-loop μ-loop = search in search needs)
     (λ c. search needs)
     (λ c. search needs)
+    (λ c. search needs)
     (λ c κs. let h = voted-small (search) in search needs)
     (λ c κs. let s : tie.Start Inv-loop μ-loop = search in search needs)
     (λ c. search needs)

@@ -45,6 +45,7 @@ parents-of-spec =
     (λ c κs. let s : tie.Start Inv-loop μ-loop = search in search needs)
     (λ c κs. let s : tie.Start Inv-loop μ-loop = search in search needs)
     (λ c. search needs)
+    (λ c. search needs)
     (λ c. let s : tie.Start Inv-loop μ-loop = search in search needs)
     (λ c. search needs)
     (λ c. search needs)

@@ -13,8 +13,8 @@ use borrow.Author.Tests.{eqb-true, eqb-false, eq-eqb, ne-eqb, le-leb, lt-leb}
 use Rattle.record.specs.Below.{all}
 use Rattle.record.specs.Members.{legal, has, idOf, idRound, idMember}
 use Rattle.record.specs.Questions.{roundOk}
-use Rattle.record.proofs.Booleans.{which, never, and-left, and-right, and-both, and-fails-left, and-fails-right, bool-ext}
-use Rattle.record.proofs.Below.{all-intro, all-elim, all-stop}
+use Rattle.record.proofs.Booleans.{which, never, and-left, and-right, and-both, and-fails-left, and-fails-right, bool-ext, passed, failed}
+use Rattle.record.proofs.Below.{all-none, all-more, all-intro, all-elim, all-stop}
 use Rattle.record.proofs.Masks.{has-zero, has-add, add-lt, mask-ext}
 use Rattle.record.proofs.Turn.{round-range}
 use Rattle.protocol.specs.Journal.{idLimit, among}
@@ -123,13 +123,14 @@ entry-ordered l i e = and-left (orderedId l (journalWord l i)) _ e
 
 -- ---- the journal
 
-pub journal-long : (l : List ℕ) → 512 < journalCount l → journalOk l ≡ false
+pub journal-long : (l : List ℕ) (count : ℕ) → count ≡ journalCount l → 512 < count → false ≡ journalOk l
 unfolding journalOk
-journal-long l h = and-fails-left _ (lt-leb (journalCount l) 512 h)
+journal-long l count e h = sym (and-fails-left _ (lt-leb (journalCount l) 512 (omega arith)))
 
-pub journal-stop : (l : List ℕ) (i : ℕ) → i < journalCount l → entryOk l i ≡ false → journalOk l ≡ false
+journal-stop : (l : List ℕ) (count i : ℕ) → count ≡ journalCount l → i < count → entryOk l i ≡ false → false ≡ journalOk l
 unfolding journalOk
-journal-stop l i h e = and-fails-right (leb (journalCount l) 512) (and-fails-left _ (all-stop (journalCount l) (entryOk l) i h e))
+journal-stop l count i c h e =
+    sym (and-fails-right (leb (journalCount l) 512) (and-fails-left _ (all-stop (journalCount l) (entryOk l) i (omega arith) e)))
 
 pub imply : (a b : Bool) → (a ≡ true → b ≡ true) → (not a || b) ≡ true
 imply true b h = h refl
@@ -197,7 +198,7 @@ entries-decide l marks e g w f h m =
         (back-at t r b)))
 
 -- the marks of new ids decide
-pub journal-decides : (l marks : List ℕ) → length l ≡ 5864 → legal (memberCount l) ≡ true → eachRound (masksWithin l) ≡ true → journalCount l ≤ 512
+journal-decides : (l marks : List ℕ) → length l ≡ 5864 → legal (memberCount l) ≡ true → eachRound (masksWithin l) ≡ true → journalCount l ≤ 512
     → all (journalCount l) (newId l) ≡ true → Marked l (journalCount l) marks
     → all 32 (λ i. eqb (getD marks i 0) (orderedMask l (i + 1))) ≡ journalOk l
 unfolding journalOk
@@ -222,3 +223,54 @@ journal-decides l marks e g w f h m = bool-ext
 
     entries : all 32 (λ i. eqb (getD marks i 0) (orderedMask l (i + 1))) ≡ true → all (journalCount l) (entryOk l) ≡ true
     entries t = all-intro (journalCount l) (entryOk l) (λ i b. new-ordered l i (all-elim (journalCount l) (newId l) h i b) (at-mark t i b))
+
+-- ---- the test, entry after entry
+
+-- the first i entries are new ids, and the marks are theirs
+pub record Reading (l : List ℕ) (count i : ℕ) (marks : List ℕ) : Type 0 where
+  pub below : i ≤ count
+  pub whole : count ≡ journalCount l
+  pub few : count ≤ 512
+  pub new : all i (newId l) ≡ true
+  pub marked : Marked l i marks
+
+pub reading-start : (l : List ℕ) (count : ℕ) → count ≡ journalCount l → count ≤ 512 → Reading l count 0 (replicate 32 0)
+reading-start l count e f = record { below = omega arith; whole = e; few = f; new = all-none (newId l); marked = marked-none l }
+
+-- entry i is an id: it stops the test if it is marked, and is marked if it is not
+pub record Entry (l : List ℕ) (count i : ℕ) (marks : List ℕ) (x : ℕ) : Type 0 where
+  pub low : 1 ≤ idRound x
+  pub high : idRound x ≤ 32
+  pub twice : (at : ℕ) (b : Bool) → at ≡ idRound x - 1 → b ≡ has (getD marks at 0) (idMember x) → b ≡ true → false ≡ journalOk l
+  pub once : (at p : ℕ) (b : Bool) → at ≡ idRound x - 1 → b ≡ has (getD marks at 0) (idMember x) → b ≡ false → p ≡ 2 ^ idMember x
+      → Reading l count (i + 1) (set marks at (bitOr (getD marks at 0) p))
+
+module _ (l : List ℕ) (count i : ℕ) (marks : List ℕ) (R : Reading l count i marks) (h : i < count) (b : Bool)
+    (e : b ≡ roundOk (idRound (journalWord l i))) where
+  pub reading-strange : not b ≡ true → false ≡ journalOk l
+  reading-strange t = journal-stop l count i (R .whole) h (entry-strange l i (failed e t))
+
+  pub reading-entry : length l ≡ 5864 → not b ≡ false → Entry l count i marks (journalWord l i)
+  reading-entry size t =
+      let q = round-range _ (passed e t) in record {
+        low = q .0;
+        high = q .1;
+        twice = λ at m d f y. journal-stop l count i (R .whole) h (entry-twice l i (sym (marked-at at d) ∙ sym f ∙ y));
+        once = λ at p m d f y g. record {
+          below = omega arith;
+          whole = R .whole;
+          few = R .few;
+          new = all-more _ _ (R .new) (entry-new l i (passed e t) (sym (marked-at at d) ∙ sym f ∙ y));
+          marked = rw g (marked-more l i marks (journalWord l i) at size (omega arith) (omega arith) refl (R .marked) (q .0) (q .1) d);
+        };
+      }
+    where
+      marked-at : (at : ℕ) → at ≡ idRound (journalWord l i) - 1
+          → has (getD marks at 0) (idMember (journalWord l i)) ≡ among (take i (journalList l)) (journalWord l i)
+      marked-at at d = let q = round-range _ (passed e t) in mark-at l i marks (journalWord l i) at (R .marked) (q .0) (q .1) d
+
+pub reading-decides : (l : List ℕ) (count i : ℕ) (marks : List ℕ) → Reading l count i marks → count ≤ i → length l ≡ 5864 → legal (memberCount l) ≡ true
+    → eachRound (masksWithin l) ≡ true → all 32 (λ k. eqb (getD marks k 0) (orderedMask l (k + 1))) ≡ journalOk l
+reading-decides l count i marks R h e g w =
+    let same : i ≡ journalCount l = omega arith in
+    journal-decides l marks e g w (omega arith) (rw same at (R .new)) (rw same at (R .marked))

@@ -14,15 +14,16 @@ use Rattle.record.specs.Below.{all, any}
 use Rattle.record.specs.Members.{legal, has, idOf, idRound, idMember}
 use Rattle.record.specs.Layout.{strongOf, weakCountOf, weakOf}
 use Rattle.record.specs.Refusals.{numberOf}
-use Rattle.record.specs.Questions.{roundOk, masksAdmitted, weakOk, bodyRefusal}
+use Rattle.record.specs.Questions.{roundOk, masksAdmitted, weakOk, bodyRefusal, termsOf}
+use Rattle.record.specs.declared.questions.Terms.{Terms}
 use Rattle.record.specs.Admitted.{Admitted}
-use Rattle.record.proofs.Booleans.{which, never, and-left, and-right, and-both, and-fails-left, or-left, or-right, or-cases, bool-ext}
+use Rattle.record.proofs.Booleans.{which, never, and-left, and-right, and-both, and-fails-left, or-left, or-right, or-cases, bool-ext, passed, failed}
 use Rattle.record.proofs.Below.{all-intro, all-elim, any-intro, any-elim, any-false, any-off}
 use Rattle.record.proofs.Masks.{has-zero, legal-range}
 use Rattle.record.proofs.Turn.{admitted}
 use Rattle.record.proofs.Parts.{admitted-parts}
 use Rattle.protocol.specs.Journal.{idLimit}
-use Rattle.replica.specs.State.{heldMask, heldId}
+use Rattle.replica.specs.State.{memberCount, heldMask, heldId}
 use Rattle.replica.specs.WellFormed.{subset, isParent, missing, parentsHeld}
 use Rattle.replica.proofs.Laws.{subset-has, has-subset}
 
@@ -132,11 +133,11 @@ module _ (n r p : ℕ) (l body : List ℕ) (group : legal n ≡ true) (a : Admit
 
 module _ (n r p : ℕ) (l body : List ℕ) (group : legal n ≡ true) (low : 1 ≤ r) (high : r ≤ 32) (member : p < n) (size : length body ≡ 10) where
   -- its masks are refused
-  pub masks-refused : masksAdmitted n r p body ≡ false → (eqb (numberOf (bodyRefusal n r p body)) 0 && parentsHeld l r body) ≡ false
+  masks-refused : masksAdmitted n r p body ≡ false → (eqb (numberOf (bodyRefusal n r p body)) 0 && parentsHeld l r body) ≡ false
   masks-refused e = and-fails-left (parentsHeld l r body) (admitted-parts n r p body low high member size ∙ and-fails-left (weakOk n r body) e)
 
   -- or they are admitted: the strong parents and the weak ids decide
-  pub masks-passed : masksAdmitted n r p body ≡ true
+  masks-passed : masksAdmitted n r p body ≡ true
       → ((ltb r 2 || subset (strongOf body) (heldMask l (r - 1))) && (weakOk n r body && all (weakCountOf body) (λ i. heldId l (weakOf body i))))
       ≡ (eqb (numberOf (bodyRefusal n r p body)) 0 && parentsHeld l r body)
   masks-passed e = bool-ext there back
@@ -172,3 +173,36 @@ module _ (n r p : ℕ) (l body : List ℕ) (group : legal n ≡ true) (low : 1 �
           let a = admitted n r p body (eqb-true _ 0 z) in
           let h = sym (held-by a (which (ltb r 2))) ∙ and-right (eqb (numberOf (bodyRefusal n r p body)) 0) _ d in
           and-both (and-left strong _ h) (and-both (sym passes ∙ z) (and-right strong _ h))
+
+-- ---- the test of a record, with the terms of its round
+
+abbrev pub recordPasses : List ℕ → ℕ → ℕ → List ℕ → Bool
+recordPasses l r p body = eqb (numberOf (bodyRefusal (memberCount l) r p body)) 0 && parentsHeld l r body
+
+-- the terms are those of the group; the masks, the strong parents and the weak ids decide, one after the other
+pub record Asked (l : List ℕ) (t : Terms) (r p : ℕ) (body : List ℕ) : Type 0 where
+  pub terms : t ≡ termsOf (t .n) r
+  pub members : t .n ≡ memberCount l
+  pub group : legal (t .n) ≡ true
+  pub at-masks : (m : Bool) → m ≡ masksAdmitted (t .n) r p body → not m ≡ true → false ≡ recordPasses l r p body
+  pub at-strong : (m s : Bool) → m ≡ masksAdmitted (t .n) r p body → not m ≡ false
+      → s ≡ (ltb r 2 || subset (strongOf body) (heldMask l (r - 1))) → not s ≡ true → false ≡ recordPasses l r p body
+  pub at-weak : (m s w : Bool) → m ≡ masksAdmitted (t .n) r p body → not m ≡ false
+      → s ≡ (ltb r 2 || subset (strongOf body) (heldMask l (r - 1))) → not s ≡ false
+      → w ≡ (weakOk (t .n) r body && all (weakCountOf body) (λ i. heldId l (weakOf body i))) → w ≡ recordPasses l r p body
+
+pub asked : (l : List ℕ) (t : Terms) (r p : ℕ) (body : List ℕ) → t ≡ termsOf (memberCount l) r → legal (memberCount l) ≡ true → 1 ≤ r → r ≤ 32
+    → p < memberCount l → length body ≡ 10 → Asked l t r p body
+asked l t r p body e group low high member size = rw e (record {
+  terms = refl;
+  members = refl;
+  group = group;
+  at-masks = λ m em h. sym (masks-refused _ r p l body group low high member size (failed em h));
+  at-strong = λ m s em h es k. sym (sym (decides (passed em h)) ∙ and-fails-left _ (failed es k));
+  at-weak = λ m s w em h es k ew. ew ∙ rw (passed es k) at (decides (passed em h));
+})
+  where
+    decides : masksAdmitted (memberCount l) r p body ≡ true
+        → ((ltb r 2 || subset (strongOf body) (heldMask l (r - 1)))
+        && (weakOk (memberCount l) r body && all (weakCountOf body) (λ i. heldId l (weakOf body i)))) ≡ recordPasses l r p body
+    decides = masks-passed (memberCount l) r p l body group low high member size

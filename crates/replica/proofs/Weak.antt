@@ -1,21 +1,21 @@
 -- Laws of the weak ids of a record, asked and looked up one after the other. Assumes nothing.
 use mathlib.Core.Path.{_≡_, refl, sym, ap, _∙_}
-use mathlib.Core.Bool.{Bool, true, false, _&&_, _||_, and-true, and-false}
+use mathlib.Core.Bool.{Bool, true, false, not, _&&_, _||_, and-true, and-false}
 use mathlib.Core.List.{List}
 use Prim.Native.Nat.{ℕ, zero, suc, _-_, _*_, _≤_, _<_}
 use native.Mathlib.Omega.{arith}
 use lib.Bits.{bitOr}
 use lib.Dec.{eqb, ltb}
 use borrow.Author.Tests.{le-leb, lt-ltb, ltb-true}
-use Rattle.record.specs.Members.{faulty, has, idRound, idMember}
+use Rattle.record.specs.Members.{legal, faulty, has, idRound, idMember}
 use Rattle.record.specs.Layout.{weakCountOf, weakOf}
 use Rattle.record.specs.Questions.{roundOk, weakIdOk, rises, weakOk}
-use Rattle.record.proofs.Booleans.{and-left, and-right, and-both, and-fails-left, and-fails-right, bool-ext}
+use Rattle.record.proofs.Booleans.{and-left, and-right, and-both, and-fails-left, and-fails-right, bool-ext, passed, failed}
 use Rattle.record.specs.Below.{all}
 use Rattle.record.proofs.Below.{all-and}
-use Rattle.record.proofs.Masks.{or-zero, has-bound}
+use Rattle.record.proofs.Masks.{or-zero, has-bound, legal-range}
 use Rattle.record.proofs.Turn.{weak-id}
-use Rattle.record.proofs.Parts.{weak-parts, weak-id-in, weak-id-high, rises-first, rises-later}
+use Rattle.record.proofs.Parts.{weak-parts, weak-many, weak-id-in, weak-id-high, rises-first, rises-later}
 use Rattle.replica.specs.State.{memberCount, heldMask, heldId}
 use Rattle.replica.specs.WellFormed.{eachRound, masksWithin}
 use Rattle.replica.proofs.Words.{masks-small, round-elim}
@@ -52,7 +52,7 @@ weak-above l n r last x e = ltb-true last x (and-left (ltb last x) _ e)
 -- ---- all of them
 
 -- questions 11 and 14: not too many, those in use pass and are held, and the other slots are 0
-pub weak-all : (l : List ℕ) (n r : ℕ) (body : List ℕ) → weakCountOf body ≤ 5 → weakCountOf body ≤ faulty n
+weak-all : (l : List ℕ) (n r : ℕ) (body : List ℕ) → weakCountOf body ≤ 5 → weakCountOf body ≤ faulty n
     → (all (weakCountOf body) (λ i. (rises body i && weakIdOk n r (weakOf body i)) && heldId l (weakOf body i))
     && all 5 (λ i. ltb i (weakCountOf body) || eqb (weakOf body i) 0))
     ≡ (weakOk n r body && all (weakCountOf body) (λ i. heldId l (weakOf body i)))
@@ -69,6 +69,32 @@ weak-all l n r body few h =
     swap true false true = refl
     swap true false false = refl
     swap false b c = refl
+
+abbrev pub weakPass : List ℕ → ℕ → ℕ → List ℕ → Bool
+weakPass l n r body = weakOk n r body && all (weakCountOf body) (λ i. heldId l (weakOf body i))
+
+pub weak-over : (l : List ℕ) (n r : ℕ) (body : List ℕ) (f : ℕ) → f ≡ faulty n → f < weakCountOf body → false ≡ weakPass l n r body
+weak-over l n r body f e h = sym (and-fails-left _ (weak-many n r body (omega arith)))
+
+-- not too many are used: those in use and then the other slots decide
+pub record Used (l : List ℕ) (n r : ℕ) (body : List ℕ) (count : ℕ) : Type 0 where
+  pub few : count ≤ 5
+  pub at-ids : (b : Bool) → b ≡ all count (λ i. (rises body i && weakIdOk n r (weakOf body i)) && heldId l (weakOf body i)) → not b ≡ true
+      → false ≡ weakPass l n r body
+  pub at-rest : (b z : Bool) → b ≡ all count (λ i. (rises body i && weakIdOk n r (weakOf body i)) && heldId l (weakOf body i)) → not b ≡ false
+      → z ≡ all 5 (λ i. ltb i count || eqb (weakOf body i) 0) → z ≡ weakPass l n r body
+
+pub used : (l : List ℕ) (n r : ℕ) (body : List ℕ) (f count : ℕ) → legal n ≡ true → f ≡ faulty n → weakCountOf body ≤ f → count ≡ weakCountOf body
+    → Used l n r body count
+used l n r body f count g e h ec =
+    let q = legal-range n g in
+    let five : weakCountOf body ≤ 5 = omega arith in
+    let decides = weak-all l n r body five (omega arith) in
+    rw ec (record {
+      few = five;
+      at-ids = λ b eb k. sym (sym decides ∙ and-fails-left _ (failed eb k));
+      at-rest = λ b z eb k ez. ez ∙ rw (passed eb k) at decides;
+    })
 
 -- ---- slots that are not used, where no weak id is or one
 

@@ -1,72 +1,41 @@
--- `masks-refused` and `masks-passed` of `Parents`.
-use mathlib.Core.Path.{_≡_, sym, ap, _∙_}
-use Prim.Native.Nat.{ℕ}
-use Rattle.record.specs.Questions.{termsOf}
-use Rattle.record.specs.Layout.{strongOf}
-use Rattle.record.specs.declared.questions.Terms.{Terms}
-use Rattle.record.proofs.Booleans.{passed, failed, and-fails-left}
-use Rattle.replica.specs.State.{memberCount}
-use Rattle.replica.proofs.Parents.{masks-refused, masks-passed}
+-- The masks, the strong parents and the weak ids decide in turn: `Asked` of `Parents`.
 use borrow.Author.Needs.{needs}
+use Rattle.record.specs.Layout.{strongOf}
+use Rattle.replica.proofs.Parents.{Asked, asked}
 use Rattle.replica.proofs.wellformed.record_ok.Statement.{statement}
 use Rattle.replica.proofs.wellformed.record_ok.Tie as tie
 
-masks-admitted-requires : tie.Need-masks-admitted-requires
-masks-admitted-requires c κs =
-    let start : tie.Start = search in
-    let e : start .args .terms .n ≡ memberCount (start .args .state .now) = ap (λ (t : Terms). t .n) (start .pre .1) in
-    (start .pre .1 ∙ ap (λ (m : ℕ). termsOf m (start .args .round)) (sym e), start .pre .4, start .pre .5, start .pre .7)
+known : (c : tie.Start) → Asked (c .args .state .now) (c .args .terms) (c .args .round) (c .args .source) (c .args .body .now)
+known c = let p = c .pre in asked _ _ _ _ _ (p .1) (p .2) (p .4) (p .5) (p .6) (p .7)
 
 returns : tie.Need-returns
-returns c =
-    let after-masks-admitted : tie.After-masks-admitted = search in
-    let start : tie.Start = search in
-    let e : start .args .terms .n ≡ memberCount (start .args .state .now) = ap (λ (t : Terms). t .n) (start .pre .1) in
-    sym (masks-refused (memberCount (start .args .state .now)) (start .args .round) (start .args .source) (start .args .state .now)
-    (start .args .body .now) (start .pre .2) (start .pre .4) (start .pre .5) (start .pre .6) (start .pre .7)
-    (rw e at (failed (after-masks-admitted .masks-admitted .ensures) (c .if1 .taken))))
+returns c = let m : tie.After-masks-admitted = search in known (search) .at-masks _ (m .masks-admitted .ensures) (c .if1 .taken)
 
 returns-2 : tie.Need-returns-2
 unfolding strongOf
 returns-2 c =
-    let after-strong-held : tie.After-strong-held = search in
-    let else1 : tie.Else1 = search in
-    let after-masks-admitted : tie.After-masks-admitted = search in
-    let start : tie.Start = search in
-    let e : start .args .terms .n ≡ memberCount (start .args .state .now) = ap (λ (t : Terms). t .n) (start .pre .1) in
-    sym (sym (masks-passed (memberCount (start .args .state .now)) (start .args .round) (start .args .source) (start .args .state .now)
-    (start .args .body .now) (start .pre .2) (start .pre .4) (start .pre .5) (start .pre .6) (start .pre .7)
-    (rw e at (passed (after-masks-admitted .masks-admitted .ensures) (else1 .if1 .left))))
-    ∙ and-fails-left _ (failed (after-strong-held .strong-held .ensures) (c .if2 .taken)))
-
-weak-ok-requires : tie.Need-weak-ok-requires
-weak-ok-requires c κs =
-    let start : tie.Start = search in
-    let e : start .args .terms .n ≡ memberCount (start .args .state .now) = ap (λ (t : Terms). t .n) (start .pre .1) in
-    (start .pre .0, e, rw e (start .pre .2), start .pre .3, start .pre .4, start .pre .5, start .pre .7)
+    let m : tie.After-masks-admitted = search in
+    let e : tie.Else1 = search in
+    let s : tie.After-strong-held = search in
+    known (search) .at-strong _ _ (m .masks-admitted .ensures) (e .if1 .left) (s .strong-held .ensures) (c .if2 .taken)
 
 returns-3 : tie.Need-returns-3
 unfolding strongOf
 returns-3 c =
-    let else2 : tie.Else2 = search in
-    let after-strong-held : tie.After-strong-held = search in
-    let else1 : tie.Else1 = search in
-    let after-masks-admitted : tie.After-masks-admitted = search in
-    let start : tie.Start = search in
-    let e : start .args .terms .n ≡ memberCount (start .args .state .now) = ap (λ (t : Terms). t .n) (start .pre .1) in
-    rw e at (c .weak-ok .ensures)
-    ∙ rw (passed (after-strong-held .strong-held .ensures) (else2 .if2 .left)) at (masks-passed (memberCount (start .args .state .now))
-    (start .args .round) (start .args .source) (start .args .state .now) (start .args .body .now) (start .pre .2) (start .pre .4) (start .pre .5)
-    (start .pre .6) (start .pre .7) (rw e at (passed (after-masks-admitted .masks-admitted .ensures) (else1 .if1 .left))))
+    let m : tie.After-masks-admitted = search in
+    let e : tie.Else1 = search in
+    let s : tie.After-strong-held = search in
+    let f : tie.Else2 = search in
+    known (search) .at-weak _ _ _ (m .masks-admitted .ensures) (e .if1 .left) (s .strong-held .ensures) (f .if2 .left) (c .weak-ok .ensures)
 
 pub record-ok-spec : {M : Type 1} → statement M
 record-ok-spec =
     tie.close
     (tie.spec
-    masks-admitted-requires
+    (λ c κs. let k = known (search) in search needs)
     returns
     (λ c. search needs)
     (λ c κs. search needs)
     returns-2
-    weak-ok-requires
+    (λ c κs. let k = known (search) in search needs)
     returns-3)

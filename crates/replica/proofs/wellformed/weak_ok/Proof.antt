@@ -1,76 +1,33 @@
--- `weak-all` of `Weak`; a legal group has at most five weak ids.
-use mathlib.Core.Path.{sym, _∙_}
-use native.Mathlib.Omega.{arith}
-use Prim.Native.Nat.{_≤_}
-use Rattle.record.specs.Members.{faulty}
-use Rattle.record.specs.Layout.{weakCountOf}
-use Rattle.record.proofs.Booleans.{passed, failed, and-fails-left}
-use Rattle.record.proofs.Masks.{legal-range}
-use Rattle.record.proofs.Parts.{weak-many}
-use Rattle.replica.proofs.Weak.{weak-all}
+-- A legal group has at most five weak ids; those in use and the other slots decide: `Used` of `Weak`.
 use borrow.Author.Needs.{needs}
+use Rattle.record.specs.Layout.{weakCountOf}
+use Rattle.replica.proofs.Weak.{weak-over, Used, used}
 use Rattle.replica.proofs.wellformed.weak_ok.Statement.{statement}
 use Rattle.replica.proofs.wellformed.weak_ok.Tie as tie
+
+known : (c : tie.After-wide) → let a = (let s : tie.Start = search in s .args) in Used (a .state .now) (a .n) (a .round) (a .body .now) (c .wide .result)
+unfolding weakCountOf
+known c =
+    let s : tie.Start = search in
+    let f : tie.After-faulty-of = search in
+    let e : tie.Else1 = search in
+    used _ _ _ _ _ _ (s .pre .2) (f .faulty-of .ensures) (e .if1 .left) (c .wide .ensures)
 
 returns : tie.Need-returns
 unfolding weakCountOf
 returns c =
-    let after-faulty-of : tie.After-faulty-of = search in
-    let start : tie.Start = search in
-    sym (and-fails-left _
-    (weak-many (start .args .n) (start .args .round) (start .args .body .now) (rw (after-faulty-of .faulty-of .ensures) at (c .if1 .taken))))
-
-weak-ids-ok-requires : tie.Need-weak-ids-ok-requires
-unfolding weakCountOf
-weak-ids-ok-requires c κs =
-    let else1 : tie.Else1 = search in
-    let after-faulty-of : tie.After-faulty-of = search in
-    let start : tie.Start = search in
-    let g = legal-range _ (start .pre .2) in (
-      start .pre .0,
-      start .pre .1,
-      start .pre .3,
-      start .pre .4,
-      start .pre .5,
-      start .pre .6,
-      omega (arith, c .wide .ensures, after-faulty-of .faulty-of .ensures, else1 .if1 .left),
-    )
+    let s : tie.Start = search in
+    let f : tie.After-faulty-of = search in
+    weak-over (s .args .state .now) _ _ (s .args .body .now) _ (f .faulty-of .ensures) (c .if1 .taken)
 
 returns-2 : tie.Need-returns-2
-unfolding weakCountOf
-returns-2 c =
-    let after-weak-ids-ok : tie.After-weak-ids-ok = search in
-    let after-wide : tie.After-wide = search in
-    let else1 : tie.Else1 = search in
-    let after-faulty-of : tie.After-faulty-of = search in
-    let start : tie.Start = search in
-    let g = legal-range _ (start .pre .2) in
-    let few : weakCountOf (start .args .body .now) ≤ faulty (start .args .n) = omega (arith, after-faulty-of .faulty-of .ensures, else1 .if1 .left) in
-    sym (sym (weak-all (start .args .state .now) (start .args .n) (start .args .round) (start .args .body .now) (omega arith) few)
-    ∙ and-fails-left _ (rw (after-wide .wide .ensures) at (failed (after-weak-ids-ok .weak-ids-ok .ensures) (c .if2 .taken))))
-
-unused-zero-requires : tie.Need-unused-zero-requires
-unused-zero-requires c κs =
-    let after-wide : tie.After-wide = search in
-    let else1 : tie.Else1 = search in
-    let after-faulty-of : tie.After-faulty-of = search in
-    let start : tie.Start = search in
-    let g = legal-range _ (start .pre .2) in (start .pre .6, omega (arith, after-wide .wide .ensures, after-faulty-of .faulty-of .ensures, else1 .if1 .left))
+returns-2 c = let w : tie.After-weak-ids-ok = search in known (search) .at-ids _ (w .weak-ids-ok .ensures) (c .if2 .taken)
 
 returns-3 : tie.Need-returns-3
-unfolding weakCountOf
 returns-3 c =
-    let else2 : tie.Else2 = search in
-    let after-weak-ids-ok : tie.After-weak-ids-ok = search in
-    let after-wide : tie.After-wide = search in
-    let else1 : tie.Else1 = search in
-    let after-faulty-of : tie.After-faulty-of = search in
-    let start : tie.Start = search in
-    let g = legal-range _ (start .pre .2) in
-    let few : weakCountOf (start .args .body .now) ≤ faulty (start .args .n) = omega (arith, after-faulty-of .faulty-of .ensures, else1 .if1 .left) in
-    rw (after-wide .wide .ensures) at (c .unused-zero .ensures)
-    ∙ sym (rw (rw (after-wide .wide .ensures) at (passed (after-weak-ids-ok .weak-ids-ok .ensures) (else2 .if2 .left)))
-    at (sym (weak-all (start .args .state .now) (start .args .n) (start .args .round) (start .args .body .now) (omega arith) few)))
+    let w : tie.After-weak-ids-ok = search in
+    let e : tie.Else2 = search in
+    known (search) .at-rest _ _ (w .weak-ids-ok .ensures) (e .if2 .left) (c .unused-zero .ensures)
 
 pub weak-ok-spec : {M : Type 1} → statement M
 weak-ok-spec =
@@ -81,7 +38,7 @@ weak-ok-spec =
     returns
     (λ c. search needs)
     (λ c κs. search needs)
-    weak-ids-ok-requires
+    (λ c κs. let k = known (search) in search needs)
     returns-2
-    unused-zero-requires
+    (λ c κs. let k = known (search) in search needs)
     returns-3)

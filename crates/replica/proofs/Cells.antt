@@ -1,36 +1,39 @@
 -- Laws of the cells. Assumes nothing.
 use mathlib.Core.Path.{_≡_, refl, sym, ap, ap₂, _∙_}
-use mathlib.Core.Bool.{Bool, true, false, _&&_}
+use mathlib.Core.Bool.{Bool, true, false, not, _&&_}
 use mathlib.Core.Logic.{_⊎_, inl, inr}
 use mathlib.Core.List.{List}
 use Prim.Native.Nat.{ℕ, zero, suc, _+_, _-_, _*_, _^_, _≤_, _<_}
 use native.Mathlib.Omega.{arith}
 use lib.Dec.{eqb}
-use lib.ListN.{length, getD, take, drop}
+use lib.ListN.{length, getD, take, drop, length-drop}
+use lib.Seq.{length-take-le}
 use Rattle.record.specs.Below.{all}
-use Rattle.record.specs.Members.{has}
+use Rattle.record.specs.Members.{legal, has}
 use Rattle.record.specs.Refusals.{numberOf}
 use Rattle.record.specs.Questions.{bodyRefusal}
-use Rattle.record.proofs.Booleans.{which, cond-true, cond-false}
-use Rattle.record.proofs.Below.{all-cong, all-join}
-use Rattle.record.proofs.Masks.{has-zero, has-bound}
+use Rattle.record.proofs.Booleans.{which, cond-true, cond-false, and-fails-left, passed, failed}
+use Rattle.record.proofs.Below.{all-none, all-cong, all-join}
+use Rattle.record.proofs.Masks.{has-zero, has-bound, legal-range}
 use Rattle.replica.specs.Layout.{cellAt}
 use Rattle.replica.specs.State.{memberCount, heldMask, cell}
-use Rattle.replica.specs.WellFormed.{parentsHeld, cellOk}
+use Rattle.replica.specs.WellFormed.{eachRound, masksWithin, parentsHeld, cellOk}
 use Rattle.replica.proofs.Laws.{part-zero}
+use Rattle.replica.proofs.Parents.{recordPasses}
+use Rattle.replica.proofs.Words.{masks-small, round-elim}
 
 -- the lent part is the cell
-pub cell-part : (l : List ℕ) (at a : ℕ) → at ≡ a → take ((at + 10) - at) (drop at l) ≡ take 10 (drop a l)
+cell-part : (l : List ℕ) (at a : ℕ) → at ≡ a → take ((at + 10) - at) (drop at l) ≡ take 10 (drop a l)
 cell-part l at a e =
     let ten : (at + 10) - at ≡ 10 = omega arith in
     rw (ten, e)
 
 -- a cell that is not held
-pub cell-empty : (l : List ℕ) (r p : ℕ) → has (heldMask l r) p ≡ false → cellOk l r p ≡ all 10 (λ i. eqb (getD l (cellAt r p + i) 0) 0)
+cell-empty : (l : List ℕ) (r p : ℕ) → has (heldMask l r) p ≡ false → cellOk l r p ≡ all 10 (λ i. eqb (getD l (cellAt r p + i) 0) 0)
 unfolding cellOk
 cell-empty l r p e = cond-false _ _ e
 
-pub cell-zero : (l : List ℕ) (r p at : ℕ) → at ≡ cellAt r p → cellAt r p + 10 ≤ length l → has (heldMask l r) p ≡ false
+cell-zero : (l : List ℕ) (r p at : ℕ) → at ≡ cellAt r p → cellAt r p + 10 ≤ length l → has (heldMask l r) p ≡ false
     → all (length (take ((at + 10) - at) (drop at l))) (λ i. eqb (getD (take ((at + 10) - at) (drop at l)) i 0) 0) ≡ cellOk l r p
 cell-zero l r p at e h d = rw (cell-part l at (cellAt r p) e) (part-zero l (cellAt r p) 10 h ∙ sym (cell-empty l r p d))
 
@@ -40,10 +43,36 @@ pub cell-held : (l : List ℕ) (r p : ℕ) (body : List ℕ) → has (heldMask l
 unfolding cellOk
 cell-held l r p body h e = rw e (sym (cond-true _ _ h))
 
+-- what the test of a held cell uses
+pub record HeldCell (l : List ℕ) (r p at : ℕ) : Type 0 where
+  pub member : p < memberCount l
+  pub long : length (take ((at + 10) - at) (drop at l)) ≡ 10
+  pub done : (z : Bool) → z ≡ recordPasses l r p (take ((at + 10) - at) (drop at l)) → z ≡ cellOk l r p
+
+-- every word of the part from one place to another is 0
+abbrev pub blank : List ℕ → ℕ → ℕ → Bool
+blank l at end = all (length (take (end - at) (drop at l))) (λ i. eqb (getD (take (end - at) (drop at l)) i 0) 0)
+
+module _ (l : List ℕ) (r p at h : ℕ) (b : Bool) (size : length l ≡ 5864) (high : r ≤ 32) (few : p < 16) (place : at ≡ cellAt r p) (mask : h ≡ heldMask l r)
+    (bit : b ≡ has h p) where
+  -- nobody holds it
+  pub cell-blank : not b ≡ true → (z : Bool) → z ≡ blank l at (at + 10) → z ≡ cellOk l r p
+  cell-blank t z e = e ∙ cell-zero l r p at place (omega arith) (failed (rw mask at bit) t)
+
+  -- or it is held: what its record has to be, and that it decides
+  pub held-cell : not b ≡ false → 1 ≤ r → eachRound (masksWithin l) ≡ true → HeldCell l r p at
+  held-cell t low w =
+      let there = passed (rw mask at bit) t in record {
+        member = has-bound _ _ _ (masks-small l r (round-elim (masksWithin l) w r low high) .held) there;
+        long = ap length (cell-part l at (cellAt r p) place)
+            ∙ length-take-le 10 (drop (cellAt r p) l) (omega (arith, length-drop (cellAt r p) l));
+        done = λ z e. e ∙ cell-held l r p _ there (cell-part l at _ place);
+      }
+
 -- ---- cells that nobody holds, together
 
 -- the words of k cells from member a on
-pub cells-zero : (l : List ℕ) (r a k : ℕ)
+cells-zero : (l : List ℕ) (r a k : ℕ)
     → all (10 * k) (λ i. eqb (getD l (cellAt r a + i) 0) 0) ≡ all k (λ p. all 10 (λ i. eqb (getD l (cellAt r (a + p) + i) 0) 0))
 unfolding all
 cells-zero l r a zero = refl
@@ -59,12 +88,12 @@ cells-zero l r a (suc k) =
     place i = omega arith
 
 -- all cells of a round that holds nothing
-pub round-empty : (l : List ℕ) (r : ℕ) → heldMask l r ≡ 0 → all 160 (λ i. eqb (getD l (cellAt r 0 + i) 0) 0) ≡ all 16 (cellOk l r)
+round-empty : (l : List ℕ) (r : ℕ) → heldMask l r ≡ 0 → all 160 (λ i. eqb (getD l (cellAt r 0 + i) 0) 0) ≡ all 16 (cellOk l r)
 unfolding all
 round-empty l r e = cells-zero l r 0 16 ∙ all-cong 16 _ _ (λ p b. sym (cell-empty l r p (ap (λ (m : ℕ). has m p) e ∙ has-zero p)))
 
 -- the cells from n on
-pub round-rest : (l : List ℕ) (r n : ℕ) → n ≤ 16 → heldMask l r < 2 ^ n
+round-rest : (l : List ℕ) (r n : ℕ) → n ≤ 16 → heldMask l r < 2 ^ n
     → (all n (cellOk l r) && all (10 * (16 - n)) (λ i. eqb (getD l (cellAt r n + i) 0) 0)) ≡ all 16 (cellOk l r)
 round-rest l r n h w =
     ap (λ (b : Bool). all n (cellOk l r) && b) (cells-zero l r n (16 - n)
@@ -79,8 +108,47 @@ round-rest l r n h w =
     beyond p (inr d) = d
 
 -- the lent part from one place to another
-pub words-part : (l : List ℕ) (at end a k : ℕ) → at ≡ a → end ≡ a + k → a + k ≤ length l
+words-part : (l : List ℕ) (at end a k : ℕ) → at ≡ a → end ≡ a + k → a + k ≤ length l
     → all (length (take (end - at) (drop at l))) (λ i. eqb (getD (take (end - at) (drop at l)) i 0) 0) ≡ all k (λ i. eqb (getD l (a + i) 0) 0)
 words-part l at end a k e f h =
     let d : end - at ≡ k = omega arith in
     rw (d, e) (part-zero l a k h)
+
+-- the cells of a round, from where they start on
+pub record RoundCells (l : List ℕ) (r start : ℕ) : Type 0 where
+  pub long : start + 160 ≤ length l
+  pub high : start ≤ 5704
+  pub empty : (h : ℕ) (z : Bool) → h ≡ heldMask l r → h ≡ 0 → z ≡ blank l start (start + 160) → z ≡ all 16 (cellOk l r)
+  pub at-members : (m : Bool) → m ≡ all (memberCount l) (cellOk l r) → not m ≡ true → false ≡ all 16 (cellOk l r)
+  pub at-rest : (m z : Bool) → m ≡ all (memberCount l) (cellOk l r) → not m ≡ false
+      → z ≡ all (10 * (16 - memberCount l)) (λ i. eqb (getD l (start + 10 * memberCount l + i) 0) 0) → z ≡ all 16 (cellOk l r)
+
+pub round-cells : (l : List ℕ) (r start : ℕ) → length l ≡ 5864 → legal (memberCount l) ≡ true → eachRound (masksWithin l) ≡ true → 1 ≤ r → r ≤ 32
+    → start ≡ cellAt r 0 → RoundCells l r start
+round-cells l r start size g w low high place = record {
+  long = omega arith;
+  high = omega arith;
+  empty = λ h z eh e ez. ez ∙ words-part l start (start + 160) (cellAt r 0) 160 place (omega arith) (omega arith) ∙ round-empty l r (sym eh ∙ e);
+  at-members = λ m em t. sym (sym decides ∙ and-fails-left _ (failed em t));
+  at-rest = λ m z em t ez. ez ∙ ap (λ (a : ℕ). all (10 * (16 - memberCount l)) (λ i. eqb (getD l (a + i) 0) 0)) rest ∙ rw (passed em t) at decides;
+}
+  where
+    decides : (all (memberCount l) (cellOk l r) && all (10 * (16 - memberCount l)) (λ i. eqb (getD l (cellAt r (memberCount l) + i) 0) 0))
+        ≡ all 16 (cellOk l r)
+    decides = round-rest l r (memberCount l) (legal-range _ g .high) (masks-small l r (round-elim (masksWithin l) w r low high) .held)
+
+    rest : start + 10 * memberCount l ≡ cellAt r (memberCount l)
+    rest = omega arith
+
+-- the cells from n on, for each n
+pub record RestCells (l : List ℕ) (n start : ℕ) : Type 0 where
+  pub some : (k : ℕ) (z : Bool) → n ≡ k → z ≡ blank l (start + 10 * k) (start + 160)
+      → z ≡ all (10 * (16 - n)) (λ i. eqb (getD l (start + 10 * n + i) 0) 0)
+  pub none : (n ≡ 4 → ⊥) → (n ≡ 7 → ⊥) → (n ≡ 10 → ⊥) → (n ≡ 13 → ⊥) → true ≡ all (10 * (16 - n)) (λ i. eqb (getD l (start + 10 * n + i) 0) 0)
+
+pub rest-cells : (l : List ℕ) (n start : ℕ) → legal n ≡ true → start + 160 ≤ length l → RestCells l n start
+rest-cells l n start g h =
+    let q = legal-range n g in record {
+      some = λ k z e ez. rw e (ez ∙ words-part l (start + 10 * k) (start + 160) (start + 10 * k) (10 * (16 - k)) refl (omega arith) (omega arith));
+      none = λ a b c d. let e : n ≡ 16 = omega arith in rw e (sym (all-none _));
+    }

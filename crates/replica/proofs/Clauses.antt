@@ -1,6 +1,6 @@
 -- Laws of the clauses of well-formedness. Assumes nothing.
 use mathlib.Core.Path.{_≡_, refl, sym, ap, _∙_}
-use mathlib.Core.Bool.{Bool, true, false, _&&_, _||_, and-true}
+use mathlib.Core.Bool.{Bool, true, false, not, _&&_, _||_, and-true}
 use mathlib.Core.List.{List, [], _∷_}
 use mathlib.Core.Logic.{⊎-elim}
 use Prim.Native.Nat.{ℕ, zero, suc, _+_, _-_, _≤_, _<_}
@@ -10,7 +10,7 @@ use lib.ListN.{length, getD, take, drop}
 use borrow.Author.Tests.{leb-true, le-ltb, ltb-false}
 use Rattle.record.specs.Below.{all}
 use Rattle.record.specs.Members.{legal}
-use Rattle.record.proofs.Booleans.{which, and-left, and-right, and-fails-left, and-fails-right, or-left, or-right, or-cases, never, bool-ext}
+use Rattle.record.proofs.Booleans.{which, and-left, and-right, and-fails-left, and-fails-right, or-left, or-right, or-cases, never, bool-ext, failed}
 use Rattle.record.proofs.Below.{all-intro, all-elim}
 use Rattle.replica.specs.State.{memberCount, leaderCount, journalCount}
 use Rattle.replica.specs.WellFormed.{eachRound, masksWithin, leadersOk, journalOk, restZero, every, clauses, wellFormed}
@@ -39,25 +39,29 @@ well-parts l =
     ∙ ap (λ (b : Bool). bodyPart l && (leadersOk l && (journalOk l && b))) (and-true (restZero l)))
 
 -- where a part fails
-pub head-no : (l : List ℕ) → headPart l ≡ false → wellFormed l ≡ false
-head-no l e = well-parts l ∙ and-fails-left (bodyPart l && (leadersOk l && (journalOk l && restZero l))) e
+module _ (l : List ℕ) (b : Bool) where
+  pub head-no : b ≡ headPart l → not b ≡ true → false ≡ wellFormed l
+  head-no e h = sym (well-parts l ∙ and-fails-left (bodyPart l && (leadersOk l && (journalOk l && restZero l))) (failed e h))
 
-pub body-no : (l : List ℕ) → bodyPart l ≡ false → wellFormed l ≡ false
-body-no l e = well-parts l ∙ and-fails-right (headPart l) (and-fails-left (leadersOk l && (journalOk l && restZero l)) e)
+  pub body-no : b ≡ bodyPart l → not b ≡ true → false ≡ wellFormed l
+  body-no e h = sym (well-parts l ∙ and-fails-right (headPart l) (and-fails-left (leadersOk l && (journalOk l && restZero l)) (failed e h)))
 
-pub leaders-no : (l : List ℕ) → leadersOk l ≡ false → wellFormed l ≡ false
-leaders-no l e = well-parts l ∙ and-fails-right (headPart l) (and-fails-right (bodyPart l) (and-fails-left (journalOk l && restZero l) e))
+  pub leaders-no : b ≡ leadersOk l → not b ≡ true → false ≡ wellFormed l
+  leaders-no e h =
+      sym (well-parts l ∙ and-fails-right (headPart l) (and-fails-right (bodyPart l) (and-fails-left (journalOk l && restZero l) (failed e h))))
 
-pub journal-no : (l : List ℕ) → journalOk l ≡ false → wellFormed l ≡ false
-journal-no l e =
-    well-parts l ∙ and-fails-right (headPart l) (and-fails-right (bodyPart l) (and-fails-right (leadersOk l) (and-fails-left (restZero l) e)))
+  pub journal-no : b ≡ journalOk l → not b ≡ true → false ≡ wellFormed l
+  journal-no e h =
+      sym (well-parts l
+      ∙ and-fails-right (headPart l) (and-fails-right (bodyPart l) (and-fails-right (leadersOk l) (and-fails-left (restZero l) (failed e h)))))
 
 -- where the first four hold, the last decides
-last-part : (a b c d e : Bool) → a ≡ true → b ≡ true → c ≡ true → d ≡ true → (a && (b && (c && (d && e)))) ≡ e
-last-part a b c d e p q r s = rw (p, q, r, s)
-
-pub rest-decides : (l : List ℕ) → headPart l ≡ true → bodyPart l ≡ true → leadersOk l ≡ true → journalOk l ≡ true → wellFormed l ≡ restZero l
-rest-decides l p q r s = well-parts l ∙ last-part (headPart l) (bodyPart l) (leadersOk l) (journalOk l) (restZero l) p q r s
+pub rest-decides : (l : List ℕ) → headPart l ≡ true → bodyPart l ≡ true → leadersOk l ≡ true → journalOk l ≡ true → (b : Bool) → b ≡ restZero l
+    → b ≡ wellFormed l
+rest-decides l p q r s b e = e ∙ sym (well-parts l ∙ last-part (headPart l) (bodyPart l) (leadersOk l) (journalOk l) (restZero l) p q r s)
+  where
+    last-part : (a b c d e : Bool) → a ≡ true → b ≡ true → c ≡ true → d ≡ true → (a && (b && (c && (d && e)))) ≡ e
+    last-part a b c d e p q r s = rw (p, q, r, s)
 
 -- what the parts give
 pub head-legal : (l : List ℕ) → headPart l ≡ true → legal (memberCount l) ≡ true

@@ -1,77 +1,52 @@
 -- The tests in turn.
-use mathlib.Core.Bool.{and-true, and-false}
+use mathlib.Core.Path.{_≡_}
+use mathlib.Core.Bool.{true, and-true, and-false}
+use mathlib.Core.List.{List}
+use Prim.Native.Nat.{ℕ}
+use lib.Dec.{eqb}
 use borrow.Author.Tests.{eq-eqb, ne-eqb}
 use borrow.Author.Needs.{needs}
+use Rattle.record.specs.Below.{all}
 use Rattle.record.proofs.Booleans.{passed, failed}
+use Rattle.replica.specs.State.{heardMask, votesMask}
+use Rattle.replica.specs.WellFormed.{eachRound, subset, masksWithin, cellOk}
 use Rattle.replica.proofs.wellformed.body_ok.Statement.{statement}
 use Rattle.replica.proofs.wellformed.body_ok.Tie as tie
 
+abbrev words : tie.Start → List ℕ
+words s = s .args .state .now
+
+-- the tests that passed
+masks : (c : tie.Else1) → eachRound (masksWithin (words (search))) ≡ true
+masks c = let a : tie.After-masks-within = search in passed (a .masks-within .ensures) (c .if1 .left)
+
+votes : (c : tie.Else2) → let l = words (search) in eachRound (λ r. subset (votesMask l r) (heardMask l r)) ≡ true
+votes c = let a : tie.After-votes-heard = search in passed (a .votes-heard .ensures) (c .if2 .left)
+
+first : (c : tie.Else3) → eqb (votesMask (words (search)) 1) 0 ≡ true
+first c = eq-eqb (votesMask (words (search)) 1) 0 (cc)
+
+cells : (c : tie.Else4) → let l = words (search) in eachRound (λ r. all 16 (cellOk l r)) ≡ true
+cells c = let a : tie.After-cells-ok = search in passed (a .cells-ok .ensures) (c .if4 .left)
+
 returns : tie.Need-returns
-returns c =
-    let after-masks-within : tie.After-masks-within = search in
-    simp (failed (after-masks-within .masks-within .ensures) (c .if1 .taken))
+returns c = let a : tie.After-masks-within = search in simp (failed (a .masks-within .ensures) (c .if1 .taken))
 
 returns-2 : tie.Need-returns-2
-returns-2 c =
-    let after-votes-heard : tie.After-votes-heard = search in
-    let else1 : tie.Else1 = search in
-    let after-masks-within : tie.After-masks-within = search in
-    simp (passed (after-masks-within .masks-within .ensures) (else1 .if1 .left), failed (after-votes-heard .votes-heard .ensures) (c .if2 .taken))
+returns-2 c = let a : tie.After-votes-heard = search in simp (masks (search), failed (a .votes-heard .ensures) (c .if2 .taken))
 
 returns-3 : tie.Need-returns-3
 returns-3 c =
-    let after-votes-mask : tie.After-votes-mask = search in
-    let else2 : tie.Else2 = search in
-    let after-votes-heard : tie.After-votes-heard = search in
-    let else1 : tie.Else1 = search in
-    let after-masks-within : tie.After-masks-within = search in
-    simp (
-      passed (after-masks-within .masks-within .ensures) (else1 .if1 .left),
-      passed (after-votes-heard .votes-heard .ensures) (else2 .if2 .left),
-      ne-eqb _ _ (rw (after-votes-mask .votes-mask .ensures) at (c .if3 .taken)),
-    )
-
-cells-ok-requires : tie.Need-cells-ok-requires
-cells-ok-requires c κs =
-    let else1 : tie.Else1 = search in
-    let after-masks-within : tie.After-masks-within = search in
-    let start : tie.Start = search in
-    (start .pre .0, start .pre .1, passed (after-masks-within .masks-within .ensures) (else1 .if1 .left))
+    let a : tie.After-votes-mask = search in
+    simp (masks (search), votes (search), ne-eqb _ _ (rw (a .votes-mask .ensures) at (c .if3 .taken)))
 
 returns-4 : tie.Need-returns-4
 returns-4 c =
-    let after-cells-ok : tie.After-cells-ok = search in
-    let else3 : tie.Else3 = search in
-    let after-votes-mask : tie.After-votes-mask = search in
-    let else2 : tie.Else2 = search in
-    let after-votes-heard : tie.After-votes-heard = search in
-    let else1 : tie.Else1 = search in
-    let after-masks-within : tie.After-masks-within = search in
-    simp (
-      passed (after-masks-within .masks-within .ensures) (else1 .if1 .left),
-      passed (after-votes-heard .votes-heard .ensures) (else2 .if2 .left),
-      eq-eqb _ _ (rw (after-votes-mask .votes-mask .ensures) at (else3 .if3 .left)),
-      failed (after-cells-ok .cells-ok .ensures) (c .if4 .taken),
-      and-false,
-    )
+    let a : tie.After-cells-ok = search in
+    simp (masks (search), votes (search), first (search), failed (a .cells-ok .ensures) (c .if4 .taken), and-false)
 
 returns-5 : tie.Need-returns-5
-returns-5 c =
-    let else4 : tie.Else4 = search in
-    let after-cells-ok : tie.After-cells-ok = search in
-    let else3 : tie.Else3 = search in
-    let after-votes-mask : tie.After-votes-mask = search in
-    let else2 : tie.Else2 = search in
-    let after-votes-heard : tie.After-votes-heard = search in
-    let else1 : tie.Else1 = search in
-    let after-masks-within : tie.After-masks-within = search in
-    simp (
-      passed (after-masks-within .masks-within .ensures) (else1 .if1 .left),
-      passed (after-votes-heard .votes-heard .ensures) (else2 .if2 .left),
-      eq-eqb _ _ (rw (after-votes-mask .votes-mask .ensures) at (else3 .if3 .left)),
-      passed (after-cells-ok .cells-ok .ensures) (else4 .if4 .left),
-      and-true,
-    ) (c .ordered-held .ensures)
+returns-5 c = simp (masks (search), votes (search), first (search), cells (search), and-true) (c .ordered-held .ensures)
 
 pub body-ok-spec : {M : Type 1} → statement M
 body-ok-spec =
@@ -83,7 +58,7 @@ body-ok-spec =
     returns-2
     (λ c κs. search needs)
     returns-3
-    cells-ok-requires
+    (λ c κs. let k = masks (search) in search needs)
     returns-4
     (λ c κs. search needs)
     returns-5)

@@ -2,7 +2,7 @@
 use mathlib.Core.Path.{_≡_, refl, sym, ap, _∙_}
 use mathlib.Core.Bool.{Bool, true, false, not, _&&_, _||_, and-true, and-false}
 use mathlib.Core.List.{List}
-use Prim.Native.Nat.{ℕ, zero, suc, _-_, _*_, _≤_, _<_}
+use Prim.Native.Nat.{ℕ, zero, suc, _+_, _-_, _*_, _≤_, _<_}
 use native.Mathlib.Omega.{arith}
 use lib.Bits.{bitOr}
 use lib.Dec.{eqb, ltb}
@@ -12,7 +12,7 @@ use Rattle.record.specs.Layout.{weakCountOf, weakOf}
 use Rattle.record.specs.Questions.{roundOk, weakIdOk, rises, weakOk}
 use Rattle.record.proofs.Booleans.{and-left, and-right, and-both, and-fails-left, and-fails-right, bool-ext, passed, failed}
 use Rattle.record.specs.Below.{all}
-use Rattle.record.proofs.Below.{all-and}
+use Rattle.record.proofs.Below.{all-none, all-more, all-stop, all-and}
 use Rattle.record.proofs.Masks.{or-zero, has-bound, legal-range}
 use Rattle.record.proofs.Turn.{weak-id}
 use Rattle.record.proofs.Parts.{weak-parts, weak-many, weak-id-in, weak-id-high, rises-first, rises-later}
@@ -22,7 +22,7 @@ use Rattle.replica.proofs.Words.{masks-small, round-elim}
 use Rattle.replica.proofs.Parents.{round-in}
 
 -- x, the weak id in slot i, is above the last one, passes question 11 and is held; the last one is 15 for the first slot
-pub weak-slot : (l : List ℕ) (n r : ℕ) (body : List ℕ) (i last x : ℕ) → x ≡ weakOf body i → (i ≡ 0 → last ≡ 15) → (1 ≤ i → last ≡ weakOf body (i - 1))
+weak-slot : (l : List ℕ) (n r : ℕ) (body : List ℕ) (i last x : ℕ) → x ≡ weakOf body i → (i ≡ 0 → last ≡ 15) → (1 ≤ i → last ≡ weakOf body (i - 1))
     → (ltb last x && (weakIdOk n r x && heldId l x)) ≡ ((rises body i && weakIdOk n r (weakOf body i)) && heldId l (weakOf body i))
 weak-slot l n r body zero last x e f g = rw (e, f refl, rises-first body) (bool-ext
     (λ d. and-right (ltb 15 (weakOf body 0)) _ d)
@@ -46,14 +46,52 @@ weak-held l n r last x e w high f g h = bool-ext
     and-both (lt-ltb last x g) (and-both (weak-id-in n r x b (omega arith) (omega arith)) (and-both (round-in (idRound x) (omega arith) (omega arith)) d)))
     (λ d. and-right (roundOk (idRound x)) _ (and-right (weakIdOk n r x) _ (and-right (ltb last x) _ d)))
 
-pub weak-above : (l : List ℕ) (n r last x : ℕ) → (ltb last x && (weakIdOk n r x && heldId l x)) ≡ true → last < x
+weak-above : (l : List ℕ) (n r last x : ℕ) → (ltb last x && (weakIdOk n r x && heldId l x)) ≡ true → last < x
 weak-above l n r last x e = ltb-true last x (and-left (ltb last x) _ e)
+
+-- ---- one after the other
+
+-- the weak id in slot i rises, passes question 11 and is held
+abbrev pub slotPasses : List ℕ → ℕ → ℕ → List ℕ → ℕ → Bool
+slotPasses l n r body i = (rises body i && weakIdOk n r (weakOf body i)) && heldId l (weakOf body i)
+
+-- the first i pass, and the last one is that of the slot before, 15 at first
+pub record Risen (l : List ℕ) (n r : ℕ) (body : List ℕ) (count last i : ℕ) : Type 0 where
+  pub below : i ≤ count
+  pub above : 15 ≤ last
+  pub first : i ≡ 0 → last ≡ 15
+  pub later : 1 ≤ i → last ≡ weakOf body (i - 1)
+  pub pass : all i (slotPasses l n r body) ≡ true
+
+pub risen-start : (l : List ℕ) (n r : ℕ) (body : List ℕ) (count : ℕ) → Risen l n r body count 15 0
+risen-start l n r body count = record { below = omega arith; above = omega arith; first = λ _. refl; later = λ h. absurd (omega arith); pass = all-none _ }
+
+module _ (l : List ℕ) (n r : ℕ) (body : List ℕ) (count last i : ℕ) (R : Risen l n r body count last i) where
+  pub risen-end : count ≤ i → true ≡ all count (slotPasses l n r body)
+  risen-end h = let e : i ≡ count = omega arith in sym (rw e at (R .pass))
+
+  module _ (low : i < count) (b : Bool) (x : ℕ) (ex : x ≡ weakOf body i) (e : b ≡ (ltb last x && (weakIdOk n r x && heldId l x))) where
+    slot : (ltb last x && (weakIdOk n r x && heldId l x)) ≡ slotPasses l n r body i
+    slot = weak-slot l n r body i last x ex (R .first) (R .later)
+
+    pub risen-stop : not b ≡ true → false ≡ all count (slotPasses l n r body)
+    risen-stop t = sym (all-stop _ _ i low (sym slot ∙ failed e t))
+
+    pub risen-more : not b ≡ false → Risen l n r body count x (i + 1)
+    risen-more t =
+        let k : i ≡ i + 1 - 1 = omega arith in record {
+          below = omega arith;
+          above = omega (arith, R .above, weak-above l n r last x (passed e t));
+          first = λ h. absurd (omega arith);
+          later = λ h. ex ∙ ap (weakOf body) k;
+          pass = all-more _ _ (R .pass) (sym slot ∙ passed e t);
+        }
 
 -- ---- all of them
 
 -- questions 11 and 14: not too many, those in use pass and are held, and the other slots are 0
 weak-all : (l : List ℕ) (n r : ℕ) (body : List ℕ) → weakCountOf body ≤ 5 → weakCountOf body ≤ faulty n
-    → (all (weakCountOf body) (λ i. (rises body i && weakIdOk n r (weakOf body i)) && heldId l (weakOf body i))
+    → (all (weakCountOf body) (slotPasses l n r body)
     && all 5 (λ i. ltb i (weakCountOf body) || eqb (weakOf body i) 0))
     ≡ (weakOk n r body && all (weakCountOf body) (λ i. heldId l (weakOf body i)))
 weak-all l n r body few h =
@@ -79,9 +117,9 @@ weak-over l n r body f e h = sym (and-fails-left _ (weak-many n r body (omega ar
 -- not too many are used: those in use and then the other slots decide
 pub record Used (l : List ℕ) (n r : ℕ) (body : List ℕ) (count : ℕ) : Type 0 where
   pub few : count ≤ 5
-  pub at-ids : (b : Bool) → b ≡ all count (λ i. (rises body i && weakIdOk n r (weakOf body i)) && heldId l (weakOf body i)) → not b ≡ true
+  pub at-ids : (b : Bool) → b ≡ all count (slotPasses l n r body) → not b ≡ true
       → false ≡ weakPass l n r body
-  pub at-rest : (b z : Bool) → b ≡ all count (λ i. (rises body i && weakIdOk n r (weakOf body i)) && heldId l (weakOf body i)) → not b ≡ false
+  pub at-rest : (b z : Bool) → b ≡ all count (slotPasses l n r body) → not b ≡ false
       → z ≡ all 5 (λ i. ltb i count || eqb (weakOf body i) 0) → z ≡ weakPass l n r body
 
 pub used : (l : List ℕ) (n r : ℕ) (body : List ℕ) (f count : ℕ) → legal n ≡ true → f ≡ faulty n → weakCountOf body ≤ f → count ≡ weakCountOf body

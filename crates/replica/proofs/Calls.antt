@@ -18,6 +18,7 @@ use Rattle.replica.specs.Outcome.{Outcome, told, refusedBy, outcome}
 use Rattle.replica.specs.Lists.{headOf, statusOf, openQuestions, opened, openState, stateQuestions, listQuestions, Head, headIf, askLeaders}
 use Rattle.replica.specs.Lists.{askJournal, handLeaders, handJournal}
 use Rattle.replica.specs.declared.answer.Answer.{Answer}
+use Rattle.replica.proofs.Clauses.{counts}
 
 -- ---- what the number 0 says
 
@@ -106,6 +107,28 @@ journal-none l k deny = cond-false _ _ (ne-eqb (numberOf (askJournal l k)) 0 den
 pub journal-some : (l : List ℕ) (k : ℕ) → numberOf (askJournal l k) ≡ 0 → handJournal l k ≡ drop k (journalList l)
 unfolding handJournal
 journal-some l k sure = cond-true _ _ (eq-eqb (numberOf (askJournal l k)) 0 sure)
+
+-- a list that starts at a place may be handed over from entry k on
+pub record Handing (l : List ℕ) (at k count : ℕ) (given : List ℕ) : Type 0 where
+  pub size : length l ≡ 5864
+  pub low : k ≤ count
+  pub high : at + count ≤ 744
+  pub done : (a b : ℕ) → a ≡ k → b ≡ count → take ((at + b) - (at + a)) (drop (at + a) l) ≡ given
+
+handing : (l : List ℕ) (at k count : ℕ) (given : List ℕ) → (length l ≡ 5864) × (wellFormed l ≡ true) × (k ≤ count) → at + count ≤ 744
+    → given ≡ drop k (take count (drop at l)) → Handing l at k count given
+handing l at k count given asked high e = record {
+  size = asked .0;
+  low = asked .2;
+  high = high;
+  done = λ a b ea eb. hand-part l at k count (at + a) (at + b) (asked .2) (omega (arith, asked .0)) (omega arith) (omega arith) ∙ sym e;
+}
+
+pub handing-leaders : (l : List ℕ) (k : ℕ) → numberOf (askLeaders l k) ≡ 0 → Handing l 200 k (leaderCount l) (handLeaders l k)
+handing-leaders l k e = let a = leaders-asked l k e in handing l 200 k _ _ a (omega (arith, counts l (a .1) .0)) (leaders-some l k e)
+
+pub handing-journal : (l : List ℕ) (k : ℕ) → numberOf (askJournal l k) ≡ 0 → Handing l 232 k (journalCount l) (handJournal l k)
+handing-journal l k e = let a = journal-asked l k e in handing l 232 k _ _ a (omega (arith, counts l (a .1) .1)) (journal-some l k e)
 
 -- ---- status
 

@@ -1,82 +1,24 @@
--- The number 0 bounds the count (`counts` of `Clauses`); `hand-part` of `Calls` is the part as a rest of the list.
-use mathlib.Core.Path.{_∙_, sym, ap}
-use Prim.Native.Nat.{ℕ, _+_}
-use native.Mathlib.Omega.{arith}
+-- The number 0 bounds the count, and the part is the rest of the list: `Handing` of `Calls`.
+use mathlib.Core.Path.{sym}
 use borrow.Author.Needs.{needs}
-use Rattle.replica.proofs.Calls.{leaders-asked, leaders-none, leaders-some, hand-part}
-use Rattle.replica.proofs.Clauses.{counts}
+use Rattle.replica.specs.State.{leaderCount}
+use Rattle.replica.specs.Lists.{handLeaders}
+use Rattle.replica.proofs.Calls.{Handing, handing-leaders, leaders-none}
 use Rattle.replica.proofs.lists.hand_leaders.Statement.{statement}
 use Rattle.replica.proofs.lists.hand_leaders.Tie as tie
 
+known : (c : tie.Else1)
+    → let a = (let s : tie.Start = search in s .args) in Handing (a .state .now) 200 (a .k) (leaderCount (a .state .now)) (handLeaders (a .state .now) (a .k))
+known c = handing-leaders _ _ (cc)
+
 returns : tie.Need-returns
-returns c =
-    let then1 : tie.Then1 = search in
-    let after-number : tie.After-number = search in
-    let after-ask-leaders : tie.After-ask-leaders = search in
-    let start : tie.Start = search in
-    sym (leaders-none (start .args .state .now) (start .args .k)
-    (rw (after-number .number .ensures, after-ask-leaders .ask-leaders .ensures) at (then1 .if1 .taken)))
-
-shared-slice-read-wide : tie.Need-shared-slice-read-wide
-shared-slice-read-wide c =
-    let else1 : tie.Else1 = search in
-    let after-number : tie.After-number = search in
-    let after-ask-leaders : tie.After-ask-leaders = search in
-    let start : tie.Start = search in
-    let a = leaders-asked (start .args .state .now) (start .args .k) (rw (after-number .number .ensures, after-ask-leaders .ask-leaders .ensures)
-    at (else1 .if1 .left)) in omega (arith, a .0)
-
-add-end : tie.Need-add-end
-add-end c =
-    let else1 : tie.Else1 = search in
-    let after-number : tie.After-number = search in
-    let after-ask-leaders : tie.After-ask-leaders = search in
-    let start : tie.Start = search in
-    let a = leaders-asked (start .args .state .now) (start .args .k) (rw (after-number .number .ensures, after-ask-leaders .ask-leaders .ensures)
-    at (else1 .if1 .left)) in let n = counts (start .args .state .now) (a .1) in omega (arith, c .wide2 .ensures, n .0)
-
-sub-result : tie.Need-sub-result
-sub-result c =
-    let after-wide : tie.After-wide = search in
-    let else1 : tie.Else1 = search in
-    let after-number : tie.After-number = search in
-    let after-ask-leaders : tie.After-ask-leaders = search in
-    let start : tie.Start = search in
-    let a = leaders-asked (start .args .state .now) (start .args .k) (rw (after-number .number .ensures, after-ask-leaders .ask-leaders .ensures)
-    at (else1 .if1 .left)) in omega (arith, c .wide2 .ensures, after-wide .wide .ensures, a .2)
-
-part-result-start : tie.Need-part-result-start
-part-result-start c =
-    let after-wide : tie.After-wide = search in
-    let else1 : tie.Else1 = search in
-    let after-number : tie.After-number = search in
-    let after-ask-leaders : tie.After-ask-leaders = search in
-    let start : tie.Start = search in
-    let a = leaders-asked (start .args .state .now) (start .args .k) (rw (after-number .number .ensures, after-ask-leaders .ask-leaders .ensures)
-    at (else1 .if1 .left)) in omega (arith, c .wide2 .ensures, after-wide .wide .ensures, a .2)
-
-part-result-end : tie.Need-part-result-end
-part-result-end c =
-    let else1 : tie.Else1 = search in
-    let after-number : tie.After-number = search in
-    let after-ask-leaders : tie.After-ask-leaders = search in
-    let start : tie.Start = search in
-    let a = leaders-asked (start .args .state .now) (start .args .k) (rw (after-number .number .ensures, after-ask-leaders .ask-leaders .ensures)
-    at (else1 .if1 .left)) in let n = counts (start .args .state .now) (a .1) in omega (arith, c .wide2 .ensures, n .0, a .0)
+returns c = let t : tie.Then1 = search in sym (leaders-none _ _ (λ d. t .if1 .taken (cc)))
 
 returns-2 : tie.Need-returns-2
 returns-2 c =
-    let after-wide2 : tie.After-wide2 = search in
-    let after-wide : tie.After-wide = search in
-    let else1 : tie.Else1 = search in
-    let after-number : tie.After-number = search in
-    let after-ask-leaders : tie.After-ask-leaders = search in
-    let start : tie.Start = search in
-    let z = rw (after-number .number .ensures, after-ask-leaders .ask-leaders .ensures) at (else1 .if1 .left) in let a = leaders-asked
-    (start .args .state .now) (start .args .k) z in let n = counts (start .args .state .now) (a .1) in
-    hand-part (start .args .state .now) 200 (start .args .k) _ (200 + after-wide .wide .result) (200 + after-wide2 .wide2 .result) (a .2)
-    (omega (arith, n .0, a .0)) (ap (λ (x : ℕ). 200 + x) (after-wide .wide .ensures)) (ap (λ (x : ℕ). 200 + x) (after-wide2 .wide2 .ensures))
-    ∙ sym (leaders-some (start .args .state .now) (start .args .k) z)
+    let a : tie.After-wide = search in
+    let b : tie.After-wide2 = search in
+    known (search) .done _ _ (a .wide .ensures) (b .wide2 .ensures)
 
 pub hand-leaders-spec : {M : Type 1} → statement M
 hand-leaders-spec =
@@ -88,11 +30,11 @@ hand-leaders-spec =
     returns
     (λ c κs. search needs)
     (λ c. search needs)
-    shared-slice-read-wide
+    (λ c. let k = known (search) in search needs)
     (λ c κs. search needs)
-    add-end
+    (λ c. let k = known (search) in search needs)
     (λ c. search needs)
-    sub-result
-    part-result-start
-    part-result-end
+    (λ c. let k = known (search) in search needs)
+    (λ c. let k = known (search) in search needs)
+    (λ c. let k = known (search) in search needs)
     returns-2)

@@ -1,60 +1,24 @@
 -- The contract of `check_state`; the number 0 says that the state has all its words.
-use native.Mathlib.Omega.{arith}
+use mathlib.Core.Path.{_≡_}
+use mathlib.Core.List.{List}
+use Prim.Native.Nat.{ℕ}
+use lib.ListN.{length}
 use borrow.Author.Needs.{needs}
 use Rattle.replica.proofs.Calls.{state-ok, head-refused, head-done}
 use Rattle.replica.proofs.lists.status.Statement.{statement}
 use Rattle.replica.proofs.lists.status.Tie as tie
 
+abbrev words : tie.Start → List ℕ
+words s = s .args .state .now
+
+known : (c : tie.Else1) → length (words (search)) ≡ 5864
+known c = state-ok (words (search)) (cc) .0
+
 returns : tie.Need-returns
-returns c =
-    let after-number : tie.After-number = search in
-    let after-check-state : tie.After-check-state = search in
-    let start : tie.Start = search in
-    head-refused (start .args .state .now) _ (after-check-state .check-state .ensures) (rw (after-number .number .ensures) at (c .if1 .taken))
-
-shared-slice-read-t3 : tie.Need-shared-slice-read-t3
-shared-slice-read-t3 c =
-    let else1 : tie.Else1 = search in
-    let after-number : tie.After-number = search in
-    let after-check-state : tie.After-check-state = search in
-    let start : tie.Start = search in
-    let e = state-ok (start .args .state .now) (rw (after-number .number .ensures, after-check-state .check-state .ensures) at (else1 .if1 .left))
-    in omega (arith, e .0)
-
-shared-slice-read-t7 : tie.Need-shared-slice-read-t7
-shared-slice-read-t7 c =
-    let else1 : tie.Else1 = search in
-    let after-number : tie.After-number = search in
-    let after-check-state : tie.After-check-state = search in
-    let start : tie.Start = search in
-    let e = state-ok (start .args .state .now) (rw (after-number .number .ensures, after-check-state .check-state .ensures) at (else1 .if1 .left))
-    in omega (arith, e .0)
-
-shared-slice-read-t9 : tie.Need-shared-slice-read-t9
-shared-slice-read-t9 c =
-    let else1 : tie.Else1 = search in
-    let after-number : tie.After-number = search in
-    let after-check-state : tie.After-check-state = search in
-    let start : tie.Start = search in
-    let e = state-ok (start .args .state .now) (rw (after-number .number .ensures, after-check-state .check-state .ensures) at (else1 .if1 .left))
-    in omega (arith, e .0)
-
-shared-slice-read-t11 : tie.Need-shared-slice-read-t11
-shared-slice-read-t11 c =
-    let else1 : tie.Else1 = search in
-    let after-number : tie.After-number = search in
-    let after-check-state : tie.After-check-state = search in
-    let start : tie.Start = search in
-    let e = state-ok (start .args .state .now) (rw (after-number .number .ensures, after-check-state .check-state .ensures) at (else1 .if1 .left))
-    in omega (arith, e .0)
+returns c = let a : tie.After-check-state = search in head-refused (words (search)) _ (a .check-state .ensures) (λ d. c .if1 .taken (cc))
 
 returns-2 : tie.Need-returns-2
-returns-2 c =
-    let else1 : tie.Else1 = search in
-    let after-number : tie.After-number = search in
-    let after-check-state : tie.After-check-state = search in
-    let start : tie.Start = search in
-    head-done (start .args .state .now) _ (after-check-state .check-state .ensures) (rw (after-number .number .ensures) at (else1 .if1 .left))
+returns-2 c = let a : tie.After-check-state = search in head-done (words (search)) _ (a .check-state .ensures) (cc)
 
 pub status-spec : {M : Type 1} → statement M
 status-spec =
@@ -63,8 +27,8 @@ status-spec =
     (λ c κs. search needs)
     (λ c κs. search needs)
     returns
-    shared-slice-read-t3
-    shared-slice-read-t7
-    shared-slice-read-t9
-    shared-slice-read-t11
+    (λ c. let k = known (search) in search needs)
+    (λ c. let k = known (search) in search needs)
+    (λ c. let k = known (search) in search needs)
+    (λ c. let k = known (search) in search needs)
     returns-2)

@@ -18,7 +18,7 @@ use Rattle.record.proofs.Masks.{has-zero, has-bound, legal-range}
 use Rattle.replica.specs.Layout.{cellAt}
 use Rattle.replica.specs.State.{memberCount, heldMask, cell}
 use Rattle.replica.specs.WellFormed.{eachRound, masksWithin, parentsHeld, cellOk}
-use Rattle.replica.proofs.Laws.{part-zero}
+use Rattle.replica.proofs.Laws.{blank, part-zero}
 use Rattle.replica.proofs.Parents.{recordPasses}
 use Rattle.replica.proofs.Words.{masks-small, round-elim}
 
@@ -34,7 +34,7 @@ unfolding cellOk
 cell-empty l r p e = cond-false _ _ e
 
 cell-zero : (l : List ℕ) (r p at : ℕ) → at ≡ cellAt r p → cellAt r p + 10 ≤ length l → has (heldMask l r) p ≡ false
-    → all (length (take ((at + 10) - at) (drop at l))) (λ i. eqb (getD (take ((at + 10) - at) (drop at l)) i 0) 0) ≡ cellOk l r p
+    → blank l at (at + 10) ≡ cellOk l r p
 cell-zero l r p at e h d = rw (cell-part l at (cellAt r p) e) (part-zero l (cellAt r p) 10 h ∙ sym (cell-empty l r p d))
 
 -- a held cell, whose record decides
@@ -48,10 +48,6 @@ pub record HeldCell (l : List ℕ) (r p at : ℕ) : Type 0 where
   pub member : p < memberCount l
   pub long : length (take ((at + 10) - at) (drop at l)) ≡ 10
   pub done : (z : Bool) → z ≡ recordPasses l r p (take ((at + 10) - at) (drop at l)) → z ≡ cellOk l r p
-
--- every word of the part from one place to another is 0
-abbrev pub blank : List ℕ → ℕ → ℕ → Bool
-blank l at end = all (length (take (end - at) (drop at l))) (λ i. eqb (getD (take (end - at) (drop at l)) i 0) 0)
 
 module _ (l : List ℕ) (r p at h : ℕ) (b : Bool) (size : length l ≡ 5864) (high : r ≤ 32) (few : p < 16) (place : at ≡ cellAt r p) (mask : h ≡ heldMask l r)
     (bit : b ≡ has h p) where
@@ -109,7 +105,7 @@ round-rest l r n h w =
 
 -- the lent part from one place to another
 words-part : (l : List ℕ) (at end a k : ℕ) → at ≡ a → end ≡ a + k → a + k ≤ length l
-    → all (length (take (end - at) (drop at l))) (λ i. eqb (getD (take (end - at) (drop at l)) i 0) 0) ≡ all k (λ i. eqb (getD l (a + i) 0) 0)
+    → blank l at end ≡ all k (λ i. eqb (getD l (a + i) 0) 0)
 words-part l at end a k e f h =
     let d : end - at ≡ k = omega arith in
     rw (d, e) (part-zero l a k h)

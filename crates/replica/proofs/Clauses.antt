@@ -10,11 +10,11 @@ use lib.ListN.{length, getD, take, drop}
 use borrow.Author.Tests.{leb-true, le-ltb, ltb-false}
 use Rattle.record.specs.Below.{all}
 use Rattle.record.specs.Members.{legal}
-use Rattle.record.proofs.Booleans.{which, and-left, and-right, and-fails-left, and-fails-right, or-left, or-right, or-cases, never, bool-ext, failed}
+use Rattle.record.proofs.Booleans.{which, and-left, and-right, and-fails-left, and-fails-right, or-left, or-right, or-cases, never, bool-ext, passed, failed}
 use Rattle.record.proofs.Below.{all-intro, all-elim}
 use Rattle.replica.specs.State.{memberCount, leaderCount, journalCount}
 use Rattle.replica.specs.WellFormed.{eachRound, masksWithin, leadersOk, journalOk, restZero, every, clauses, wellFormed}
-use Rattle.replica.proofs.Laws.{part-zero}
+use Rattle.replica.proofs.Laws.{blank, part-zero}
 
 -- ---- the five parts of the test
 
@@ -110,9 +110,23 @@ rest-words l at size count h =
     (all-elim size (λ k. ltb k count || eqb (getD l (at + k) 0) 0) e (count + i) (omega arith))))))
 
 -- the part from the count to the end of the list
-pub rest-part : (l : List ℕ) (at size count start end : ℕ) → count ≤ size → at + size ≤ length l → start ≡ at + count → end ≡ at + size
-    → all (length (take (end - start) (drop start l))) (λ i. eqb (getD (take (end - start) (drop start l)) i 0) 0)
-    ≡ all size (λ i. ltb i count || eqb (getD l (at + i) 0) 0)
-rest-part l at size count start end h k es ee =
-    let d : end - start ≡ size - count = omega arith in
-    rw (d, es) (part-zero l (at + count) (size - count) (omega arith) ∙ rest-words l at size count h)
+rest-part : (l : List ℕ) (at size count start : ℕ) → count ≤ size → at + size ≤ length l → start ≡ count
+    → blank l (at + start) (at + size) ≡ all size (λ i. ltb i count || eqb (getD l (at + i) 0) 0)
+rest-part l at size count start h k e =
+    let d : (at + size) - (at + count) ≡ size - count = omega arith in
+    rw (e, d) (part-zero l (at + count) (size - count) (omega arith) ∙ rest-words l at size count h)
+
+-- the two lists decide, one after the other
+pub record Rests (l : List ℕ) (a b : ℕ) : Type 0 where
+  pub at-leaders : (y : Bool) → y ≡ blank l (200 + a) 232 → not y ≡ true → false ≡ restZero l
+  pub at-journal : (y z : Bool) → y ≡ blank l (200 + a) 232 → not y ≡ false → z ≡ blank l (232 + b) 744 → z ≡ restZero l
+
+pub rests : (l : List ℕ) (a b : ℕ) → length l ≡ 5864 → leaderCount l ≤ 32 → journalCount l ≤ 512 → a ≡ leaderCount l → b ≡ journalCount l → Rests l a b
+unfolding restZero
+rests l a b size few many ea eb = record {
+  at-leaders = λ y ey h. simp (failed (ey ∙ leaders) h);
+  at-journal = λ y z ey h ez. simp (passed (ey ∙ leaders) h) (ez ∙ rest-part l 232 512 _ b many (omega arith) eb);
+}
+  where
+    leaders : blank l (200 + a) 232 ≡ all 32 (λ i. ltb i (leaderCount l) || eqb (getD l (200 + i) 0) 0)
+    leaders = rest-part l 200 32 _ a few (omega arith) ea

@@ -2,7 +2,7 @@
 use mathlib.Core.Path.{_≡_, refl, sym, ap, _∙_}
 use mathlib.Core.Bool.{Bool, true, false, _&&_}
 use mathlib.Core.List.{List}
-use Prim.Native.Nat.{ℕ, _+_, _^_, _≤_, _<_}
+use Prim.Native.Nat.{ℕ, _+_, _-_, _^_, _≤_, _<_}
 use native.Mathlib.Numerals.{add-one}
 use native.Mathlib.Omega.{arith}
 use lib.Bits.{bitOr, bitAnd, and-le-l}
@@ -28,6 +28,10 @@ pub zero-more : (part : List ℕ) (joined i : ℕ) → eqb joined 0 ≡ all i (�
     → eqb (bitOr joined (getD part i 0)) 0 ≡ all (i + 1) (λ k. eqb (getD part k 0) 0)
 zero-more part joined i e =
     or-zero joined (getD part i 0) ∙ ap (λ (b : Bool). b && eqb (getD part i 0) 0) e ∙ sym (all-suc i (λ k. eqb (getD part k 0) 0))
+
+-- every word of the part from one place to another is 0
+abbrev pub blank : List ℕ → ℕ → ℕ → Bool
+blank l at end = all (length (take (end - at) (drop at l))) (λ i. eqb (getD (take (end - at) (drop at l)) i 0) 0)
 
 -- the words of a part are those of the whole
 pub part-zero : (l : List ℕ) (a k : ℕ) → a + k ≤ length l

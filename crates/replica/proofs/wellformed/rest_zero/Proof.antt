@@ -1,40 +1,24 @@
--- `rest-part` of `Clauses`: the part from the count on is zero.
-use mathlib.Core.Path.{_∙_, ap, refl}
-use Prim.Native.Nat.{_+_, ℕ}
-use native.Mathlib.Omega.{arith}
+-- The part of each list from its count on is zero: `Rests` of `Clauses`.
 use borrow.Author.Needs.{needs}
-use Rattle.record.proofs.Booleans.{passed, failed}
-use Rattle.replica.specs.WellFormed.{restZero}
-use Rattle.replica.proofs.Clauses.{rest-part}
+use Rattle.replica.proofs.Clauses.{Rests, rests}
 use Rattle.replica.proofs.wellformed.rest_zero.Statement.{statement}
 use Rattle.replica.proofs.wellformed.rest_zero.Tie as tie
 
+known : (c : tie.After-wide2)
+    → let s : tie.Start = search in let a : tie.After-wide = search in Rests (s .args .state .now) (a .wide .result) (c .wide2 .result)
+known c =
+    let s : tie.Start = search in
+    let a : tie.After-wide = search in
+    rests _ _ _ (s .pre .0) (s .pre .1) (s .pre .2) (a .wide .ensures) (c .wide2 .ensures)
+
 returns : tie.Need-returns
-unfolding restZero
-returns c =
-    let after-is-zero : tie.After-is-zero = search in
-    let after-wide : tie.After-wide = search in
-    let start : tie.Start = search in
-    simp
-    (failed (after-is-zero .is-zero .ensures
-    ∙ rest-part (start .args .state .now) 200 32 _ (200 + after-wide .wide .result) 232 (start .pre .1) (omega arith)
-    (ap (λ (x : ℕ). 200 + x) (after-wide .wide .ensures)) refl) (c .if1 .taken))
+returns c = let z : tie.After-is-zero = search in known (search) .at-leaders _ (z .is-zero .ensures) (c .if1 .taken)
 
 returns-2 : tie.Need-returns-2
-unfolding restZero
 returns-2 c =
-    let else1 : tie.Else1 = search in
-    let after-is-zero : tie.After-is-zero = search in
-    let after-wide2 : tie.After-wide2 = search in
-    let after-wide : tie.After-wide = search in
-    let start : tie.Start = search in
-    simp
-    (passed (after-is-zero .is-zero .ensures
-    ∙ rest-part (start .args .state .now) 200 32 _ (200 + after-wide .wide .result) 232 (start .pre .1) (omega arith)
-    (ap (λ (x : ℕ). 200 + x) (after-wide .wide .ensures)) refl) (else1 .if1 .left))
-    (c .is-zero2 .ensures
-    ∙ rest-part (start .args .state .now) 232 512 _ (232 + after-wide2 .wide2 .result) 744 (start .pre .2) (omega arith)
-    (ap (λ (x : ℕ). 232 + x) (after-wide2 .wide2 .ensures)) refl)
+    let z : tie.After-is-zero = search in
+    let e : tie.Else1 = search in
+    known (search) .at-journal _ _ (z .is-zero .ensures) (e .if1 .left) (c .is-zero2 .ensures)
 
 pub rest-zero-spec : {M : Type 1} → statement M
 rest-zero-spec =

@@ -1,17 +1,18 @@
 -- Laws of opening and of the list calls. Assumes nothing.
 use mathlib.Core.Path.{_≡_, refl, sym, ap, ap₂, _∙_}
-use mathlib.Core.Bool.{true}
+use mathlib.Core.Bool.{Bool, true, false, not}
 use mathlib.Core.List.{List, [], _∷_}
 use Prim.Native.Nat.{ℕ, suc, _+_, _-_, _≤_}
 use native.Mathlib.Omega.{arith}
 use lib.ListN.{length, take, drop, set, replicate, length-drop}
 use lib.Seq.{take-add, drop-at, drop-drop, length-take-le}
 use borrow.Author.Tests.{eqb-true, eqb-false, eq-eqb, ne-eqb, leb-true}
+use Rattle.record.specs.Members.{legal}
 use Rattle.record.specs.Refusals.{numberOf, firstNo}
 use Rattle.record.specs.declared.refusal.Refusal.{Refusal}
-use Rattle.record.specs.declared.refusal.Refusal.the-variants.{None}
-use Rattle.record.proofs.Booleans.{cond-true, cond-false}
-use Rattle.record.proofs.Turn.{both-yes}
+use Rattle.record.specs.declared.refusal.Refusal.the-variants.{None, StateSize, MemberCount}
+use Rattle.record.proofs.Booleans.{cond-true, cond-false, passed, failed}
+use Rattle.record.proofs.Turn.{both-yes, next, stop, done}
 use Rattle.replica.specs.State.{currentRound, committedRound, leaderCount, journalCount, leaderList, journalList}
 use Rattle.replica.specs.WellFormed.{wellFormed}
 use Rattle.replica.specs.Outcome.{Outcome, told, refusedBy, outcome}
@@ -45,7 +46,7 @@ journal-asked l k e = list-ok l k (journalCount l) e
 
 -- ---- opening
 
-pub open-refused : (l : List ℕ) (n : ℕ) (a : Answer) (why : Refusal) → a ≡ refusedBy why → why ≡ firstNo (openQuestions l n) → (numberOf why ≡ 0 → ⊥)
+open-refused : (l : List ℕ) (n : ℕ) (a : Answer) (why : Refusal) → a ≡ refusedBy why → why ≡ firstNo (openQuestions l n) → (numberOf why ≡ 0 → ⊥)
     → told a l ≡ openState l n
 unfolding openState outcome
 open-refused l n a why ea e deny =
@@ -56,7 +57,7 @@ open-refused l n a why ea e deny =
 set-two : (k n : ℕ) → set (set (replicate (suc (suc k)) 0) 0 n) 1 1 ≡ n ∷ 1 ∷ replicate k 0
 set-two k n = refl
 
-pub open-words : (words : List ℕ) (n k : ℕ) → words ≡ replicate k 0 → k ≡ 5864 → set (set words 0 n) 1 1 ≡ opened n
+open-words : (words : List ℕ) (n k : ℕ) → words ≡ replicate k 0 → k ≡ 5864 → set (set words 0 n) 1 1 ≡ opened n
 unfolding opened
 open-words words n k e d = ap (λ (x : List ℕ). set (set x 0 n) 1 1) (e ∙ ap (λ (j : ℕ). replicate j 0) d) ∙ set-two 5862 n
 
@@ -67,7 +68,7 @@ opened-counts n = (refl, refl)
 abbrev finished : ℕ → ℕ → List ℕ → Outcome
 finished x y words = record { number = 0; id = 0; leaders = x; journal = y; words = words }
 
-pub open-done : (l words : List ℕ) (n : ℕ) → words ≡ opened n → None ≡ firstNo (openQuestions l n)
+open-done : (l words : List ℕ) (n : ℕ) → words ≡ opened n → None ≡ firstNo (openQuestions l n)
     → told (record { refusal = None; leaders = 0; journal = 0 }) words ≡ openState l n
 unfolding openState outcome
 open-done l words n e d =
@@ -77,6 +78,19 @@ open-done l words n e d =
     ap (λ (w : List ℕ). told (record { refusal = None; leaders = 0; journal = 0 }) w) e
     ∙ ap₂ (λ (x y : ℕ). finished x y (opened n)) (sym a) (sym b)
     ∙ ap (λ (r : Refusal). outcome r l (opened n)) d
+
+-- where opening stops, and where it does not
+module _ (l : List ℕ) (n : ℕ) where
+  pub open-size : (length l ≡ 5864 → ⊥) → (a : Answer) → a ≡ refusedBy StateSize → told a l ≡ openState l n
+  open-size h a e = open-refused l n a StateSize e (stop _ _ (ne-eqb _ _ h)) (eqb-false 1 0 refl)
+
+  module _ (size : length l ≡ 5864) (b : Bool) (group : b ≡ legal n) where
+    pub open-group : not b ≡ true → (a : Answer) → a ≡ refusedBy MemberCount → told a l ≡ openState l n
+    open-group h a e = open-refused l n a MemberCount e (next _ _ (eq-eqb _ _ size) (stop _ _ (failed group h))) (eqb-false 2 0 refl)
+
+    pub open-all : not b ≡ false → (m : List ℕ) → m ≡ replicate (length l) 0
+        → told (record { refusal = None; leaders = 0; journal = 0 }) (set (set m 0 n) 1 1) ≡ openState l n
+    open-all h m e = open-done l _ n (open-words m n _ e size) (next _ _ (eq-eqb _ _ size) (next _ _ (passed group h) done))
 
 -- ---- handing over
 

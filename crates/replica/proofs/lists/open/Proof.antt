@@ -1,37 +1,26 @@
--- The questions in turn, and the words of an opened state: `open-words` of `Calls`.
-use mathlib.Core.Path.{refl}
-use borrow.Author.Tests.{eq-eqb, ne-eqb, eqb-false}
+-- The questions in turn, and the words of an opened state: `open-size`, `open-group` and `open-all` of `Calls`.
 use borrow.Author.Needs.{needs}
-use Rattle.record.proofs.Booleans.{passed, failed}
-use Rattle.record.proofs.Turn.{next, stop, done}
-use Rattle.replica.proofs.Calls.{open-refused, open-words, open-done}
+use Rattle.replica.proofs.Calls.{open-size, open-group, open-all}
 use Rattle.replica.proofs.lists.open.Statement.{statement}
 use Rattle.replica.proofs.lists.open.Tie as tie
 
 returns : tie.Need-returns
-returns c =
-    let then1 : tie.Then1 = search in
-    let start : tie.Start = search in
-    open-refused (start .args .state .now) (start .args .n) _ _ (c .refuse .ensures) (stop _ _ (ne-eqb _ _ (then1 .if1 .taken))) (eqb-false 1 0 refl)
+returns c = let t : tie.Then1 = search in open-size _ _ (t .if1 .taken) _ (c .refuse .ensures)
 
 returns-2 : tie.Need-returns-2
 returns-2 c =
-    let then2 : tie.Then2 = search in
-    let after-is-legal : tie.After-is-legal = search in
-    let else1 : tie.Else1 = search in
-    let start : tie.Start = search in
-    open-refused (start .args .state .now) (start .args .n) _ _ (c .refuse2 .ensures)
-    (next _ _ (eq-eqb _ _ (else1 .if1 .left)) (stop _ _ (failed (after-is-legal .is-legal .ensures) (then2 .if2 .taken)))) (eqb-false 2 0 refl)
+    let e : tie.Else1 = search in
+    let g : tie.After-is-legal = search in
+    let t : tie.Then2 = search in
+    open-group _ _ (e .if1 .left) _ (g .is-legal .ensures) (t .if2 .taken) _ (c .refuse2 .ensures)
 
 returns-3 : tie.Need-returns-3
 returns-3 c =
-    let after-clear : tie.After-clear = search in
-    let else2 : tie.Else2 = search in
-    let after-is-legal : tie.After-is-legal = search in
-    let else1 : tie.Else1 = search in
-    let start : tie.Start = search in
-    open-done (start .args .state .now) _ (start .args .n) (open-words _ (start .args .n) _ (after-clear .clear .ensures) (else1 .if1 .left))
-    (next _ _ (eq-eqb _ _ (else1 .if1 .left)) (next _ _ (passed (after-is-legal .is-legal .ensures) (else2 .if2 .left)) done))
+    let e : tie.Else1 = search in
+    let g : tie.After-is-legal = search in
+    let f : tie.Else2 = search in
+    let m : tie.After-clear = search in
+    open-all _ _ (e .if1 .left) _ (g .is-legal .ensures) (f .if2 .left) _ (m .clear .ensures)
 
 pub open-spec : {M : Type 1} → statement M
 open-spec =

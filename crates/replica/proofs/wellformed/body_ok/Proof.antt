@@ -29,12 +29,6 @@ first c = eq-eqb (votesMask (words (search)) 1) 0 (cc)
 cells : (c : tie.Else4) → let l = words (search) in eachRound (λ r. all 16 (cellOk l r)) ≡ true
 cells c = let a : tie.After-cells-ok = search in passed (a .cells-ok .ensures) (c .if4 .left)
 
-returns : tie.Need-returns
-returns c = let a : tie.After-masks-within = search in simp (failed (a .masks-within .ensures) (c .if1 .taken))
-
-returns-2 : tie.Need-returns-2
-returns-2 c = let a : tie.After-votes-heard = search in simp (masks (search), failed (a .votes-heard .ensures) (c .if2 .taken))
-
 returns-3 : tie.Need-returns-3
 returns-3 c =
     let a : tie.After-votes-mask = search in
@@ -45,20 +39,17 @@ returns-4 c =
     let a : tie.After-cells-ok = search in
     simp (masks (search), votes (search), first (search), failed (a .cells-ok .ensures) (c .if4 .taken), and-false)
 
-returns-5 : tie.Need-returns-5
-returns-5 c = simp (masks (search), votes (search), first (search), cells (search), and-true) (c .ordered-held .ensures)
-
 pub body-ok-spec : {M : Type 1} → statement M
 body-ok-spec =
     tie.close
     (tie.spec
     (λ c κs. search needs)
-    returns
+    (λ c. let a : tie.After-masks-within = search in simp (failed (a .masks-within .ensures) (c .if1 .taken)))
     (λ c κs. search needs)
-    returns-2
+    (λ c. let a : tie.After-votes-heard = search in simp (masks (search), failed (a .votes-heard .ensures) (c .if2 .taken)))
     (λ c κs. search needs)
     returns-3
     (λ c κs. let k = masks (search) in search needs)
     returns-4
     (λ c κs. search needs)
-    returns-5)
+    (λ c. simp (masks (search), votes (search), first (search), cells (search), and-true) (c .ordered-held .ensures)))

@@ -55,28 +55,31 @@ module _ (l : List ℕ) (b : Bool) where
       sym (well-parts l
       ∙ and-fails-right (headPart l) (and-fails-right (bodyPart l) (and-fails-right (leadersOk l) (and-fails-left (restZero l) (failed e h)))))
 
+  -- what a part gives where it holds
+  pub head-legal : b ≡ headPart l → not b ≡ false → legal (memberCount l) ≡ true
+  head-legal e h = and-left (legal (memberCount l)) _ (passed e h)
+
+  pub body-masks : b ≡ bodyPart l → not b ≡ false → eachRound (masksWithin l) ≡ true
+  body-masks e h = and-left (eachRound (masksWithin l)) _ (passed e h)
+
+  pub leaders-few : b ≡ leadersOk l → not b ≡ false → leaderCount l ≤ 32
+  unfolding leadersOk
+  leaders-few e h = leb-true (leaderCount l) 32 (and-left (leb (leaderCount l) 32) _ (passed e h))
+
+  pub journal-few : b ≡ journalOk l → not b ≡ false → journalCount l ≤ 512
+  unfolding journalOk
+  journal-few e h = leb-true (journalCount l) 512 (and-left (leb (journalCount l) 512) _ (passed e h))
+
 -- where the first four hold, the last decides
-pub rest-decides : (l : List ℕ) → headPart l ≡ true → bodyPart l ≡ true → leadersOk l ≡ true → journalOk l ≡ true → (b : Bool) → b ≡ restZero l
-    → b ≡ wellFormed l
-rest-decides l p q r s b e = e ∙ sym (well-parts l ∙ last-part (headPart l) (bodyPart l) (leadersOk l) (journalOk l) (restZero l) p q r s)
+pub rest-decides : (l : List ℕ) (a b c d r : Bool) → a ≡ headPart l → not a ≡ false → b ≡ bodyPart l → not b ≡ false → c ≡ leadersOk l → not c ≡ false
+    → d ≡ journalOk l → not d ≡ false → r ≡ restZero l → r ≡ wellFormed l
+rest-decides l a b c d r ea ha eb hb ec hc ed hd e =
+    e
+    ∙ sym (well-parts l
+    ∙ last-part (headPart l) (bodyPart l) (leadersOk l) (journalOk l) (restZero l) (passed ea ha) (passed eb hb) (passed ec hc) (passed ed hd))
   where
     last-part : (a b c d e : Bool) → a ≡ true → b ≡ true → c ≡ true → d ≡ true → (a && (b && (c && (d && e)))) ≡ e
     last-part a b c d e p q r s = rw (p, q, r, s)
-
--- what the parts give
-pub head-legal : (l : List ℕ) → headPart l ≡ true → legal (memberCount l) ≡ true
-head-legal l e = and-left (legal (memberCount l)) _ e
-
-pub body-masks : (l : List ℕ) → bodyPart l ≡ true → eachRound (masksWithin l) ≡ true
-body-masks l e = and-left (eachRound (masksWithin l)) _ e
-
-pub leaders-few : (l : List ℕ) → leadersOk l ≡ true → leaderCount l ≤ 32
-unfolding leadersOk
-leaders-few l e = leb-true (leaderCount l) 32 (and-left (leb (leaderCount l) 32) _ e)
-
-pub journal-few : (l : List ℕ) → journalOk l ≡ true → journalCount l ≤ 512
-unfolding journalOk
-journal-few l e = leb-true (journalCount l) 512 (and-left (leb (journalCount l) 512) _ e)
 
 -- the counts of a well-formed state
 pub counts : (l : List ℕ) → wellFormed l ≡ true → (leaderCount l ≤ 32) × (journalCount l ≤ 512)
@@ -84,7 +87,7 @@ counts l e =
     let a : (bodyPart l && (leadersOk l && (journalOk l && restZero l))) ≡ true = and-right (headPart l) _ (sym (well-parts l) ∙ e) in
     let b : (leadersOk l && (journalOk l && restZero l)) ≡ true = and-right (bodyPart l) _ a in
     let d : (journalOk l && restZero l) ≡ true = and-right (leadersOk l) _ b in
-    (leaders-few l (and-left (leadersOk l) _ b), journal-few l (and-left (journalOk l) _ d))
+    (leaders-few l true (sym (and-left (leadersOk l) _ b)) refl, journal-few l true (sym (and-left (journalOk l) _ d)) refl)
 
 -- ---- list words beyond the counts
 

@@ -237,40 +237,37 @@ pub record Reading (l : List ℕ) (count i : ℕ) (marks : List ℕ) : Type 0 wh
 pub reading-start : (l : List ℕ) (count : ℕ) → count ≡ journalCount l → count ≤ 512 → Reading l count 0 (replicate 32 0)
 reading-start l count e f = record { below = omega arith; whole = e; few = f; new = all-none (newId l); marked = marked-none l }
 
--- entry i is an id: it stops the test if it is marked, and is marked if it is not
-pub record Entry (l : List ℕ) (count i : ℕ) (marks : List ℕ) (x : ℕ) : Type 0 where
-  pub low : 1 ≤ idRound x
-  pub high : idRound x ≤ 32
-  pub twice : (at : ℕ) (b : Bool) → at ≡ idRound x - 1 → b ≡ has (getD marks at 0) (idMember x) → b ≡ true → false ≡ journalOk l
-  pub once : (at p : ℕ) (b : Bool) → at ≡ idRound x - 1 → b ≡ has (getD marks at 0) (idMember x) → b ≡ false → p ≡ 2 ^ idMember x
-      → Reading l count (i + 1) (set marks at (bitOr (getD marks at 0) p))
-
 module _ (l : List ℕ) (count i : ℕ) (marks : List ℕ) (R : Reading l count i marks) (h : i < count) (b : Bool)
     (e : b ≡ roundOk (idRound (journalWord l i))) where
+  -- entry i is no id
   pub reading-strange : not b ≡ true → false ≡ journalOk l
   reading-strange t = journal-stop l count i (R .whole) h (entry-strange l i (failed e t))
 
-  pub reading-entry : length l ≡ 5864 → not b ≡ false → Entry l count i marks (journalWord l i)
-  reading-entry size t =
-      let q = round-range _ (passed e t) in record {
-        low = q .0;
-        high = q .1;
-        twice = λ at m d f y. journal-stop l count i (R .whole) h (entry-twice l i (sym (marked-at at d) ∙ sym f ∙ y));
-        once = λ at p m d f y g. record {
-          below = omega arith;
-          whole = R .whole;
-          few = R .few;
-          new = all-more _ _ (R .new) (entry-new l i (passed e t) (sym (marked-at at d) ∙ sym f ∙ y));
-          marked = rw g (marked-more l i marks (journalWord l i) at size (omega arith) (omega arith) refl (R .marked) (q .0) (q .1) d);
-        };
-      }
-    where
-      marked-at : (at : ℕ) → at ≡ idRound (journalWord l i) - 1
-          → has (getD marks at 0) (idMember (journalWord l i)) ≡ among (take i (journalList l)) (journalWord l i)
-      marked-at at d = let q = round-range _ (passed e t) in mark-at l i marks (journalWord l i) at (R .marked) (q .0) (q .1) d
+  -- or it is one: it stops the test if it is marked, and is marked if it is not
+  module _ (t : not b ≡ false) (at : ℕ) (d : at ≡ idRound (journalWord l i) - 1) (m : Bool) (f : m ≡ has (getD marks at 0) (idMember (journalWord l i))) where
+    entry-range : (1 ≤ idRound (journalWord l i)) × (idRound (journalWord l i) ≤ 32)
+    entry-range = round-range _ (passed e t)
 
-pub reading-decides : (l : List ℕ) (count i : ℕ) (marks : List ℕ) → Reading l count i marks → count ≤ i → length l ≡ 5864 → legal (memberCount l) ≡ true
-    → eachRound (masksWithin l) ≡ true → all 32 (λ k. eqb (getD marks k 0) (orderedMask l (k + 1))) ≡ journalOk l
-reading-decides l count i marks R h e g w =
+    entry-mark : among (take i (journalList l)) (journalWord l i) ≡ m
+    entry-mark = sym (f ∙ mark-at l i marks (journalWord l i) at (R .marked) (entry-range .0) (entry-range .1) d)
+
+    pub reading-twice : m ≡ true → false ≡ journalOk l
+    reading-twice y = journal-stop l count i (R .whole) h (entry-twice l i (entry-mark ∙ y))
+
+    pub reading-more : m ≡ false → (p : ℕ) → p ≡ 2 ^ idMember (journalWord l i) → length l ≡ 5864
+        → Reading l count (i + 1) (set marks at (bitOr (getD marks at 0) p))
+    reading-more y p g size = record {
+      below = omega arith;
+      whole = R .whole;
+      few = R .few;
+      new = all-more _ _ (R .new) (entry-new l i (passed e t) (entry-mark ∙ y));
+      marked = rw g (marked-more l i marks (journalWord l i) at size (omega (arith, R .few, R .whole)) (omega (arith, R .whole)) refl (R .marked)
+          (entry-range .0) (entry-range .1) d);
+    }
+
+-- at the end the marks decide
+pub reading-decides : (l : List ℕ) (count i : ℕ) (marks : List ℕ) (z : Bool) → Reading l count i marks → count ≤ i → length l ≡ 5864
+    → legal (memberCount l) ≡ true → eachRound (masksWithin l) ≡ true → z ≡ all 32 (λ k. eqb (getD marks k 0) (orderedMask l (k + 1))) → z ≡ journalOk l
+reading-decides l count i marks z R h e g w d =
     let same : i ≡ journalCount l = omega arith in
-    journal-decides l marks e g w (omega arith) (rw same at (R .new)) (rw same at (R .marked))
+    d ∙ journal-decides l marks e g w (omega arith) (rw same at (R .new)) (rw same at (R .marked))

@@ -179,30 +179,31 @@ module _ (n r p : ℕ) (l body : List ℕ) (group : legal n ≡ true) (low : 1 �
 abbrev pub recordPasses : List ℕ → ℕ → ℕ → List ℕ → Bool
 recordPasses l r p body = eqb (numberOf (bodyRefusal (memberCount l) r p body)) 0 && parentsHeld l r body
 
--- the terms are those of the group; the masks, the strong parents and the weak ids decide, one after the other
-pub record Asked (l : List ℕ) (t : Terms) (r p : ℕ) (body : List ℕ) : Type 0 where
-  pub terms : t ≡ termsOf (t .n) r
-  pub members : t .n ≡ memberCount l
-  pub group : legal (t .n) ≡ true
-  pub at-masks : (m : Bool) → m ≡ masksAdmitted (t .n) r p body → not m ≡ true → false ≡ recordPasses l r p body
-  pub at-strong : (m s : Bool) → m ≡ masksAdmitted (t .n) r p body → not m ≡ false
-      → s ≡ (ltb r 2 || subset (strongOf body) (heldMask l (r - 1))) → not s ≡ true → false ≡ recordPasses l r p body
-  pub at-weak : (m s w : Bool) → m ≡ masksAdmitted (t .n) r p body → not m ≡ false
-      → s ≡ (ltb r 2 || subset (strongOf body) (heldMask l (r - 1))) → not s ≡ false
-      → w ≡ (weakOk (t .n) r body && all (weakCountOf body) (λ i. heldId l (weakOf body i))) → w ≡ recordPasses l r p body
+module _ (l : List ℕ) (t : Terms) (r : ℕ) (e : t ≡ termsOf (memberCount l) r) where
+  -- the terms are those of the group
+  pub terms-same : t ≡ termsOf (t .n) r
+  terms-same = rw e
 
-pub asked : (l : List ℕ) (t : Terms) (r p : ℕ) (body : List ℕ) → t ≡ termsOf (memberCount l) r → legal (memberCount l) ≡ true → 1 ≤ r → r ≤ 32
-    → p < memberCount l → length body ≡ 10 → Asked l t r p body
-asked l t r p body e group low high member size = rw e (record {
-  terms = refl;
-  members = refl;
-  group = group;
-  at-masks = λ m em h. sym (masks-refused _ r p l body group low high member size (failed em h));
-  at-strong = λ m s em h es k. sym (sym (decides (passed em h)) ∙ and-fails-left _ (failed es k));
-  at-weak = λ m s w em h es k ew. ew ∙ rw (passed es k) at (decides (passed em h));
-})
-  where
-    decides : masksAdmitted (memberCount l) r p body ≡ true
-        → ((ltb r 2 || subset (strongOf body) (heldMask l (r - 1)))
-        && (weakOk (memberCount l) r body && all (weakCountOf body) (λ i. heldId l (weakOf body i)))) ≡ recordPasses l r p body
-    decides = masks-passed (memberCount l) r p l body group low high member size
+  pub terms-count : t .n ≡ memberCount l
+  terms-count = rw e
+
+  pub terms-legal : legal (memberCount l) ≡ true → legal (t .n) ≡ true
+  terms-legal g = rw e g
+
+  -- the masks, the strong parents and the weak ids decide, one after the other
+  module _ (p : ℕ) (body : List ℕ) (group : legal (memberCount l) ≡ true) (low : 1 ≤ r) (high : r ≤ 32) (member : p < memberCount l)
+      (size : length body ≡ 10) (m : Bool) (em : m ≡ masksAdmitted (t .n) r p body) where
+    pub masks-no : not m ≡ true → false ≡ recordPasses l r p body
+    masks-no h = sym (masks-refused _ r p l body group low high member size (rw terms-count at (failed em h)))
+
+    module _ (pm : not m ≡ false) (s : Bool) (es : s ≡ (ltb r 2 || subset (strongOf body) (heldMask l (r - 1)))) where
+      decides : ((ltb r 2 || subset (strongOf body) (heldMask l (r - 1)))
+          && (weakOk (memberCount l) r body && all (weakCountOf body) (λ i. heldId l (weakOf body i)))) ≡ recordPasses l r p body
+      decides = masks-passed (memberCount l) r p l body group low high member size (rw terms-count at (passed em pm))
+
+      pub strong-no : not s ≡ true → false ≡ recordPasses l r p body
+      strong-no h = sym (sym decides ∙ and-fails-left _ (failed es h))
+
+      pub weak-decides : not s ≡ false → (w : Bool) → w ≡ (weakOk (t .n) r body && all (weakCountOf body) (λ i. heldId l (weakOf body i)))
+          → w ≡ recordPasses l r p body
+      weak-decides h w ew = rw terms-count at ew ∙ rw (passed es h) at decides

@@ -6,7 +6,7 @@ use Prim.Native.Nat.{ℕ, zero, suc, _+_, _-_, _*_, _≤_, _<_}
 use native.Mathlib.Omega.{arith}
 use lib.Bits.{bitOr}
 use lib.Dec.{eqb, ltb}
-use borrow.Author.Tests.{le-leb, lt-ltb, ltb-true}
+use borrow.Author.Tests.{le-leb, lt-ltb, ltb-true, not-true, not-false}
 use Rattle.record.specs.Members.{legal, faulty, has, idRound, idMember}
 use Rattle.record.specs.Layout.{weakCountOf, weakOf}
 use Rattle.record.specs.Questions.{roundOk, weakIdOk, rises, weakOk}
@@ -66,25 +66,25 @@ pub record Risen (l : List ℕ) (n r : ℕ) (body : List ℕ) (count last i : �
 pub risen-start : (l : List ℕ) (n r : ℕ) (body : List ℕ) (count : ℕ) → Risen l n r body count 15 0
 risen-start l n r body count = record { below = omega arith; above = omega arith; first = λ _. refl; later = λ h. absurd (omega arith); pass = all-none _ }
 
-module _ (l : List ℕ) (n r : ℕ) (body : List ℕ) (count last i : ℕ) (R : Risen l n r body count last i) where
+module _ {l : List ℕ} {n r : ℕ} {body : List ℕ} {count last i : ℕ} (R : Risen l n r body count last i) where
   pub risen-end : count ≤ i → true ≡ all count (slotPasses l n r body)
   risen-end h = let e : i ≡ count = omega arith in sym (rw e at (R .pass))
 
-  module _ (low : i < count) (b : Bool) (x : ℕ) (ex : x ≡ weakOf body i) (e : b ≡ (ltb last x && (weakIdOk n r x && heldId l x))) where
-    slot : (ltb last x && (weakIdOk n r x && heldId l x)) ≡ slotPasses l n r body i
-    slot = weak-slot l n r body i last x ex (R .first) (R .later)
+  module _ (low : i < count) (b : Bool) (e : b ≡ (ltb last (weakOf body i) && (weakIdOk n r (weakOf body i) && heldId l (weakOf body i)))) where
+    slot : slotPasses l n r body i ≡ b
+    slot = sym (e ∙ weak-slot l n r body i last (weakOf body i) refl (R .first) (R .later))
 
     pub risen-stop : not b ≡ true → false ≡ all count (slotPasses l n r body)
-    risen-stop t = sym (all-stop _ _ i low (sym slot ∙ failed e t))
+    risen-stop t = sym (all-stop _ _ i low (slot ∙ not-true b t))
 
-    pub risen-more : not b ≡ false → Risen l n r body count x (i + 1)
+    pub risen-more : not b ≡ false → Risen l n r body count (weakOf body i) (i + 1)
     risen-more t =
         let k : i ≡ i + 1 - 1 = omega arith in record {
           below = omega arith;
-          above = omega (arith, R .above, weak-above l n r last x (passed e t));
+          above = omega (arith, R .above, weak-above l n r last (weakOf body i) (passed e t));
           first = λ h. absurd (omega arith);
-          later = λ h. ex ∙ ap (weakOf body) k;
-          pass = all-more _ _ (R .pass) (sym slot ∙ passed e t);
+          later = λ h. ap (weakOf body) k;
+          pass = all-more _ _ (R .pass) (slot ∙ not-false b t);
         }
 
 -- ---- all of them

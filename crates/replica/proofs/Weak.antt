@@ -111,28 +111,26 @@ weak-all l n r body few h =
 abbrev pub weakPass : List ℕ → ℕ → ℕ → List ℕ → Bool
 weakPass l n r body = weakOk n r body && all (weakCountOf body) (λ i. heldId l (weakOf body i))
 
-pub weak-over : (l : List ℕ) (n r : ℕ) (body : List ℕ) (f : ℕ) → f ≡ faulty n → f < weakCountOf body → false ≡ weakPass l n r body
-weak-over l n r body f e h = sym (and-fails-left _ (weak-many n r body (omega arith)))
+-- at most five are used
+pub few-used : (n : ℕ) (body : List ℕ) (f count : ℕ) → legal n ≡ true → f ≡ faulty n → weakCountOf body ≤ f → count ≡ weakCountOf body → count ≤ 5
+few-used n body f count g e h ec = let q = legal-range n g in omega arith
 
--- not too many are used: those in use and then the other slots decide
-pub record Used (l : List ℕ) (n r : ℕ) (body : List ℕ) (count : ℕ) : Type 0 where
-  pub few : count ≤ 5
-  pub at-ids : (b : Bool) → b ≡ all count (slotPasses l n r body) → not b ≡ true
-      → false ≡ weakPass l n r body
-  pub at-rest : (b z : Bool) → b ≡ all count (slotPasses l n r body) → not b ≡ false
-      → z ≡ all 5 (λ i. ltb i count || eqb (weakOf body i) 0) → z ≡ weakPass l n r body
+module _ (l : List ℕ) (n r : ℕ) (body : List ℕ) (f : ℕ) (e : f ≡ faulty n) where
+  -- too many are used
+  pub weak-over : f < weakCountOf body → false ≡ weakPass l n r body
+  weak-over h = sym (and-fails-left _ (weak-many n r body (omega arith)))
 
-pub used : (l : List ℕ) (n r : ℕ) (body : List ℕ) (f count : ℕ) → legal n ≡ true → f ≡ faulty n → weakCountOf body ≤ f → count ≡ weakCountOf body
-    → Used l n r body count
-used l n r body f count g e h ec =
-    let q = legal-range n g in
-    let five : weakCountOf body ≤ 5 = omega arith in
-    let decides = weak-all l n r body five (omega arith) in
-    rw ec (record {
-      few = five;
-      at-ids = λ b eb k. sym (sym decides ∙ and-fails-left _ (failed eb k));
-      at-rest = λ b z eb k ez. ez ∙ rw (passed eb k) at decides;
-    })
+  -- or those in use and then the other slots decide
+  module _ (g : legal n ≡ true) (h : weakCountOf body ≤ f) (count : ℕ) (ec : count ≡ weakCountOf body) (b : Bool)
+      (eb : b ≡ all count (slotPasses l n r body)) where
+    decides : (all count (slotPasses l n r body) && all 5 (λ i. ltb i count || eqb (weakOf body i) 0)) ≡ weakPass l n r body
+    decides = let five = few-used n body f count g e h ec in rw ec (weak-all l n r body (omega arith) (omega arith))
+
+    pub ids-no : not b ≡ true → false ≡ weakPass l n r body
+    ids-no k = sym (sym decides ∙ and-fails-left _ (failed eb k))
+
+    pub slots-decide : not b ≡ false → (z : Bool) → z ≡ all 5 (λ i. ltb i count || eqb (weakOf body i) 0) → z ≡ weakPass l n r body
+    slots-decide k z ez = ez ∙ rw (passed eb k) at decides
 
 -- ---- slots that are not used, where no weak id is or one
 

@@ -43,27 +43,22 @@ pub cell-held : (l : List ℕ) (r p : ℕ) (body : List ℕ) → has (heldMask l
 unfolding cellOk
 cell-held l r p body h e = rw e (sym (cond-true _ _ h))
 
--- what the test of a held cell uses
-pub record HeldCell (l : List ℕ) (r p at : ℕ) : Type 0 where
-  pub member : p < memberCount l
-  pub long : length (take ((at + 10) - at) (drop at l)) ≡ 10
-  pub done : (z : Bool) → z ≡ recordPasses l r p (take ((at + 10) - at) (drop at l)) → z ≡ cellOk l r p
+-- the part is as long as a body
+pub cell-long : (l : List ℕ) (r p at : ℕ) → length l ≡ 5864 → r ≤ 32 → p < 16 → at ≡ cellAt r p → length (take ((at + 10) - at) (drop at l)) ≡ 10
+cell-long l r p at size high few place =
+    ap length (cell-part l at (cellAt r p) place) ∙ length-take-le 10 (drop (cellAt r p) l) (omega (arith, length-drop (cellAt r p) l))
 
-module _ (l : List ℕ) (r p at h : ℕ) (b : Bool) (size : length l ≡ 5864) (high : r ≤ 32) (few : p < 16) (place : at ≡ cellAt r p) (mask : h ≡ heldMask l r)
-    (bit : b ≡ has h p) where
-  -- nobody holds it
-  pub cell-blank : not b ≡ true → (z : Bool) → z ≡ blank l at (at + 10) → z ≡ cellOk l r p
-  cell-blank t z e = e ∙ cell-zero l r p at place (omega arith) (failed (rw mask at bit) t)
+module _ (l : List ℕ) (r p at h : ℕ) (b : Bool) (place : at ≡ cellAt r p) (mask : h ≡ heldMask l r) (bit : b ≡ has h p) where
+  -- nobody holds the cell
+  pub cell-blank : length l ≡ 5864 → r ≤ 32 → p < 16 → not b ≡ true → (z : Bool) → z ≡ blank l at (at + 10) → z ≡ cellOk l r p
+  cell-blank size high few t z e = e ∙ cell-zero l r p at place (omega arith) (failed (rw mask at bit) t)
 
-  -- or it is held: what its record has to be, and that it decides
-  pub held-cell : not b ≡ false → 1 ≤ r → eachRound (masksWithin l) ≡ true → HeldCell l r p at
-  held-cell t low w =
-      let there = passed (rw mask at bit) t in record {
-        member = has-bound _ _ _ (masks-small l r (round-elim (masksWithin l) w r low high) .held) there;
-        long = ap length (cell-part l at (cellAt r p) place)
-            ∙ length-take-le 10 (drop (cellAt r p) l) (omega (arith, length-drop (cellAt r p) l));
-        done = λ z e. e ∙ cell-held l r p _ there (cell-part l at _ place);
-      }
+  -- or it is held: its member is one of the group, and its record decides
+  pub cell-member : not b ≡ false → eachRound (masksWithin l) ≡ true → 1 ≤ r → r ≤ 32 → p < memberCount l
+  cell-member t w low high = has-bound _ _ _ (masks-small l r (round-elim (masksWithin l) w r low high) .held) (passed (rw mask at bit) t)
+
+  pub cell-decides : not b ≡ false → (z : Bool) → z ≡ recordPasses l r p (take ((at + 10) - at) (drop at l)) → z ≡ cellOk l r p
+  cell-decides t z e = e ∙ cell-held l r p _ (passed (rw mask at bit) t) (cell-part l at _ place)
 
 -- ---- cells that nobody holds, together
 
@@ -110,31 +105,26 @@ words-part l at end a k e f h =
     let d : end - at ≡ k = omega arith in
     rw (d, e) (part-zero l a k h)
 
--- the cells of a round, from where they start on
-pub record RoundCells (l : List ℕ) (r start : ℕ) : Type 0 where
-  pub long : start + 160 ≤ length l
-  pub high : start ≤ 5704
-  pub empty : (h : ℕ) (z : Bool) → h ≡ heldMask l r → h ≡ 0 → z ≡ blank l start (start + 160) → z ≡ all 16 (cellOk l r)
-  pub at-members : (m : Bool) → m ≡ all (memberCount l) (cellOk l r) → not m ≡ true → false ≡ all 16 (cellOk l r)
-  pub at-rest : (m z : Bool) → m ≡ all (memberCount l) (cellOk l r) → not m ≡ false
-      → z ≡ all (10 * (16 - memberCount l)) (λ i. eqb (getD l (start + 10 * memberCount l + i) 0) 0) → z ≡ all 16 (cellOk l r)
+module _ (l : List ℕ) (r start : ℕ) (size : length l ≡ 5864) (low : 1 ≤ r) (high : r ≤ 32) (place : start ≡ cellAt r 0) where
+  -- nothing is held
+  pub round-blank : (h : ℕ) (z : Bool) → h ≡ heldMask l r → h ≡ 0 → z ≡ blank l start (start + 160) → z ≡ all 16 (cellOk l r)
+  round-blank h z eh e ez =
+      ez ∙ words-part l start (start + 160) (cellAt r 0) 160 place (omega arith) (omega arith) ∙ round-empty l r (sym eh ∙ e)
 
-pub round-cells : (l : List ℕ) (r start : ℕ) → length l ≡ 5864 → legal (memberCount l) ≡ true → eachRound (masksWithin l) ≡ true → 1 ≤ r → r ≤ 32
-    → start ≡ cellAt r 0 → RoundCells l r start
-round-cells l r start size g w low high place = record {
-  long = omega arith;
-  high = omega arith;
-  empty = λ h z eh e ez. ez ∙ words-part l start (start + 160) (cellAt r 0) 160 place (omega arith) (omega arith) ∙ round-empty l r (sym eh ∙ e);
-  at-members = λ m em t. sym (sym decides ∙ and-fails-left _ (failed em t));
-  at-rest = λ m z em t ez. ez ∙ ap (λ (a : ℕ). all (10 * (16 - memberCount l)) (λ i. eqb (getD l (a + i) 0) 0)) rest ∙ rw (passed em t) at decides;
-}
-  where
+  -- or the cells of the members and then the others decide
+  module _ (g : legal (memberCount l) ≡ true) (w : eachRound (masksWithin l) ≡ true) (m : Bool) (em : m ≡ all (memberCount l) (cellOk l r)) where
     decides : (all (memberCount l) (cellOk l r) && all (10 * (16 - memberCount l)) (λ i. eqb (getD l (cellAt r (memberCount l) + i) 0) 0))
         ≡ all 16 (cellOk l r)
     decides = round-rest l r (memberCount l) (legal-range _ g .high) (masks-small l r (round-elim (masksWithin l) w r low high) .held)
 
-    rest : start + 10 * memberCount l ≡ cellAt r (memberCount l)
-    rest = omega arith
+    pub members-no : not m ≡ true → false ≡ all 16 (cellOk l r)
+    members-no t = sym (sym decides ∙ and-fails-left _ (failed em t))
+
+    pub others-decide : not m ≡ false → (z : Bool) → z ≡ all (10 * (16 - memberCount l)) (λ i. eqb (getD l (start + 10 * memberCount l + i) 0) 0)
+        → z ≡ all 16 (cellOk l r)
+    others-decide t z ez =
+        let rest : start + 10 * memberCount l ≡ cellAt r (memberCount l) = omega arith in
+        ez ∙ ap (λ (a : ℕ). all (10 * (16 - memberCount l)) (λ i. eqb (getD l (a + i) 0) 0)) rest ∙ rw (passed em t) at decides
 
 -- the cells from n on, for each n
 pub record RestCells (l : List ℕ) (n start : ℕ) : Type 0 where

@@ -120,16 +120,14 @@ rest-part l at size count start h k e =
     rw (e, d) (part-zero l (at + count) (size - count) (omega arith) ∙ rest-words l at size count h)
 
 -- the two lists decide, one after the other
-pub record Rests (l : List ℕ) (a b : ℕ) : Type 0 where
-  pub at-leaders : (y : Bool) → y ≡ blank l (200 + a) 232 → not y ≡ true → false ≡ restZero l
-  pub at-journal : (y z : Bool) → y ≡ blank l (200 + a) 232 → not y ≡ false → z ≡ blank l (232 + b) 744 → z ≡ restZero l
+module _ (l : List ℕ) (a : ℕ) (size : length l ≡ 5864) (few : leaderCount l ≤ 32) (ea : a ≡ leaderCount l) (y : Bool) (ey : y ≡ blank l (200 + a) 232) where
+  rest-leaders : y ≡ all 32 (λ i. ltb i (leaderCount l) || eqb (getD l (200 + i) 0) 0)
+  rest-leaders = ey ∙ rest-part l 200 32 _ a few (omega arith) ea
 
-pub rests : (l : List ℕ) (a b : ℕ) → length l ≡ 5864 → leaderCount l ≤ 32 → journalCount l ≤ 512 → a ≡ leaderCount l → b ≡ journalCount l → Rests l a b
-unfolding restZero
-rests l a b size few many ea eb = record {
-  at-leaders = λ y ey h. simp (failed (ey ∙ leaders) h);
-  at-journal = λ y z ey h ez. simp (passed (ey ∙ leaders) h) (ez ∙ rest-part l 232 512 _ b many (omega arith) eb);
-}
-  where
-    leaders : blank l (200 + a) 232 ≡ all 32 (λ i. ltb i (leaderCount l) || eqb (getD l (200 + i) 0) 0)
-    leaders = rest-part l 200 32 _ a few (omega arith) ea
+  pub rest-no : not y ≡ true → false ≡ restZero l
+  unfolding restZero
+  rest-no h = simp (failed rest-leaders h)
+
+  pub rest-journal : not y ≡ false → (b : ℕ) (z : Bool) → journalCount l ≤ 512 → b ≡ journalCount l → z ≡ blank l (232 + b) 744 → z ≡ restZero l
+  unfolding restZero
+  rest-journal h b z many eb ez = simp (passed rest-leaders h) (ez ∙ rest-part l 232 512 _ b many (omega arith) eb)

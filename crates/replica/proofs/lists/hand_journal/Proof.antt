@@ -11,15 +11,6 @@ known : (c : tie.Else1)
     → let a = (let s : tie.Start = search in s .args) in Handing (a .state .now) 232 (a .k) (journalCount (a .state .now)) (handJournal (a .state .now) (a .k))
 known c = handing-journal _ _ (cc)
 
-returns : tie.Need-returns
-returns c = let t : tie.Then1 = search in sym (journal-none _ _ (λ d. t .if1 .taken (cc)))
-
-returns-2 : tie.Need-returns-2
-returns-2 c =
-    let a : tie.After-wide = search in
-    let b : tie.After-wide2 = search in
-    known (search) .done _ _ (a .wide .ensures) (b .wide2 .ensures)
-
 pub hand-journal-spec : {M : Type 1} → statement M
 hand-journal-spec =
     tie.close
@@ -27,7 +18,7 @@ hand-journal-spec =
     (λ c κs. search needs)
     (λ c κs. search needs)
     (λ c. search needs)
-    returns
+    (λ c. let t : tie.Then1 = search in sym (journal-none _ _ (λ d. t .if1 .taken (cc))))
     (λ c κs. search needs)
     (λ c. search needs)
     (λ c. let k = known (search) in search needs)
@@ -37,4 +28,4 @@ hand-journal-spec =
     (λ c. let k = known (search) in search needs)
     (λ c. let k = known (search) in search needs)
     (λ c. let k = known (search) in search needs)
-    returns-2)
+    (λ c. search (known (search) .done)))

@@ -1,19 +1,19 @@
 -- Laws of the clauses of well-formedness. Assumes nothing.
 use mathlib.Core.Path.{_≡_, refl, sym, ap, _∙_}
-use mathlib.Core.Bool.{Bool, true, false, not, _&&_, _||_, and-true}
+use mathlib.Core.Bool.{Bool, true, false, not, _&&_, _||_, and-true, and-false}
 use mathlib.Core.List.{List, [], _∷_}
 use mathlib.Core.Logic.{⊎-elim}
 use Prim.Native.Nat.{ℕ, zero, suc, _+_, _-_, _≤_, _<_}
 use native.Mathlib.Omega.{arith}
 use lib.Dec.{eqb, leb, ltb}
 use lib.ListN.{length, getD, take, drop}
-use borrow.Author.Tests.{leb-true, le-ltb, ltb-false}
+use borrow.Author.Tests.{leb-true, le-leb, lt-leb, le-ltb, ltb-false, eq-eqb, ne-eqb}
 use Rattle.record.specs.Below.{all}
 use Rattle.record.specs.Members.{legal}
 use Rattle.record.proofs.Booleans.{which, and-left, and-right, and-fails-left, and-fails-right, or-left, or-right, or-cases, never, bool-ext, passed, failed}
 use Rattle.record.proofs.Below.{all-intro, all-elim}
-use Rattle.replica.specs.State.{memberCount, leaderCount, journalCount}
-use Rattle.replica.specs.WellFormed.{eachRound, masksWithin, leadersOk, journalOk, restZero, every, clauses, wellFormed}
+use Rattle.replica.specs.State.{memberCount, currentRound, committedRound, leaderCount, journalCount, heldMask, heardMask, votesMask, orderedMask}
+use Rattle.replica.specs.WellFormed.{eachRound, subset, masksWithin, cellOk, leadersOk, journalOk, restZero, every, clauses, wellFormed}
 use Rattle.replica.proofs.Laws.{blank, part-zero}
 
 -- ---- the five parts of the test
@@ -80,6 +80,49 @@ rest-decides l a b c d r ea ha eb hb ec hc ed hd e =
   where
     last-part : (a b c d e : Bool) → a ≡ true → b ≡ true → c ≡ true → d ≡ true → (a && (b && (c && (d && e)))) ≡ e
     last-part a b c d e p q r s = rw (p, q, r, s)
+
+-- ---- the clauses of the first two parts
+
+-- words 0 to 7
+module _ (l : List ℕ) (a : Bool) (ea : a ≡ legal (memberCount l)) where
+  pub group-no : not a ≡ true → false ≡ headPart l
+  group-no h = simp (failed ea h)
+
+  module _ (pa : not a ≡ false) where
+    pub round-low : currentRound l < 1 → false ≡ headPart l
+    round-low h = simp (passed ea pa, lt-leb _ _ h)
+
+    module _ (low : 1 ≤ currentRound l) where
+      pub round-high : 33 < currentRound l → false ≡ headPart l
+      round-high h = simp (passed ea pa, le-leb _ _ low, lt-leb _ _ h)
+
+      module _ (high : currentRound l ≤ 33) where
+        pub committed-high : 31 < committedRound l → false ≡ headPart l
+        committed-high h = simp (passed ea pa, le-leb _ _ low, le-leb _ _ high, lt-leb _ _ h)
+
+        pub zeros-decide : committedRound l ≤ 31 → length l ≡ 5864 → (z : Bool) → z ≡ blank l 5 8 → z ≡ headPart l
+        zeros-decide h size z e =
+            simp (passed ea pa, le-leb _ _ low, le-leb _ _ high, le-leb _ _ h, and-true) (e ∙ part-zero l 5 3 (omega arith))
+
+-- the masks and the cells
+module _ (l : List ℕ) (a : Bool) (ea : a ≡ eachRound (masksWithin l)) where
+  pub within-no : not a ≡ true → false ≡ bodyPart l
+  within-no h = simp (failed ea h)
+
+  module _ (pa : not a ≡ false) (b : Bool) (eb : b ≡ eachRound (λ r. subset (votesMask l r) (heardMask l r))) where
+    pub votes-no : not b ≡ true → false ≡ bodyPart l
+    votes-no h = simp (passed ea pa, failed eb h)
+
+    module _ (pb : not b ≡ false) (v : ℕ) (ev : v ≡ votesMask l 1) where
+      pub first-no : (v ≡ 0 → ⊥) → false ≡ bodyPart l
+      first-no h = simp (passed ea pa, passed eb pb, ne-eqb _ _ (rw ev at h))
+
+      module _ (pv : v ≡ 0) (d : Bool) (ed : d ≡ eachRound (λ r. all 16 (cellOk l r))) where
+        pub cells-no : not d ≡ true → false ≡ bodyPart l
+        cells-no h = simp (passed ea pa, passed eb pb, eq-eqb _ _ (rw ev at pv), failed ed h, and-false)
+
+        pub ordered-decides : not d ≡ false → (z : Bool) → z ≡ eachRound (λ r. subset (orderedMask l r) (heldMask l r)) → z ≡ bodyPart l
+        ordered-decides h z e = simp (passed ea pa, passed eb pb, eq-eqb _ _ (rw ev at pv), passed ed h, and-true) e
 
 -- the counts of a well-formed state
 pub counts : (l : List ℕ) → wellFormed l ≡ true → (leaderCount l ≤ 32) × (journalCount l ≤ 512)

@@ -1,6 +1,6 @@
--- Laws of zero words, of masks that are joined, and of one mask within another. Assumes nothing.
+-- Laws of a loop's tests, of zero words, of masks that are joined, and of one mask within another. Assumes nothing.
 use mathlib.Core.Path.{_≡_, refl, sym, ap, _∙_}
-use mathlib.Core.Bool.{Bool, true, false, _&&_}
+use mathlib.Core.Bool.{Bool, true, false, not, _&&_}
 use mathlib.Core.List.{List}
 use Prim.Native.Nat.{ℕ, _+_, _-_, _^_, _≤_, _<_}
 use native.Mathlib.Numerals.{add-one}
@@ -12,10 +12,21 @@ use lib.Seq.{length-take-le, getD-take, getD-drop}
 use borrow.Author.Tests.{eqb-true, eq-eqb}
 use Rattle.record.specs.Below.{all}
 use Rattle.record.specs.Members.{has, within}
-use Rattle.record.proofs.Booleans.{and-left, and-right, and-both, bool-ext}
-use Rattle.record.proofs.Below.{all-cong}
+use Rattle.record.proofs.Booleans.{and-left, and-right, and-both, bool-ext, passed, failed}
+use Rattle.record.proofs.Below.{all-more, all-stop, all-cong}
 use Rattle.record.proofs.Masks.{or-zero, has-and, mask-ext, within-or}
 use Rattle.replica.specs.WellFormed.{subset}
+
+-- ---- a loop that tests each number below n
+
+pub all-no : (n : ℕ) (t : ℕ → Bool) (i : ℕ) (b : Bool) → i < n → b ≡ t i → not b ≡ true → false ≡ all n t
+all-no n t i b h e f = sym (all-stop n t i h (failed e f))
+
+pub all-yes : (t : ℕ → Bool) (i : ℕ) (b : Bool) → all i t ≡ true → b ≡ t i → not b ≡ false → all (i + 1) t ≡ true
+all-yes t i b h e f = all-more i t h (passed e f)
+
+pub all-end : (n : ℕ) (t : ℕ → Bool) (i : ℕ) → i ≤ n → n ≤ i → all i t ≡ true → true ≡ all n t
+all-end n t i a b h = let e : i ≡ n = omega arith in sym (rw e at h)
 
 -- ---- words that are zero
 

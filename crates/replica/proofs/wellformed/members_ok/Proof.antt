@@ -1,17 +1,17 @@
 -- Invariant: the first p cells pass, and the terms are those of the round.
 use borrow.Author.Needs.{needs}
-use mathlib.Core.Path.{_≡_, sym}
+use mathlib.Core.Path.{_≡_}
 use mathlib.Core.Bool.{true}
 use Prim.Native.Nat.{_≤_, _<_, _-_}
 use native.Mathlib.Omega.{arith}
 use Rattle.record.specs.Below.{all}
 use Rattle.record.specs.Members.{legal}
 use Rattle.record.specs.Questions.{termsOf}
-use Rattle.record.proofs.Booleans.{passed, failed}
-use Rattle.record.proofs.Below.{all-none, all-more, all-stop}
+use Rattle.record.proofs.Below.{all-none}
 use Rattle.record.proofs.Masks.{legal-range}
 use Rattle.replica.specs.State.{memberCount}
 use Rattle.replica.specs.WellFormed.{cellOk}
+use Rattle.replica.proofs.Laws.{all-no, all-yes, all-end}
 use Rattle.replica.proofs.wellformed.members_ok.Statement.{statement}
 use Rattle.replica.proofs.wellformed.members_ok.Tie as tie
 
@@ -24,23 +24,6 @@ abbrev μ-loop : tie.MeasureT-loop
 known : (c : tie.Start Inv-loop μ-loop) → (0 < c .args .n) × (c .args .n ≤ 16) × (legal (memberCount (c .args .state .now)) ≡ true)
 known c = let g = legal-range _ (c .pre .2) in (omega arith, omega arith, cc)
 
-returns : tie.Need-returns Inv-loop μ-loop
-returns c =
-    let a : tie.After-cell-ok Inv-loop μ-loop = search in
-    sym (all-stop _ _ _ (omega arith) (failed (a .cell-ok .ensures) (c .if1 .taken)))
-
-loop-again : tie.Need-loop-again Inv-loop μ-loop
-loop-again c =
-    let l : tie.At-loop Inv-loop μ-loop = search in
-    let a : tie.After-cell-ok Inv-loop μ-loop = search in
-    (omega arith, l .loop .inv .1, all-more _ _ (l .loop .inv .2) (passed (a .cell-ok .ensures) (c .if1 .left)))
-
-returns-2 : tie.Need-returns-2 Inv-loop μ-loop
-returns-2 c =
-    let s : tie.Start Inv-loop μ-loop = search in
-    let l : tie.At-loop Inv-loop μ-loop = search in
-    let e : l .loop .p ≡ s .args .n = omega arith in sym (rw e at (l .loop .inv .2))
-
 pub members-ok-spec : {M : Type 1} → statement M
 members-ok-spec =
     tie.close
@@ -50,8 +33,8 @@ members-ok-spec =
     (λ c κs. let k = known (search) in search needs)
     (λ c. (omega arith, cc, all-none _))
     (λ c κs. let k = known (search) in search needs)
-    returns
+    (λ c. search all-no)
     (λ c. search needs)
     (λ c. search needs)
-    loop-again
-    returns-2)
+    (λ c. search (needs, all-yes))
+    (λ c. search all-end))

@@ -33,15 +33,18 @@ cell-empty : (l : List ℕ) (r p : ℕ) → has (heldMask l r) p ≡ false → c
 unfolding cellOk
 cell-empty l r p e = cond-false _ _ e
 
-cell-zero : (l : List ℕ) (r p at : ℕ) → at ≡ cellAt r p → cellAt r p + 10 ≤ length l → has (heldMask l r) p ≡ false
-    → blank l at (at + 10) ≡ cellOk l r p
-cell-zero l r p at e h d = rw (cell-part l at (cellAt r p) e) (part-zero l (cellAt r p) 10 h ∙ sym (cell-empty l r p d))
-
 -- a held cell, whose record decides
 pub cell-held : (l : List ℕ) (r p : ℕ) (body : List ℕ) → has (heldMask l r) p ≡ true → body ≡ cell l r p
     → (eqb (numberOf (bodyRefusal (memberCount l) r p body)) 0 && parentsHeld l r body) ≡ cellOk l r p
 unfolding cellOk
 cell-held l r p body h e = rw e (sym (cond-true _ _ h))
+
+-- the lent part from one place to another
+words-part : (l : List ℕ) (at end a k : ℕ) → at ≡ a → end ≡ a + k → a + k ≤ length l
+    → blank l at end ≡ all k (λ i. eqb (getD l (a + i) 0) 0)
+words-part l at end a k e f h =
+    let d : end - at ≡ k = omega arith in
+    rw (d, e) (part-zero l a k h)
 
 -- the part is as long as a body
 pub cell-long : (l : List ℕ) (r p at : ℕ) → length l ≡ 5864 → r ≤ 32 → p < 16 → at ≡ cellAt r p → length (take ((at + 10) - at) (drop at l)) ≡ 10
@@ -51,7 +54,8 @@ cell-long l r p at size high few place =
 module _ (l : List ℕ) (r p at h : ℕ) (b : Bool) (place : at ≡ cellAt r p) (mask : h ≡ heldMask l r) (bit : b ≡ has h p) where
   -- nobody holds the cell
   pub cell-blank : length l ≡ 5864 → r ≤ 32 → p < 16 → not b ≡ true → (z : Bool) → z ≡ blank l at (at + 10) → z ≡ cellOk l r p
-  cell-blank size high few t z e = e ∙ cell-zero l r p at place (omega arith) (failed (rw mask at bit) t)
+  cell-blank size high few t z e =
+      e ∙ words-part l at (at + 10) (cellAt r p) 10 place (omega arith) (omega arith) ∙ sym (cell-empty l r p (failed (rw mask at bit) t))
 
   -- or it is held: its member is one of the group, and its record decides
   pub cell-member : not b ≡ false → eachRound (masksWithin l) ≡ true → 1 ≤ r → r ≤ 32 → p < memberCount l
@@ -97,13 +101,6 @@ round-rest l r n h w =
     beyond : (p : ℕ) → (has (heldMask l r) (n + p) ≡ true) ⊎ (has (heldMask l r) (n + p) ≡ false) → has (heldMask l r) (n + p) ≡ false
     beyond p (inl d) = absurd (omega (arith, has-bound n (heldMask l r) (n + p) w d))
     beyond p (inr d) = d
-
--- the lent part from one place to another
-words-part : (l : List ℕ) (at end a k : ℕ) → at ≡ a → end ≡ a + k → a + k ≤ length l
-    → blank l at end ≡ all k (λ i. eqb (getD l (a + i) 0) 0)
-words-part l at end a k e f h =
-    let d : end - at ≡ k = omega arith in
-    rw (d, e) (part-zero l a k h)
 
 module _ (l : List ℕ) (r start : ℕ) (size : length l ≡ 5864) (low : 1 ≤ r) (high : r ≤ 32) (place : start ≡ cellAt r 0) where
   -- nothing is held

@@ -27,6 +27,7 @@ use Rattle.replica.specs.Outcome.{Outcome, told, refusedBy, refused, admitted, 
 use Rattle.replica.specs.Lists.{stateQuestions}
 use Rattle.replica.proofs.Calls.{state-ok}
 use Rattle.replica.proofs.Sound.{Sound, sound}
+use Rattle.replica.proofs.Parents.{round-in}
 use Rattle.record.specs.Admitted.{Admitted}
 use Rattle.ordering.specs.Calls.{sameBody, placeQuestions, noteQuestions}
 
@@ -163,6 +164,25 @@ heard-before mask p h = stop _ _ (ap not h)
 pub heard-first : (mask p : ℕ) → has mask p ≡ false → None ≡ firstNo ((not (has mask p), Duplicate) ∷ [])
 heard-first mask p h = next _ _ (ap not h) done
 
+-- rounds that are none
+round-below : (r : ℕ) → r < 1 → roundOk r ≡ false
+unfolding roundOk
+round-below r h = and-fails-left _ (lt-leb 1 r h)
+
+round-above : (r : ℕ) → 32 < r → roundOk r ≡ false
+unfolding roundOk
+round-above r h = and-fails-right (leb 1 r) (lt-leb r 32 h)
+
+-- what is known of a note where the state's questions are passed: what still refuses it, and that nothing else does
+pub record NoteKnown (l : List ℕ) (r p mask : ℕ) : Type 0 where
+  pub size : length l ≡ stateSize
+  pub high : memberCount l ≤ 16
+  pub below : r < 1 → Round ≡ firstNo (noteQuestions l r p mask)
+  pub above : 32 < r → Round ≡ firstNo (noteQuestions l r p mask)
+  pub signer : 1 ≤ r → r ≤ 32 → memberCount l ≤ p → Source ≡ firstNo (noteQuestions l r p mask)
+  pub again : 1 ≤ r → r ≤ 32 → p < memberCount l → has mask p ≡ true → Duplicate ≡ firstNo (noteQuestions l r p mask)
+  pub new : 1 ≤ r → r ≤ 32 → p < memberCount l → has mask p ≡ false → None ≡ firstNo (noteQuestions l r p mask)
+
 module _ (l : List ℕ) (r p mask : ℕ) (why : Refusal) (e : why ≡ firstNo (stateQuestions l)) where
   pub note-state : (numberOf why ≡ 0 → ⊥) → why ≡ firstNo (noteQuestions l r p mask)
   note-state h = e ∙ front-no (stateQuestions l) _ (λ d. h (ap numberOf e ∙ d))
@@ -172,17 +192,26 @@ module _ (l : List ℕ) (r p mask : ℕ) (why : Refusal) (e : why ≡ firstNo (s
       → s ≡ firstNo (noteQuestions l r p mask)
   past-note s h d = d ∙ front-yes (stateQuestions l) _ (state-numbered l) (sym (ap numberOf e) ∙ h)
 
-  pub note-round : numberOf why ≡ 0 → roundOk r ≡ false → Round ≡ firstNo (noteQuestions l r p mask)
-  note-round h a = past-note Round h (stop _ _ a)
+  module _ (h : numberOf why ≡ 0) where
+    round-no : roundOk r ≡ false → Round ≡ firstNo (noteQuestions l r p mask)
+    round-no a = past-note Round h (stop _ _ a)
 
-  pub note-signer : numberOf why ≡ 0 → roundOk r ≡ true → memberCount l ≤ p → Source ≡ firstNo (noteQuestions l r p mask)
-  note-signer h a b = past-note Source h (next _ _ a (stop _ _ (le-ltb p (memberCount l) b)))
+    round-yes : 1 ≤ r → r ≤ 32 → (s : Refusal) → s ≡ firstNo ((ltb p (memberCount l), Source) ∷ (not (has mask p), Duplicate) ∷ [])
+        → s ≡ firstNo (noteQuestions l r p mask)
+    round-yes a b s d = past-note s h (next _ _ (round-in r a b) d)
 
-  pub note-before : numberOf why ≡ 0 → roundOk r ≡ true → p < memberCount l → has mask p ≡ true → Duplicate ≡ firstNo (noteQuestions l r p mask)
-  note-before h a b d = past-note Duplicate h (next _ _ a (next _ _ (lt-ltb p (memberCount l) b) (heard-before mask p d)))
-
-  pub note-new : numberOf why ≡ 0 → roundOk r ≡ true → p < memberCount l → has mask p ≡ false → None ≡ firstNo (noteQuestions l r p mask)
-  note-new h a b d = past-note None h (next _ _ a (next _ _ (lt-ltb p (memberCount l) b) (heard-first mask p d)))
+    pub note-known : NoteKnown l r p mask
+    note-known =
+        let s = state-ok l (sym (ap numberOf e) ∙ h) in
+        record {
+          size = s .0;
+          high = sound l (s .0) (s .1) .front .high;
+          below = λ k. round-no (round-below r k);
+          above = λ k. round-no (round-above r k);
+          signer = λ a b k. round-yes a b Source (stop _ _ (le-ltb p (memberCount l) k));
+          again = λ a b k d. round-yes a b Duplicate (next _ _ (lt-ltb p (memberCount l) k) (heard-before mask p d));
+          new = λ a b k d. round-yes a b None (next _ _ (lt-ltb p (memberCount l) k) (heard-first mask p d));
+        }
 
 -- ---- outcomes
 
@@ -223,12 +252,3 @@ note-passed l r p mask e =
     let q6 = both-yes _ _ _ (eqb-false 6 0 refl) (q5 .1) in
     let w = round-range r (q5 .0) in
     (sound l (s .0) (s .1), w .0, w .1, ltb-true _ _ (q6 .0))
-
--- rounds that are none
-pub round-below : (r : ℕ) → r < 1 → roundOk r ≡ false
-unfolding roundOk
-round-below r h = and-fails-left _ (lt-leb 1 r h)
-
-pub round-above : (r : ℕ) → 32 < r → roundOk r ≡ false
-unfolding roundOk
-round-above r h = and-fails-right (leb 1 r) (lt-leb r 32 h)

@@ -11,20 +11,20 @@ use Rattle.record.specs.Layout.{roundOf, sourceOf, bodyOf, strongOf}
 use Rattle.record.specs.Questions.{bodyRefusal}
 use Rattle.record.specs.Admitted.{Admitted}
 use Rattle.record.specs.declared.refusal.Refusal.{Refusal}
-use Rattle.replica.specs.Layout.{stateSize, masksAt, timeoutsAt, noVotesAt}
+use Rattle.replica.specs.Layout.{stateSize, masksAt}
 use Rattle.replica.specs.State.{memberCount, leaderCount, journalCount, timeoutsMask, noVotesMask}
 use Rattle.replica.specs.WellFormed.{wellFormed, parentsHeld}
-use Rattle.replica.specs.Outcome.{Outcome, told, refusedBy, admitted}
+use Rattle.replica.specs.Outcome.{Outcome, told, refusedBy, admitted, outcome}
 use Rattle.replica.specs.declared.answer.Answer.{Answer}
 use Rattle.replica.proofs.Sound.{Sound, well-formed}
 use Rattle.commits.specs.Commit.{raiseRound, commitAll}
 use Rattle.ordering.specs.Calls.{addMember, placeQuestions, vertexQuestions, putVertex, takeBody, takeVertex, firstQuestions, hear}
-use Rattle.ordering.specs.Calls.{takeFirstBody, takeFirstMessage, noteQuestions, takeTimeout, takeNoVote}
+use Rattle.ordering.specs.Calls.{takeFirstBody, takeFirstMessage, noteQuestions}
 use Rattle.ordering.proofs.Turns.{outcome-refused, outcome-admitted, record-passed, parents-passed, note-passed}
 use Rattle.ordering.proofs.Heard.{hear-body}
 use Rattle.ordering.proofs.Counts.{same-growth, no-growth}
-use Rattle.ordering.proofs.Writing.{Calm, calm-then, raise-calm, put-calm, hear-calm, note-calm}
-use Rattle.ordering.proofs.Marks.{sound-put, sound-raise, sound-hear}
+use Rattle.ordering.proofs.Writing.{Calm, calm-self, calm-then, raise-calm, put-calm, hear-calm, note-calm}
+use Rattle.ordering.proofs.Marks.{sound-put, sound-raise, sound-hear, sound-note}
 
 -- an answer with a refusal, where the words stay
 told-refused : (l : List ℕ) (a : Answer) (why : Refusal) → a ≡ refusedBy why → told a l ≡ told (refusedBy why) l
@@ -151,40 +151,41 @@ module _ (l rec : List ℕ) (why : Refusal) (e : why ≡ firstNo (firstQuestions
       done = λ m o d f. f ∙ rw (d, hear-body l (roundOf rec) (sourceOf rec) rec) first-done;
     }
 
--- ---- a timeout and a no-vote
+-- ---- a timeout and a no-vote: the signer joins the i-th mask of the round, and after it the words are changed by `after`
+
+-- what each later step may use of a note that no question stopped
+pub record NoteTaken (i : ℕ) (after : List ℕ → List ℕ) (l : List ℕ) (r p : ℕ) : Type 0 where
+  pub sound : Sound l
+  pub low : 1 ≤ r
+  pub high : r ≤ 32
+  pub few : p < 16
+  pub joined : (at : ℕ) (m : List ℕ) → at ≡ masksAt r → m ≡ addMember l (at + i) p → Ready (memberCount l) m
+  pub done : (at : ℕ) (m o : List ℕ) → at ≡ masksAt r → m ≡ addMember l (at + i) p → o ≡ after m
+      → record { number = 0; id = 0; leaders = 0; journal = 0; words = o }
+      ≡ outcome (firstNo (noteQuestions l r p (getD l (masksAt r + i) 0))) l (after (addMember l (masksAt r + i) p))
+
+module _ (l : List ℕ) (r p mask : ℕ) (why : Refusal) (e : why ≡ firstNo (noteQuestions l r p mask)) where
+  pub note-refused : (numberOf why ≡ 0 → ⊥) → (a : Answer) → a ≡ refusedBy why → (m : List ℕ) → told a l ≡ outcome (firstNo (noteQuestions l r p mask)) l m
+  note-refused h a d m = told-refused l a why d ∙ outcome-refused why _ l m e h
+
+module _ (i : ℕ) (from : 3 ≤ i) (to : i < 5) (after : List ℕ → List ℕ) (calm : (m : List ℕ) → Calm m (after m)) (l : List ℕ) (r p : ℕ) (why : Refusal)
+    (e : why ≡ firstNo (noteQuestions l r p (getD l (masksAt r + i) 0))) (h : numberOf why ≡ 0) where
+  note-taken : NoteTaken i after l r p
+  note-taken =
+      let w = note-passed l r p _ (sym (ap numberOf e) ∙ h) in
+      let C = note-calm l r i p (w .1) (w .2) (omega arith) in
+      record {
+        sound = w .0;
+        low = w .1;
+        high = w .2;
+        few = omega (arith, w .3, w .0 .front .high);
+        joined = λ at m a d. rw (d, a) (ready _ _ (sound-note l (w .0) r p (w .1) (w .2) (w .3) i (omega arith) to (λ z. omega arith)) (calm-count C));
+        done = λ at m o a d f. rw (f, d, a) (calm-still (calm-then C (calm _)) ∙ outcome-admitted why _ l _ e h);
+      }
 
 module _ (l : List ℕ) (r p : ℕ) (why : Refusal) where
-  pub timeout-refused : why ≡ firstNo (noteQuestions l r p (timeoutsMask l r)) → (numberOf why ≡ 0 → ⊥) → (a : Answer) → a ≡ refusedBy why
-      → told a l ≡ takeTimeout l r p
-  unfolding takeTimeout
-  timeout-refused e h a d = told-refused l a why d ∙ outcome-refused why _ l _ e h
+  pub timeout-taken : why ≡ firstNo (noteQuestions l r p (timeoutsMask l r)) → numberOf why ≡ 0 → NoteTaken 3 raiseRound l r p
+  timeout-taken = note-taken 3 (omega arith) (omega arith) raiseRound raise-calm l r p why
 
-  pub no-vote-refused : why ≡ firstNo (noteQuestions l r p (noVotesMask l r)) → (numberOf why ≡ 0 → ⊥) → (a : Answer) → a ≡ refusedBy why
-      → told a l ≡ takeNoVote l r p
-  unfolding takeNoVote
-  no-vote-refused e h a d = told-refused l a why d ∙ outcome-refused why _ l _ e h
-
-  -- a note whose questions are all answered yes
-  pub note-known : (mask : ℕ) → why ≡ firstNo (noteQuestions l r p mask) → numberOf why ≡ 0 → Sound l × (1 ≤ r) × (r ≤ 32) × (p < memberCount l)
-  note-known mask e h = note-passed l r p mask (sym (ap numberOf e) ∙ h)
-
-  pub timeout-done : why ≡ firstNo (noteQuestions l r p (timeoutsMask l r)) → numberOf why ≡ 0 → (m : List ℕ) → m ≡ raiseRound (addMember l (timeoutsAt r) p)
-      → record { number = 0; id = 0; leaders = 0; journal = 0; words = m } ≡ takeTimeout l r p
-  unfolding takeTimeout
-  timeout-done e h m d =
-      let w = note-known (timeoutsMask l r) e h in
-      let C = calm-then (note-calm l r 3 p (w .1) (w .2) (omega arith)) (raise-calm (addMember l (timeoutsAt r) p)) in
-      ap (λ (x : List ℕ). record { number = 0; id = 0; leaders = 0; journal = 0; words = x }) d ∙ calm-still C
-      ∙ outcome-admitted why _ l _ e h
-
-  pub no-vote-done : why ≡ firstNo (noteQuestions l r p (noVotesMask l r)) → numberOf why ≡ 0 → (m : List ℕ) → m ≡ addMember l (noVotesAt r) p
-      → record { number = 0; id = 0; leaders = 0; journal = 0; words = m } ≡ takeNoVote l r p
-  unfolding takeNoVote
-  no-vote-done e h m d =
-      let w = note-known (noVotesMask l r) e h in
-      ap (λ (x : List ℕ). record { number = 0; id = 0; leaders = 0; journal = 0; words = x }) d ∙ calm-still (note-calm l r 4 p (w .1) (w .2) (omega arith))
-      ∙ outcome-admitted why _ l _ e h
-
-  -- the member count after the note's bit
-  pub note-members : (i : ℕ) → i < 6 → 1 ≤ r → r ≤ 32 → memberCount l ≡ memberCount (addMember l (masksAt r + i) p)
-  note-members i b low high = calm-count (note-calm l r i p low high b)
+  pub no-vote-taken : why ≡ firstNo (noteQuestions l r p (noVotesMask l r)) → numberOf why ≡ 0 → NoteTaken 4 (λ m. m) l r p
+  no-vote-taken = note-taken 4 (omega arith) (omega arith) (λ m. m) calm-self l r p why

@@ -1,72 +1,33 @@
-use Rattle.ordering.proofs.Taking.{no-vote-refused, note-known, no-vote-done}
-use Rattle.ordering.specs.Calls.{addMember}
-use mathlib.Core.Path.{_≡_, refl, sym, ap, _∙_}
-use native.Mathlib.Omega.{arith}
-use Prim.Native.Nat.{ℕ, _+_}
+-- `take_no_vote` meets its contract. Assumes nothing.
+use Rattle.ordering.proofs.Taking.{note-refused, NoteTaken, no-vote-taken}
+use Rattle.ordering.specs.Calls.{takeNoVote}
+use mathlib.Core.Path.{refl}
+use mathlib.Core.List.{List}
+use Prim.Native.Nat.{ℕ}
 use borrow.Author.Needs.{needs}
 use Rattle.ordering.proofs.calls.take_no_vote.Statement.{statement}
 use Rattle.ordering.proofs.calls.take_no_vote.Tie as tie
-use Rattle.ordering.proofs.calls.take_no_vote.Reads as reads
-use Rattle.ordering.proofs.calls.take_no_vote.Lts as lts
-use Rattle.ordering.proofs.calls.add_member.Reads as add-member-reads
-use Rattle.ordering.proofs.calls.check_note.Reads as check-note-reads
-use Rattle.record.proofs.refusal.number.Reads as number-reads
-use Rattle.replica.proofs.answer.refuse.Reads as refuse-reads
-use Rattle.replica.proofs.layout.masks_at.Reads as masks-at-reads
+
+abbrev words : tie.Start → List ℕ
+words s = s .args .state .now
+
+-- no question stopped the note
+known : (c : tie.Else1) → let s : tie.Start = search in NoteTaken 4 (λ m. m) (words s) (s .args .round) (s .args .signer)
+known c = let a : tie.After-check-note = search in no-vote-taken _ _ _ _ (a .check-note .ensures) (cc)
 
 returns : tie.Need-returns
+unfolding takeNoVote
 returns c =
-    let then1 : tie.Then1 = search in
-    let after-number : tie.After-number = search in
-    let after-check-note : tie.After-check-note = search in
-    let start : tie.Start = search in
-    no-vote-refused (start .args .state .now) (start .args .round) (start .args .signer) _ (after-check-note .check-note .ensures)
-    (λ d. then1 .if1 .taken (after-number .number .ensures ∙ d)) _ (c .refuse .ensures)
-
-slice-read-n : tie.Need-slice-read-n
-slice-read-n c =
-    let else1 : tie.Else1 = search in
-    let after-number : tie.After-number = search in
-    let after-check-note : tie.After-check-note = search in
-    let start : tie.Start = search in
-    omega (
-      arith,
-      note-known (start .args .state .now) (start .args .round) (start .args .signer) _ _ (after-check-note .check-note .ensures)
-          (sym (after-number .number .ensures) ∙ else1 .if1 .left) .0 .size,
-    )
-
-masks-at-requires : tie.Need-masks-at-requires
-masks-at-requires c κs =
-    let else1 : tie.Else1 = search in
-    let after-number : tie.After-number = search in
-    let after-check-note : tie.After-check-note = search in
-    let start : tie.Start = search in
-    let w = note-known (start .args .state .now) (start .args .round) (start .args .signer) _ _ (after-check-note .check-note .ensures)
-    (sym (after-number .number .ensures) ∙ else1 .if1 .left) in (w .1, w .2)
-
-add-member-requires : tie.Need-add-member-requires
-add-member-requires c κs =
-    let after-masks-at : tie.After-masks-at = search in
-    let else1 : tie.Else1 = search in
-    let after-number : tie.After-number = search in
-    let after-check-note : tie.After-check-note = search in
-    let start : tie.Start = search in
-    let w = note-known (start .args .state .now) (start .args .round) (start .args .signer) _ _ (after-check-note .check-note .ensures)
-    (sym (after-number .number .ensures) ∙ else1 .if1 .left) in
-    (omega (arith, after-masks-at .masks-at .ensures, w .0 .size, w .2), omega (arith, w .3, w .0 .front .high))
+    let a : tie.After-check-note = search in
+    let t : tie.Then1 = search in
+    note-refused (words (search)) _ _ _ _ (a .check-note .ensures) (λ d. t .if1 .taken (cc)) _ (c .refuse .ensures) _
 
 returns-2 : tie.Need-returns-2
+unfolding takeNoVote
 returns-2 c =
-    let after-add-member : tie.After-add-member = search in
-    let after-masks-at : tie.After-masks-at = search in
-    let else1 : tie.Else1 = search in
-    let after-number : tie.After-number = search in
-    let after-check-note : tie.After-check-note = search in
-    let start : tie.Start = search in
-    no-vote-done (start .args .state .now) (start .args .round) (start .args .signer) _ (after-check-note .check-note .ensures)
-    (sym (after-number .number .ensures) ∙ else1 .if1 .left) _
-    (after-add-member .add-member .ensures
-    ∙ ap (λ (x : ℕ). addMember (start .args .state .now) (x + 4) (start .args .signer)) (after-masks-at .masks-at .ensures))
+    let a : tie.After-masks-at = search in
+    let m : tie.After-add-member = search in
+    known (search) .done _ _ _ (a .masks-at .ensures) (m .add-member .ensures) refl
 
 pub take-no-vote-spec : {M : Type 1} → statement M
 take-no-vote-spec =
@@ -77,9 +38,9 @@ take-no-vote-spec =
     (λ c κs. search needs)
     (λ c. search needs)
     returns
-    slice-read-n
-    masks-at-requires
+    (λ c. let k = known (search) in search needs)
+    (λ c κs. let k = known (search) in search needs)
     (λ c. search needs)
-    add-member-requires
+    (λ c κs. let k = known (search) in search needs)
     (λ c. search needs)
     returns-2)

@@ -8,18 +8,22 @@ use native.Mathlib.Nat.{eq-or-lt-of-le}
 use native.Mathlib.Numerals.{add-one}
 use native.Mathlib.Omega.{arith}
 use lib.Dec.{eqb, ltb}
+use lib.ListN.{length}
 use borrow.Author.Tests.{ne-eqb, ltb-true, ltb-false, not-true}
 use Rattle.record.specs.Below.{any, least}
 use Rattle.record.specs.Members.{legal, has, idOf, idRound, idMember}
 use Rattle.record.specs.Layout.{strongOf, weakCountOf, weakOf}
+use Rattle.record.specs.Refusals.{numberOf}
+use Rattle.record.specs.Questions.{bodyRefusal}
 use Rattle.record.specs.Admitted.{Admitted}
 use Rattle.record.proofs.Booleans.{which, never, and-both, and-left, and-right, and-fails-left, and-fails-right}
 use Rattle.record.proofs.Below.{any-false, least-none, least-at}
 use Rattle.record.proofs.Masks.{legal-range, has-bound}
+use Rattle.record.proofs.Turn.{admitted}
 use Rattle.protocol.specs.Journal.{idLimit}
 use Rattle.replica.specs.State.{heldId}
 use Rattle.replica.specs.WellFormed.{isParent, missing, parentsHeld}
-use Rattle.replica.proofs.Parents.{strong-parent, weak-parent, parent-cases, weak-five}
+use Rattle.replica.proofs.Parents.{strong-parent, weak-parent, parent-cases, weak-five, first-held}
 use Rattle.ordering.specs.Search.{parentAt, groupSize}
 
 -- the groups below g have been looked at, and all their parents are held
@@ -34,25 +38,25 @@ pub record Looked (n r : ℕ) (l body : List ℕ) (g j : ℕ) : Type 0 where
   pub strong : g ≡ 1 → (m : ℕ) → m < j → has (strongOf body) m ≡ true → heldId l (idOf (r - 1) m) ≡ true
 
 module _ (n r p : ℕ) (l body : List ℕ) (group : legal n ≡ true) (a : Admitted n r p body) (later : 2 ≤ r) where
-  pub passed-none : Passed n r l body 0
+  passed-none : Passed n r l body 0
   passed-none = record { weak = λ z i h. absurd (omega arith); strong = λ z m h e. absurd (omega arith) }
 
-  pub looked-none : (g : ℕ) → Passed n r l body g → Looked n r l body g 0
+  looked-none : (g : ℕ) → Passed n r l body g → Looked n r l body g 0
   looked-none g w = record { passed = w; weak = λ z i h k. absurd (omega arith); strong = λ z m h e. absurd (omega arith) }
 
-  pub size-weak : groupSize n body 0 ≡ weakCountOf body
+  size-weak : groupSize n body 0 ≡ weakCountOf body
   unfolding groupSize
   size-weak = refl
 
-  pub size-strong : (g : ℕ) → (g ≡ 0 → ⊥) → groupSize n body g ≡ n
+  size-strong : (g : ℕ) → (g ≡ 0 → ⊥) → groupSize n body g ≡ n
   unfolding groupSize
   size-strong g h = rw (ne-eqb g 0 h)
 
-  pub at-weak : (j : ℕ) → parentAt r body 0 j ≡ weakOf body j
+  at-weak : (j : ℕ) → parentAt r body 0 j ≡ weakOf body j
   unfolding parentAt
   at-weak j = refl
 
-  pub at-strong : (g j : ℕ) → (g ≡ 0 → ⊥) → has (strongOf body) j ≡ true → parentAt r body g j ≡ idOf (r - 1) j
+  at-strong : (g j : ℕ) → (g ≡ 0 → ⊥) → has (strongOf body) j ≡ true → parentAt r body g j ≡ idOf (r - 1) j
   unfolding parentAt
   at-strong g j h e = rw (ne-eqb g 0 h, e)
 
@@ -68,7 +72,7 @@ module _ (n r p : ℕ) (l body : List ℕ) (group : legal n ≡ true) (a : Admit
       (omega arith, omega (arith, a .round-high), hi)
 
   -- one more of group g: no parent there, or a held one
-  pub looked-more : (g j : ℕ) → g < 2 → Looked n r l body g j → (parentAt r body g j ≡ 0) ⊎ (heldId l (parentAt r body g j) ≡ true)
+  looked-more : (g j : ℕ) → g < 2 → Looked n r l body g j → (parentAt r body g j ≡ 0) ⊎ (heldId l (parentAt r body g j) ≡ true)
       → Looked n r l body g (j + 1)
   looked-more g j b w h = record { passed = w .passed; weak = more-weak; strong = more-strong }
     where
@@ -95,7 +99,7 @@ module _ (n r p : ℕ) (l body : List ℕ) (group : legal n ≡ true) (a : Admit
               ⊎-elim (λ y. absurd (omega (arith, x))) (λ y. ap (heldId l) (sym x) ∙ y) h
 
   -- a whole group
-  pub passed-more : (g j : ℕ) → g < 2 → Looked n r l body g j → groupSize n body g ≤ j → Passed n r l body (g + 1)
+  passed-more : (g j : ℕ) → g < 2 → Looked n r l body g j → groupSize n body g ≤ j → Passed n r l body (g + 1)
   passed-more zero j b w h = record { weak = λ z i k. w .weak refl i (omega (arith, size-weak)) k; strong = λ z m k e. absurd (omega arith) }
   passed-more (suc g) j b w h =
       let z : suc g ≡ 1 = omega arith in
@@ -111,7 +115,7 @@ module _ (n r p : ℕ) (l body : List ℕ) (group : legal n ≡ true) (a : Admit
   not-parent y h = and-fails-left _ h
 
   -- all parents are held
-  pub none-missing : Passed n r l body 2 → 528 ≡ least idLimit (missing l r body)
+  none-missing : Passed n r l body 2 → 528 ≡ least idLimit (missing l r body)
   none-missing w = sym (least-none idLimit (missing l r body)
       (any-false idLimit (missing l r body) (λ y k. ⊎-elim (λ e. held-parent y e) (not-parent y) (which (isParent r body y)))))
     where
@@ -138,7 +142,7 @@ module _ (n r p : ℕ) (l body : List ℕ) (group : legal n ≡ true) (a : Admit
       go (inr k) ih = omega (arith, ih (omega arith), step)
 
   -- the first one that is not held is the smallest missing id
-  pub first-found : (g j : ℕ) → g < 2 → j < groupSize n body g → Looked n r l body g j → (parentAt r body g j ≡ 0 → ⊥) → heldId l (parentAt r body g j) ≡ false
+  first-found : (g j : ℕ) → g < 2 → j < groupSize n body g → Looked n r l body g j → (parentAt r body g j ≡ 0 → ⊥) → heldId l (parentAt r body g j) ≡ false
       → parentAt r body g j ≡ least idLimit (missing l r body)
   unfolding missing
   first-found zero j b k w z h =
@@ -191,11 +195,75 @@ module _ (n r p : ℕ) (l body : List ℕ) (group : legal n ≡ true) (a : Admit
               same y s = omega arith
 
   -- what is looked at lies within the body and the members
-  pub look-range : (g j : ℕ) → g < 2 → j < groupSize n body g → (j < 16) × (g ≡ 0 → j < 5)
+  look-range : (g j : ℕ) → g < 2 → j < groupSize n body g → (j < 16) × (g ≡ 0 → j < 5)
   look-range zero j b k = let five = weak-five n r p l body group a in (omega (arith, size-weak), λ z. omega (arith, size-weak))
   look-range (suc g) j b k = let q = legal-range n group in (omega (arith, size-strong (suc g) (λ d. omega arith)), λ z. absurd (omega arith))
 
--- a body whose parents are all held lacks none
-pub held-none : (r : ℕ) (l body : List ℕ) → parentsHeld l r body ≡ true → 528 ≡ least idLimit (missing l r body)
-unfolding parentsHeld
-held-none r l body e = sym (least-none idLimit (missing l r body) (not-true (any idLimit (missing l r body)) e))
+-- ---- the two loops
+
+-- over the groups: those below g are passed, and nothing is found
+pub record Searching (n r : ℕ) (l body : List ℕ) (found g : ℕ) : Type 0 where
+  pub few : g ≤ 2
+  pub none : found ≡ 528
+  pub passed : Passed n r l body g
+
+-- over the first j of group g, which has end of them
+pub record Looking (n r : ℕ) (l body : List ℕ) (found g end j : ℕ) : Type 0 where
+  pub group : g < 2
+  pub none : found ≡ 528
+  pub size : end ≡ groupSize n body g
+  pub low : j ≤ end
+  pub looked : Looked n r l body g j
+
+-- what each step may use of an admitted record after round 1
+pub record Search (n r : ℕ) (l body : List ℕ) : Type 0 where
+  pub size : length body ≡ 10
+  pub high : r ≤ 32
+  pub start : Searching n r l body 528 0
+  pub enter : (found g end : ℕ) → Searching n r l body found g → g < 2 → end ≡ groupSize n body g → Looking n r l body found g end 0
+  pub range : (found g end j : ℕ) → Looking n r l body found g end j → j < end → (j < 16) × (g ≡ 0 → j < 5)
+  pub more : (found g end j x : ℕ) → Looking n r l body found g end j → j < end → x ≡ parentAt r body g j → (x ≡ 0) ⊎ (heldId l x ≡ true)
+      → Looking n r l body found g end (j + 1)
+  pub leave : (found g end j : ℕ) → Looking n r l body found g end j → end ≤ j → Searching n r l body found (g + 1)
+  pub held : (found g : ℕ) → Searching n r l body found g → 2 ≤ g → found ≡ least idLimit (missing l r body)
+  pub lacking : (found g end j x : ℕ) → Looking n r l body found g end j → j < end → x ≡ parentAt r body g j → (x ≡ 0 → ⊥) → heldId l x ≡ false
+      → x ≡ least idLimit (missing l r body)
+
+module _ (n r p : ℕ) (l body : List ℕ) (legit : legal n ≡ true) (ok : numberOf (bodyRefusal n r p body) ≡ 0) where
+  admit : Admitted n r p body
+  admit = admitted n r p body ok
+
+  pub searched : 2 ≤ r → Search n r l body
+  searched b = record {
+    size = admit .size;
+    high = admit .round-high;
+    start = record { few = omega arith; none = refl; passed = passed-none n r p l body legit admit b };
+    enter = λ found g end w k e. record {
+      group = k;
+      none = w .none;
+      size = e;
+      low = omega arith;
+      looked = looked-none n r p l body legit admit b g (w .passed);
+    };
+    range = λ found g end j w k. look-range n r p l body legit admit b g j (w .group) (omega (arith, w .size));
+    more = λ found g end j x w k e h. record {
+      group = w .group;
+      none = w .none;
+      size = w .size;
+      low = omega arith;
+      looked = looked-more n r p l body legit admit b g j (w .group) (w .looked) (rw e at h);
+    };
+    leave = λ found g end j w k. record {
+      few = omega (arith, w .group);
+      none = w .none;
+      passed = passed-more n r p l body legit admit b g j (w .group) (w .looked) (omega (arith, w .size));
+    };
+    held = λ found g w k. let z : g ≡ 2 = omega (arith, w .few) in w .none ∙ none-missing n r p l body legit admit b (rw z at (w .passed));
+    lacking = λ found g end j x w k e h f.
+        e ∙ first-found n r p l body legit admit b g j (w .group) (omega (arith, w .size)) (w .looked) (λ z. h (e ∙ z)) (rw e at f);
+  }
+
+  -- a record of round 1 has no parents
+  pub first-round : r < 2 → 528 ≡ least idLimit (missing l r body)
+  unfolding parentsHeld
+  first-round h = sym (least-none idLimit (missing l r body) (not-true (any idLimit (missing l r body)) (first-held n r p l body legit admit h)))

@@ -2,28 +2,38 @@
 use mathlib.Core.Path.{_≡_, refl, sym, ap, _∙_}
 use mathlib.Core.Bool.{Bool, true, false, cond}
 use mathlib.Core.List.{List, [], _∷_}
-use Prim.Native.Nat.{ℕ, _+_, _-_}
+use Prim.Native.Nat.{ℕ, _+_, _-_, _≤_, _<_}
+use native.Mathlib.Omega.{arith}
 use lib.ListN.{getD, drop}
 use lib.Seq.{getD-drop}
 use Rattle.record.specs.Members.{leader, has}
 use Rattle.record.specs.Layout.{bodyOf, strongOf}
-use Rattle.record.proofs.Masks.{has-zero}
+use Rattle.record.proofs.Masks.{leader-small, has-zero}
 use Rattle.replica.specs.Layout.{masksAt}
 use Rattle.replica.specs.State.{memberCount}
 use Rattle.ordering.specs.Calls.{addMember, hear}
 
-module _ (l : List ℕ) (r p n strong : ℕ) (e : n ≡ memberCount l) where
-  pub hear-silent : has strong (leader n (r - 1)) ≡ false → addMember l (masksAt r + 1) p ≡ hear l r p (strong ∷ [])
-  unfolding hear strongOf
-  hear-silent h = rw (← e, h)
+-- what is known where the source is heard and the words are m: its votes are marked next if it votes for the leader, and in round 1 no one votes
+pub record Marked (l : List ℕ) (r p n strong at : ℕ) (m : List ℕ) : Type 0 where
+  pub small : leader n (r - 1) < 32
+  pub first : strong ≡ 0 → m ≡ hear l r p (strong ∷ [])
+  pub silent : has strong (leader n (r - 1)) ≡ false → m ≡ hear l r p (strong ∷ [])
+  pub voting : has strong (leader n (r - 1)) ≡ true → (o : List ℕ) → o ≡ addMember m (at + 2) p → o ≡ hear l r p (strong ∷ [])
 
-  pub hear-voting : has strong (leader n (r - 1)) ≡ true → addMember (addMember l (masksAt r + 1) p) (masksAt r + 2) p ≡ hear l r p (strong ∷ [])
+module _ (l : List ℕ) (r p n strong : ℕ) (e : n ≡ memberCount l) (high : r ≤ 32) (at : ℕ) (a : at ≡ masksAt r) (m : List ℕ)
+    (d : m ≡ addMember l (at + 1) p) where
+  hear-silent : has strong (leader n (r - 1)) ≡ false → m ≡ hear l r p (strong ∷ [])
   unfolding hear strongOf
-  hear-voting h = rw (← e, h)
+  hear-silent h = rw (d, a, ← e, h)
 
-  -- in round 1 the strong mask is empty, and no one votes
-  pub hear-none : strong ≡ 0 → addMember l (masksAt r + 1) p ≡ hear l r p (strong ∷ [])
-  hear-none z = hear-silent (ap (λ (m : ℕ). has m (leader n (r - 1))) z ∙ has-zero (leader n (r - 1)))
+  pub marked : Marked l r p n strong at m
+  unfolding hear strongOf
+  marked = record {
+    small = leader-small n (r - 1) (omega arith);
+    first = λ z. hear-silent (rw (z, has-zero));
+    silent = hear-silent;
+    voting = λ h o f. rw (f, d, a, ← e, h);
+  }
 
 -- the body of a record is heard as its strong mask is
 pub hear-body : (l : List ℕ) (r p : ℕ) (rec : List ℕ) → hear l r p (getD rec 2 0 ∷ []) ≡ hear l r p (bodyOf rec)

@@ -7,6 +7,8 @@ use native.Mathlib.Omega.{arith}
 use lib.ListN.{length, getD, take, drop, set, List·getD-append}
 use lib.Seq.{take-suc, take-suc-set, take-all, take-at, drop-at, drop-drop, drop-append-le, getD-take, getD-drop, length-take-le, paste}
 use lib.Seq.{length-paste-head, take-paste, drop-paste}
+use Rattle.replica.specs.Layout.{masksAt, cellAt}
+use Rattle.ordering.specs.Calls.{addMember, putVertex}
 
 -- a turn of a loop that copies
 pub take-copied : (d s : List ℕ) (i : ℕ) → i < length d → i < length s → take i d ≡ take i s → take (i + 1) (set d i (getD s i 0)) ≡ take (i + 1) s
@@ -17,11 +19,17 @@ pub take-whole : (d s : List ℕ) (i : ℕ) → length d ≤ i → length s ≤ 
 take-whole d s i hd hs e = sym (take-all i d hd) ∙ e ∙ take-all i s hs
 
 -- a part that was lent and has come back with other words
-pub put-pasted : (a k : ℕ) (d ys s : List ℕ) → ys ≡ take k s → take a d ++ (ys ++ drop ((a + k) - a) (drop a d)) ≡ paste d a s k
+put-pasted : (a k : ℕ) (d ys s : List ℕ) → ys ≡ take k s → take a d ++ (ys ++ drop ((a + k) - a) (drop a d)) ≡ paste d a s k
 put-pasted a k d ys s e =
     let n : a + ((a + k) - a) ≡ a + k = omega arith in
     ap₂ (λ (y z : List ℕ). take a d ++ (y ++ z)) e (drop-drop ((a + k) - a) a d ∙ ap (λ (m : ℕ). drop m d) n)
     ∙ sym (append-assoc (take a d) (take k s) (drop (a + k) d))
+
+-- a vertex marked held at the masks of its round, and its body in the cell that was lent
+pub vertex-put : (l : List ℕ) (r p : ℕ) (body : List ℕ) → length body ≡ 10 → (at : ℕ) → at ≡ masksAt r → (m : List ℕ) → m ≡ addMember l (at + 0) p
+    → (a : ℕ) → a ≡ cellAt r p → (ys : List ℕ) → ys ≡ body → take a m ++ (ys ++ drop ((a + 10) - a) (drop a m)) ≡ putVertex l r p body
+unfolding putVertex
+vertex-put l r p body size at e m d a f ys g = put-pasted a 10 m ys body (g ∙ sym (take-all 10 body (omega arith))) ∙ rw (d, e, f)
 
 -- ---- words written over a part
 

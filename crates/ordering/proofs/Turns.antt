@@ -9,7 +9,7 @@ use lib.ListN.{length, take, drop, getD, length-drop}
 use lib.Seq.{take-all}
 use borrow.Author.Tests.{eqb-false, eq-eqb, ne-eqb, lt-ltb, le-ltb, lt-leb, ltb-true}
 use Rattle.record.specs.Below.{any, least}
-use Rattle.record.specs.Members.{has}
+use Rattle.record.specs.Members.{legal, has}
 use Rattle.record.specs.Refusals.{numberOf, Question, firstNo}
 use Rattle.record.specs.Layout.{roundOf, sourceOf, bodyOf}
 use Rattle.record.specs.Questions.{roundOk, recordQuestions, bodyRefusal, recordRefusal}
@@ -17,6 +17,7 @@ use Rattle.record.specs.declared.refusal.Refusal.{Refusal}
 use Rattle.record.specs.declared.refusal.Refusal.the-variants.{None, Round, Source, Duplicate, Conflict, MissingParent}
 use Rattle.record.proofs.Booleans.{never, and-left, and-right, and-both, and-fails-left, and-fails-right}
 use Rattle.record.proofs.Below.{any-intro, any-false, least-sat, least-off}
+use Rattle.record.proofs.Masks.{legal-range}
 use Rattle.record.proofs.Turn.{next, stop, done, both-yes, round-range}
 use Rattle.record.proofs.Turn as turn
 use Rattle.protocol.specs.Journal.{idLimit}
@@ -129,32 +130,42 @@ module _ (l rec : List ℕ) (rest : List Question) (why : Refusal) (e : why ≡ 
 
 -- ---- the smallest missing parent
 
-pub missing-found : (l : List ℕ) (r : ℕ) (body : List ℕ) (x : ℕ) → x ≡ least idLimit (missing l r body) → x < 528 → parentsHeld l r body ≡ false
+missing-found : (l : List ℕ) (r : ℕ) (body : List ℕ) (x : ℕ) → x ≡ least idLimit (missing l r body) → x < 528 → parentsHeld l r body ≡ false
 unfolding parentsHeld
 missing-found l r body x e h = ap not (any-intro idLimit (missing l r body) (least idLimit (missing l r body)) (omega arith)
     (least-sat idLimit (missing l r body) (omega arith)))
 
-pub none-lacking : (l : List ℕ) (r : ℕ) (body : List ℕ) (x : ℕ) → x ≡ least idLimit (missing l r body) → 528 ≤ x → parentsHeld l r body ≡ true
+none-lacking : (l : List ℕ) (r : ℕ) (body : List ℕ) (x : ℕ) → x ≡ least idLimit (missing l r body) → 528 ≤ x → parentsHeld l r body ≡ true
 unfolding parentsHeld
 none-lacking l r body x e h = ap not (any-false idLimit (missing l r body) (λ y k. least-off idLimit (missing l r body) y (omega arith)))
 
 -- ---- questions 12 to 14 of a vertex
 
-module _ (l : List ℕ) (r p : ℕ) (body : List ℕ) where
-  pub place-same : has (heldMask l r) p ≡ true → sameBody l r p body ≡ true → Duplicate ≡ firstNo (placeQuestions l r p body)
-  place-same h e = stop _ _ (ap not (and-both h e))
-
-  pub place-other : has (heldMask l r) p ≡ true → sameBody l r p body ≡ false → Conflict ≡ firstNo (placeQuestions l r p body)
-  place-other h e = next _ _ (ap not (and-fails-right (has (heldMask l r) p) e)) (stop _ _ (ap not h))
-
-  pub place-lacking : (x : ℕ) → has (heldMask l r) p ≡ false → x ≡ least idLimit (missing l r body) → x < 528
+-- what is known of an admitted record: which answer each finding gives
+pub record PlaceKnown (l : List ℕ) (n r p : ℕ) (body : List ℕ) : Type 0 where
+  pub admit : Admitted n r p body
+  pub few : p < 16
+  pub same : has (heldMask l r) p ≡ true → sameBody l r p body ≡ true → Duplicate ≡ firstNo (placeQuestions l r p body)
+  pub other : has (heldMask l r) p ≡ true → sameBody l r p body ≡ false → Conflict ≡ firstNo (placeQuestions l r p body)
+  pub lacking : (x : ℕ) → has (heldMask l r) p ≡ false → x ≡ least idLimit (missing l r body) → x < 528
       → MissingParent x ≡ firstNo (placeQuestions l r p body)
-  place-lacking x h e k =
-      ap MissingParent e
-      ∙ next _ _ (ap not (and-fails-left (sameBody l r p body) h)) (next _ _ (ap not h) (stop _ _ (missing-found l r body x e k)))
+  pub free : (x : ℕ) → has (heldMask l r) p ≡ false → x ≡ least idLimit (missing l r body) → 528 ≤ x → None ≡ firstNo (placeQuestions l r p body)
 
-  pub place-free : (x : ℕ) → has (heldMask l r) p ≡ false → x ≡ least idLimit (missing l r body) → 528 ≤ x → None ≡ firstNo (placeQuestions l r p body)
-  place-free x h e k = next _ _ (ap not (and-fails-left (sameBody l r p body) h)) (next _ _ (ap not h) (next _ _ (none-lacking l r body x e k) done))
+pub place-known : (l : List ℕ) (n r p : ℕ) (body : List ℕ) → legal n ≡ true → numberOf (bodyRefusal n r p body) ≡ 0 → PlaceKnown l n r p body
+place-known l n r p body g e =
+    let a = turn.admitted n r p body e in
+    record {
+      admit = a;
+      few = omega (arith, a .source-low, legal-range n g .high);
+      same = λ h d. stop _ _ (ap not (and-both h d));
+      other = λ h d. next _ _ (ap not (and-fails-right (has (heldMask l r) p) d)) (stop _ _ (ap not h));
+      lacking = λ x h d k. ap MissingParent d ∙ new h (stop _ _ (missing-found l r body x d k));
+      free = λ x h d k. new h (next _ _ (none-lacking l r body x d k) done);
+    }
+  where
+    new : {s : Refusal} → has (heldMask l r) p ≡ false → s ≡ firstNo ((parentsHeld l r body, MissingParent (least idLimit (missing l r body))) ∷ [])
+        → s ≡ firstNo (placeQuestions l r p body)
+    new h d = next _ _ (ap not (and-fails-left (sameBody l r p body) h)) (next _ _ (ap not h) d)
 
 -- ---- the last question of a first message, and those of a note
 

@@ -8,7 +8,7 @@ use native.Mathlib.Nat.{sub-zero}
 use native.Mathlib.Numerals.{add-one}
 use native.Mathlib.Omega.{arith}
 use lib.Dec.{eqb}
-use lib.ListN.{length, length-drop, getD, drop, take, set, drop-of-length-le}
+use lib.ListN.{length, length-drop, getD, drop, take, set, replicate, drop-of-length-le}
 use lib.Seq.{drop-drop, sets}
 use borrow.Author.Tests.{leb-true, eq-eqb, ne-eqb, not-true, not-false}
 use Rattle.transcript.specs.Grammar.{largest, allDigits, ledOk, valueOf, numeralOk, numeralValue, upToSpace, firstWord, afterWord, wordsOk}
@@ -55,14 +55,14 @@ word-starts (b ∷ s) = go (which (eqb b 32)) (word-starts s)
     go (inr e) h = rw e (ap (λ (x : List ℕ). b ∷ x) h)
 
 -- the part of the line that `numeral` is given
-pub part-word : (s : List ℕ) (start end : ℕ) → end ≡ start + length (upToSpace (drop start s)) → take (end - start) (drop start s) ≡ upToSpace (drop start s)
+part-word : (s : List ℕ) (start end : ℕ) → end ≡ start + length (upToSpace (drop start s)) → take (end - start) (drop start s) ≡ upToSpace (drop start s)
 part-word s start end e =
     let d : end - start ≡ length (upToSpace (drop start s)) = omega arith in
     ap (λ (k : ℕ). take k (drop start s)) d ∙ word-starts (drop start s)
 
 -- ---- what `numeral` answered
 
-pub numeral-yes : (s : List ℕ) → numeralValue s ≤ largest → (numeralOk s ≡ true) × (numeralValue s ≡ valueOf s)
+numeral-yes : (s : List ℕ) → numeralValue s ≤ largest → (numeralOk s ≡ true) × (numeralValue s ≡ valueOf s)
 unfolding numeralValue
 numeral-yes s h = go (which (numeralOk s))
   where
@@ -74,7 +74,7 @@ above : (s : List ℕ) → numeralOk s ≡ true → largest < numeralValue s →
 unfolding numeralValue numeralOk
 above s e h = omega (arith, cond-true (valueOf s) 4294967296 e, leb-true (valueOf s) largest (and-right (allDigits s) _ (and-right (ledOk s) _ e)))
 
-pub numeral-no : (s : List ℕ) → largest < numeralValue s → numeralOk s ≡ false
+numeral-no : (s : List ℕ) → largest < numeralValue s → numeralOk s ≡ false
 unfolding numeralValue
 numeral-no s h = go (which (numeralOk s))
   where
@@ -87,19 +87,19 @@ numeral-no s h = go (which (numeralOk s))
 first-byte : (s : List ℕ) (at : ℕ) → at < length s → getD (drop at s) 0 0 ≡ getD s at 0
 first-byte s at l = ap (λ (x : List ℕ). getD x 0 0) (split s at l)
 
-pub words-short : (s : List ℕ) (at j k : ℕ) → k ≡ suc j → length s ≤ at → wordsOk k (drop at s) ≡ false
+words-short : (s : List ℕ) (at j k : ℕ) → k ≡ suc j → length s ≤ at → wordsOk k (drop at s) ≡ false
 unfolding wordsOk
 words-short s at j k p l = rw p (rw (drop-of-length-le s l) refl)
 
 module _ (s : List ℕ) (at j k : ℕ) (p : k ≡ suc j) (l : at < length s) where
-  pub words-apart : (getD s at 0 ≡ 32 → ⊥) → wordsOk k (drop at s) ≡ false
+  words-apart : (getD s at 0 ≡ 32 → ⊥) → wordsOk k (drop at s) ≡ false
   unfolding wordsOk
   words-apart h = rw p (and-fails-left _ (ne-eqb _ 32 (λ e. h (sym (first-byte s at l) ∙ e))))
 
   word-here : firstWord (drop at s) ≡ upToSpace (drop (at + 1) s)
   word-here = ap upToSpace (drop-drop 1 at s)
 
-  pub words-bad : largest < numeralValue (upToSpace (drop (at + 1) s)) → wordsOk k (drop at s) ≡ false
+  words-bad : largest < numeralValue (upToSpace (drop (at + 1) s)) → wordsOk k (drop at s) ≡ false
   unfolding wordsOk
   words-bad h =
       rw p (and-fails-right (eqb (getD (drop at s) 0 0) 32) (and-fails-left _ (ap numeralOk word-here ∙ numeral-no (upToSpace (drop (at + 1) s)) h)))
@@ -113,48 +113,97 @@ module _ (s : List ℕ) (at j k : ℕ) (p : k ≡ suc j) (l : at < length s) whe
         let q : at + (1 + length (upToSpace (drop (at + 1) s))) ≡ end = omega arith in
         ap (λ (w : List ℕ). drop (1 + length w) (drop at s)) word-here ∙ drop-drop (1 + length (upToSpace (drop (at + 1) s))) at s ∙ ap (λ (m : ℕ). drop m s) q
 
-    pub words-next : getD s at 0 ≡ 32 → wordsOk k (drop at s) ≡ wordsOk j (drop end s)
+    words-next : getD s at 0 ≡ 32 → wordsOk k (drop at s) ≡ wordsOk j (drop end s)
     unfolding wordsOk
     words-next q =
         ap (λ (m : ℕ). wordsOk m (drop at s)) p
         ∙ rw (eq-eqb _ 32 (first-byte s at l ∙ q), ap numeralOk word-here ∙ read-here .0) (ap (wordsOk j) rest-here)
 
-    pub values-next : wordsIn k (drop at s) ≡ v ∷ wordsIn j (drop end s)
+    values-next : wordsIn k (drop at s) ≡ v ∷ wordsIn j (drop end s)
     unfolding wordsIn
     values-next =
         ap (λ (m : ℕ). wordsIn m (drop at s)) p
         ∙ ap₂ (λ (v : ℕ) (r : List ℕ). v ∷ wordsIn j r) (ap valueOf word-here ∙ sym (d ∙ read-here .1)) rest-here
 
--- the first turn
-pub words-all : (k : ℕ) (s : List ℕ) → wordsOk k s ≡ wordsOk (k - 0) s
-words-all k s = ap (λ (m : ℕ). wordsOk m s) (sym (sub-zero k))
+-- ---- the loop of `read_words`: i words are read, up to index `at`
 
-pub values-all : (k : ℕ) (s : List ℕ) → placed (wordsIn k s) ≡ placed (wordsIn (k - 0) s)
-values-all k s = ap (λ (m : ℕ). placed (wordsIn m s)) (sym (sub-zero k))
+-- its invariant
+pub record Reading (s : List ℕ) (count : ℕ) (words : List ℕ) (at i : ℕ) : Type 0 where
+  pub some : i ≤ count
+  pub few : count ≤ 12
+  pub inside : at ≤ length s
+  pub rest : wordsOk count (drop 1 s) ≡ wordsOk (count - i) (drop at s)
+  pub held : placed (wordsIn count (drop 1 s)) ≡ sets words i (wordsIn (count - i) (drop at s))
 
--- the array after a turn
-pub placed-turn : (all words : List ℕ) (i v : ℕ) (now rest : List ℕ) → all ≡ sets words i now → now ≡ v ∷ rest → all ≡ sets (set words i v) (i + 1) rest
-placed-turn all words i v now rest h e = h ∙ ap (sets words i) e ∙ ap (λ (m : ℕ). sets (set words i v) m rest) (sym (add-one i))
+pub reading : (s : List ℕ) (count : ℕ) → count ≤ 12 → 1 ≤ length s → Reading s count (replicate 12 0) 1 0
+reading s count few l = record {
+  some = omega arith;
+  few = few;
+  inside = l;
+  rest = ap (λ (m : ℕ). wordsOk m (drop 1 s)) (sym (sub-zero count));
+  held = ap (λ (m : ℕ). placed (wordsIn m (drop 1 s))) (sym (sub-zero count));
+}
 
-pub words-more : (s : List ℕ) (at k : ℕ) → k ≡ 0 → at ≤ length s → (at ≡ length s → ⊥) → wordsOk k (drop at s) ≡ false
-unfolding wordsOk
-words-more s at k p l h = rw p (ne-eqb (length (drop at s)) 0 (λ e. h (omega (arith, length-drop at s))))
+-- what each step may use: the next turn's invariant, and what is returned
+pub record Turn (s : List ℕ) (count : ℕ) (words : List ℕ) (at i : ℕ) : Type 0 where
+  pub short : (n : Words) → n ≡ unscanned → i < count → length s ≤ at → n ≡ scanned count (drop 1 s)
+  pub apart : (n : Words) → n ≡ unscanned → i < count → at < length s → (getD s at 0 ≡ 32 → ⊥) → n ≡ scanned count (drop 1 s)
+  pub fits : (end : ℕ) → end ≡ at + 1 + length (upToSpace (drop (at + 1) s)) → at < length s → end ≤ length s
+  pub bad : (n : Words) → n ≡ unscanned → i < count → at < length s → (end v : ℕ) → end ≡ at + 1 + length (upToSpace (drop (at + 1) s))
+      → v ≡ numeralValue (take (end - (at + 1)) (drop (at + 1) s)) → largest < v → n ≡ scanned count (drop 1 s)
+  pub next : i < count → at < length s → getD s at 0 ≡ 32 → (end v : ℕ) → end ≡ at + 1 + length (upToSpace (drop (at + 1) s))
+      → v ≡ numeralValue (take (end - (at + 1)) (drop (at + 1) s)) → v ≤ largest → Reading s count (set words i v) end (i + 1)
+  pub more : (n : Words) → n ≡ unscanned → count ≤ i → (at ≡ length s → ⊥) → n ≡ scanned count (drop 1 s)
+  pub done : count ≤ i → at ≡ length s → record { ok = true; words = words } ≡ scanned count (drop 1 s)
 
-pub words-end : (s : List ℕ) (at k : ℕ) → k ≡ 0 → at ≡ length s → wordsOk k (drop at s) ≡ true
-unfolding wordsOk
-words-end s at k p e = rw p (eq-eqb (length (drop at s)) 0 (omega (arith, length-drop at s)))
+module _ (s : List ℕ) (count : ℕ) (words : List ℕ) (at i : ℕ) (w : Reading s count words at i) where
+  -- where the rest is no words, the line is none
+  scan-no : wordsOk (count - i) (drop at s) ≡ false → (n : Words) → n ≡ unscanned → n ≡ scanned count (drop 1 s)
+  unfolding scanned
+  scan-no e n d = d ∙ sym (cond-false _ _ (w .rest ∙ e))
 
-pub values-end : (s : List ℕ) (k : ℕ) → k ≡ 0 → wordsIn k s ≡ []
-unfolding wordsIn
-values-end s k p = rw p refl
+  fits : (end : ℕ) → end ≡ at + 1 + length (upToSpace (drop (at + 1) s)) → at < length s → end ≤ length s
+  fits end e l = omega (arith, word-short (drop (at + 1) s), length-drop (at + 1) s)
 
-pub scan-no : (k : ℕ) (s : List ℕ) → wordsOk k s ≡ false → unscanned ≡ scanned k s
-unfolding scanned
-scan-no k s e = sym (cond-false _ _ e)
+  no-more : count ≤ i → (at ≡ length s → ⊥) → wordsOk (count - i) (drop at s) ≡ false
+  unfolding wordsOk
+  no-more k h =
+      let z : count - i ≡ 0 = omega arith in
+      rw z (ne-eqb (length (drop at s)) 0 (λ e. h (omega (arith, length-drop at s, w .inside))))
 
-pub scan-yes : (k : ℕ) (s w : List ℕ) → wordsOk k s ≡ true → placed (wordsIn k s) ≡ w → record { ok = true; words = w } ≡ scanned k s
-unfolding scanned
-scan-yes k s w e d = sym (cond-true _ _ e ∙ ap (λ (x : List ℕ). record { ok = true; words = x }) d)
+  scan-yes : count ≤ i → at ≡ length s → record { ok = true; words = words } ≡ scanned count (drop 1 s)
+  unfolding scanned wordsOk wordsIn
+  scan-yes k e =
+      let z : count - i ≡ 0 = omega arith in
+      let all : wordsOk (count - i) (drop at s) ≡ true = rw z (eq-eqb (length (drop at s)) 0 (omega (arith, length-drop at s))) in
+      let none : wordsIn (count - i) (drop at s) ≡ [] = rw z refl in
+      sym (cond-true _ _ (w .rest ∙ all) ∙ ap (λ (x : List ℕ). record { ok = true; words = x }) (w .held ∙ ap (sets words i) none))
+
+  module _ (k : i < count) where
+    one : count - i ≡ suc (count - (i + 1))
+    one = omega arith
+
+    next : at < length s → getD s at 0 ≡ 32 → (end v : ℕ) → end ≡ at + 1 + length (upToSpace (drop (at + 1) s))
+        → v ≡ numeralValue (upToSpace (drop (at + 1) s)) → v ≤ largest → Reading s count (set words i v) end (i + 1)
+    next l q end v e d h = record {
+      some = omega arith;
+      few = w .few;
+      inside = fits end e l;
+      rest = w .rest ∙ words-next s at _ _ one l end v e d h q;
+      held = w .held ∙ ap (sets words i) (values-next s at _ _ one l end v e d h)
+          ∙ ap (λ (m : ℕ). sets (set words i v) m (wordsIn (count - (i + 1)) (drop end s))) (sym (add-one i));
+    }
+
+  pub turn : Turn s count words at i
+  turn = record {
+    short = λ n d k l. scan-no (words-short s at _ _ (one k) l) n d;
+    apart = λ n d k l h. scan-no (words-apart s at _ _ (one k) l h) n d;
+    fits = fits;
+    bad = λ n d k l end v e f h. scan-no (words-bad s at _ _ (one k) l (rw (f, part-word s (at + 1) end e) at h)) n d;
+    next = λ k l q end v e f h. next k l q end v e (f ∙ ap numeralValue (part-word s (at + 1) end e)) h;
+    more = λ n d k h. scan-no (no-more k h) n d;
+    done = scan-yes;
+  }
 
 -- ---- a line
 

@@ -13,8 +13,9 @@ use lib.Seq.{drop-drop, sets}
 use borrow.Author.Tests.{leb-true, eq-eqb, ne-eqb, not-true, not-false}
 use Rattle.transcript.specs.Grammar.{largest, allDigits, ledOk, valueOf, numeralOk, numeralValue, upToSpace, firstWord, afterWord, wordsOk}
 use Rattle.transcript.specs.Grammar.{wordsIn, placed, unscanned, scanned}
-use Rattle.transcript.specs.Commands.{wordCount, otherForm, commandFrom, commandOf}
+use Rattle.transcript.specs.Commands.{kindOf, wordCount, otherForm, commandFrom, commandOf}
 use Rattle.transcript.specs.declared.command.Words.{Words}
+use Rattle.transcript.specs.declared.command.Command.{Command}
 use Rattle.transcript.specs.declared.command.Kind.{Kind}
 use Rattle.transcript.specs.declared.command.Kind.the-variants.{Other, Open, Vertex, First, Timeout, NoVote}
 use Rattle.transcript.proofs.Booleans.{which, and-right, and-both, and-fails-left, and-fails-right, cond-true, cond-false}
@@ -207,17 +208,17 @@ module _ (s : List ℕ) (count : ℕ) (words : List ℕ) (at i : ℕ) (w : Readi
 
 -- ---- a line
 
-pub no-line : (line : List ℕ) → length line ≡ 0 → otherForm ≡ commandOf line
+pub no-line : (line : List ℕ) (o : Command) → o ≡ otherForm → length line ≡ 0 → o ≡ commandOf line
 unfolding commandFrom
-no-line [] e = refl
-no-line (b ∷ s) e = absurd (omega arith)
+no-line [] o d e = d
+no-line (b ∷ s) o d e = absurd (omega arith)
 
 module _ (kind : Kind) (s : List ℕ) where
-  pub no-kind : wordCount kind ≡ 0 → otherForm ≡ commandFrom kind s
+  no-kind : wordCount kind ≡ 0 → otherForm ≡ commandFrom kind s
   unfolding commandFrom
   no-kind e = sym (cond-false _ _ (and-fails-left _ (ap not (eq-eqb _ 0 e))))
 
-  pub no-command : (w : Words) → w ≡ scanned (wordCount kind) s → not (w .ok) ≡ true → otherForm ≡ commandFrom kind s
+  no-command : (w : Words) → w ≡ scanned (wordCount kind) s → not (w .ok) ≡ true → otherForm ≡ commandFrom kind s
   unfolding commandFrom scanned
   no-command w e h = go (which (wordsOk (wordCount kind) s))
     where
@@ -225,7 +226,7 @@ module _ (kind : Kind) (s : List ℕ) where
       go (inl d) = absurd (true≢false (sym (ap (λ (x : Words). x .ok) (e ∙ cond-true _ _ d)) ∙ not-true (w .ok) h))
       go (inr d) = sym (cond-false _ _ (and-fails-right (not (eqb (wordCount kind) 0)) d))
 
-  pub a-command : (w : Words) → w ≡ scanned (wordCount kind) s → (wordCount kind ≡ 0 → ⊥) → not (w .ok) ≡ false
+  a-command : (w : Words) → w ≡ scanned (wordCount kind) s → (wordCount kind ≡ 0 → ⊥) → not (w .ok) ≡ false
       → record { kind = kind; words = w .words } ≡ commandFrom kind s
   unfolding commandFrom scanned
   a-command w e n h = go (which (wordsOk (wordCount kind) s))
@@ -243,3 +244,22 @@ few-words Vertex = omega arith
 few-words First = omega arith
 few-words Timeout = omega arith
 few-words NoVote = omega arith
+
+-- what each step of `parse` may use of a line with a first byte
+pub record LineKnown (line : List ℕ) (kind : Kind) (count : ℕ) : Type 0 where
+  pub few : count ≤ 12
+  pub none : (o : Command) → o ≡ otherForm → count ≡ 0 → o ≡ commandOf line
+  pub bad : (o : Command) → o ≡ otherForm → (w : Words) → w ≡ scanned count (drop 1 line) → not (w .ok) ≡ true → o ≡ commandOf line
+  pub good : (count ≡ 0 → ⊥) → (w : Words) → w ≡ scanned count (drop 1 line) → not (w .ok) ≡ false
+      → record { kind = kind; words = w .words } ≡ commandOf line
+
+pub line-known : (line : List ℕ) (kind : Kind) (count : ℕ) → kind ≡ kindOf (getD line 0 0) → count ≡ wordCount kind → LineKnown line kind count
+line-known line kind count e d = record {
+  few = rw d (few-words kind);
+  none = λ o f z. f ∙ no-kind kind (drop 1 line) (sym d ∙ z) ∙ same;
+  bad = λ o f w g h. f ∙ no-command kind (drop 1 line) w (rw d at g) h ∙ same;
+  good = λ n w g h. a-command kind (drop 1 line) w (rw d at g) (λ z. n (d ∙ z)) h ∙ same;
+}
+  where
+    same : commandFrom kind (drop 1 line) ≡ commandOf line
+    same = ap (λ (k : Kind). commandFrom k (drop 1 line)) e

@@ -1,6 +1,6 @@
 -- Laws of numerals. Assumes nothing.
 use mathlib.Core.Path.{_≡_, refl, sym, ap, _∙_}
-use mathlib.Core.Bool.{true, false, not}
+use mathlib.Core.Bool.{Bool, true, false, not}
 use mathlib.Core.List.{List, [], _∷_}
 use Prim.Native.Nat.{ℕ, _+_, _-_, _*_, _≤_, _<_}
 use native.Mathlib.Numerals.{add-one}
@@ -10,7 +10,7 @@ use lib.ListN.{length, getD, drop, drop-of-length-le}
 use lib.Seq.{drop-cons}
 use borrow.Author.Tests.{le-leb, lt-leb, leb-true}
 use Rattle.transcript.specs.Grammar.{isDigit, allDigits, valueFrom, valueOf, ledOk, numeralOk, numeralValue, largest}
-use Rattle.transcript.proofs.Booleans.{and-left, and-right, and-both, and-fails-left, and-fails-right, cond-true, cond-false}
+use Rattle.transcript.proofs.Booleans.{and-left, and-right, and-both, and-fails-left, and-fails-right, cond-true, cond-false, passed, failed}
 
 -- ---- the start of a numeral
 
@@ -35,7 +35,7 @@ pub digit-low : (b : ℕ) → isDigit b ≡ true → 48 ≤ b
 unfolding isDigit
 digit-low b e = leb-true 48 b (and-left (leb 48 b) _ e)
 
-pub digit-high : (b : ℕ) → isDigit b ≡ true → b ≤ 57
+digit-high : (b : ℕ) → isDigit b ≡ true → b ≤ 57
 unfolding isDigit
 digit-high b e = leb-true b 57 (and-right (leb 48 b) _ e)
 
@@ -45,15 +45,15 @@ module _ (s : List ℕ) (i : ℕ) (l : i < length s) where
   pub split : drop i s ≡ getD s i 0 ∷ drop (i + 1) s
   split = rw (add-one i) (drop-cons s i 0 l)
 
-  pub digits-next : isDigit (getD s i 0) ≡ true → allDigits (drop i s) ≡ allDigits (drop (i + 1) s)
+  digits-next : isDigit (getD s i 0) ≡ true → allDigits (drop i s) ≡ allDigits (drop (i + 1) s)
   unfolding allDigits
   digits-next e = ap allDigits split ∙ rw e refl
 
-  pub digits-stop : isDigit (getD s i 0) ≡ false → allDigits (drop i s) ≡ false
+  digits-stop : isDigit (getD s i 0) ≡ false → allDigits (drop i s) ≡ false
   unfolding allDigits
   digits-stop e = ap allDigits split ∙ rw e refl
 
-  pub value-next : (v : ℕ) → valueFrom v (drop i s) ≡ valueFrom (v * 10 + (getD s i 0 - 48)) (drop (i + 1) s)
+  value-next : (v : ℕ) → valueFrom v (drop i s) ≡ valueFrom (v * 10 + (getD s i 0 - 48)) (drop (i + 1) s)
   unfolding valueFrom
   value-next v = ap (valueFrom v) split
 
@@ -63,37 +63,61 @@ unfolding valueFrom
 value-grows [] v = omega arith
 value-grows (b ∷ s) v = omega (arith, value-grows s (v * 10 + (b - 48)))
 
--- a turn of the loop of `numeral`, whose digit has the value w
-pub value-turn : (s : List ℕ) (i v w : ℕ) → i < length s → w ≡ getD s i 0 - 48 → valueOf s ≡ valueFrom v (drop i s)
-    → valueOf s ≡ valueFrom (v * 10 + w) (drop (i + 1) s)
-value-turn s i v w l e h = h ∙ value-next s i l v ∙ ap (λ (x : ℕ). valueFrom (v * 10 + x) (drop (i + 1) s)) (sym e)
-
-pub value-over : (s : List ℕ) (i v : ℕ) → valueOf s ≡ valueFrom v (drop i s) → largest < v → largest < valueOf s
-value-over s i v e h = omega (arith, value-grows (drop i s) v)
-
--- the loop's end
-pub value-end : (s : List ℕ) (i v : ℕ) → length s ≤ i → valueOf s ≡ valueFrom v (drop i s) → valueOf s ≡ v
-unfolding valueFrom
-value-end s i v l e = e ∙ ap (valueFrom v) (drop-of-length-le s l)
-
-pub digits-end : (s : List ℕ) (i : ℕ) → length s ≤ i → allDigits s ≡ allDigits (drop i s) → allDigits s ≡ true
-unfolding allDigits
-digits-end s i l e = e ∙ ap allDigits (drop-of-length-le s l)
-
 -- ---- what `numeral` answers
 
-pub not-led : (s : List ℕ) → ledOk s ≡ false → 4294967296 ≡ numeralValue s
+pub not-led : (s : List ℕ) (t : Bool) → t ≡ ledOk s → not t ≡ true → 4294967296 ≡ numeralValue s
 unfolding numeralValue numeralOk
-not-led s e = sym (cond-false (valueOf s) 4294967296 (and-fails-left _ e))
+not-led s t e h = sym (cond-false (valueOf s) 4294967296 (and-fails-left _ (failed e h)))
 
-pub not-digits : (s : List ℕ) → allDigits s ≡ false → 4294967296 ≡ numeralValue s
+not-digits : (s : List ℕ) → allDigits s ≡ false → 4294967296 ≡ numeralValue s
 unfolding numeralValue numeralOk
 not-digits s e = sym (cond-false (valueOf s) 4294967296 (and-fails-right (ledOk s) (and-fails-left _ e)))
 
-pub too-large : (s : List ℕ) → largest < valueOf s → 4294967296 ≡ numeralValue s
+too-large : (s : List ℕ) → largest < valueOf s → 4294967296 ≡ numeralValue s
 unfolding numeralValue numeralOk
 too-large s h = sym (cond-false (valueOf s) 4294967296 (and-fails-right (ledOk s) (and-fails-right (allDigits s) (lt-leb _ _ h))))
 
 pub a-numeral : (s : List ℕ) → ledOk s ≡ true → allDigits s ≡ true → valueOf s ≤ largest → valueOf s ≡ numeralValue s
 unfolding numeralValue numeralOk
 a-numeral s p q h = sym (cond-true (valueOf s) 4294967296 (and-both p (and-both q (le-leb _ _ h))))
+
+-- ---- the loop of `numeral`: i digits are read, of that value
+
+-- its invariant
+pub record Counting (s : List ℕ) (value i : ℕ) : Type 0 where
+  pub inside : i ≤ length s
+  pub small : value ≤ largest
+  pub digits : allDigits s ≡ allDigits (drop i s)
+  pub valued : valueOf s ≡ valueFrom value (drop i s)
+
+pub counting : (s : List ℕ) → Counting s 0 0
+counting s = record { inside = omega arith; small = omega arith; digits = refl; valued = refl }
+
+-- what is known of a byte that is a digit; w is the digit's value
+pub record DigitRead (s : List ℕ) (value i : ℕ) : Type 0 where
+  pub low : 48 ≤ getD s i 0
+  pub high : getD s i 0 ≤ 57
+  pub over : (w : ℕ) → w ≡ getD s i 0 - 48 → largest < value * 10 + w → 4294967296 ≡ numeralValue s
+  pub next : (w : ℕ) → w ≡ getD s i 0 - 48 → value * 10 + w ≤ largest → Counting s (value * 10 + w) (i + 1)
+
+module _ (s : List ℕ) (value i : ℕ) (c : Counting s value i) where
+  pub no-digit : i < length s → (t : Bool) → t ≡ isDigit (getD s i 0) → not t ≡ true → 4294967296 ≡ numeralValue s
+  no-digit l t e h = not-digits s (c .digits ∙ digits-stop s i l (failed e h))
+
+  pub digit-read : i < length s → (t : Bool) → t ≡ isDigit (getD s i 0) → not t ≡ false → DigitRead s value i
+  digit-read l t e h = record {
+    low = digit-low _ (passed e h);
+    high = digit-high _ (passed e h);
+    over = λ w d k. too-large s (omega (arith, value-turn w d, value-grows (drop (i + 1) s) (value * 10 + w)));
+    next = λ w d k. record { inside = omega arith; small = k; digits = c .digits ∙ digits-next s i l (passed e h); valued = value-turn w d };
+  }
+    where
+      value-turn : (w : ℕ) → w ≡ getD s i 0 - 48 → valueOf s ≡ valueFrom (value * 10 + w) (drop (i + 1) s)
+      value-turn w d = c .valued ∙ value-next s i l value ∙ rw d
+
+  pub counted : length s ≤ i → (t : Bool) → t ≡ ledOk s → not t ≡ false → value ≡ numeralValue s
+  unfolding valueFrom allDigits
+  counted l t e h =
+      let none = drop-of-length-le s l in
+      let v : valueOf s ≡ value = c .valued ∙ ap (valueFrom value) none in
+      sym v ∙ a-numeral s (passed e h) (c .digits ∙ ap allDigits none) (rw v (c .small))

@@ -4,7 +4,8 @@ use mathlib.Core.Bool.{true, false, false≢true}
 use mathlib.Core.List.{List}
 use Prim.Native.Nat.{ℕ}
 use Rattle.record.specs.Refusals.{numberOf}
-use Rattle.replica.specs.Outcome.{Outcome, told}
+use Rattle.record.specs.declared.refusal.Refusal.the-variants.{None}
+use Rattle.replica.specs.Outcome.{Outcome, told, refusedBy}
 use Rattle.replica.specs.Lists.{Head, headOf, statusOf}
 use Rattle.replica.specs.declared.answer.Answer.{Answer}
 use Rattle.replica.specs.declared.answer.Status.{Status}
@@ -45,3 +46,10 @@ call-reply command parsed state after a s n {bytes} {len} p e t d g h =
     ap₂ (λ (k : ℕ) (x : Head). answerText k (statusWords x)) (d ∙ ap (λ (x : Outcome). x .number) out) (g ∙ ap statusOf w)
     in
     (rw o (rw text at h), w)
+
+-- the call of a kind that a match has found
+pub none-made : (kind : Kind) (words state : List ℕ) (a : Answer) → kind ≡ Other → a ≡ refusedBy None → told a state ≡ callFor kind words state
+none-made kind words state a e d = rw (e, d)
+
+pub call-made : (kind this : Kind) (words state : List ℕ) (o : Outcome) → kind ≡ this → o ≡ callFor this words state → o ≡ callFor kind words state
+call-made kind this words state o e d = rw e d

@@ -53,24 +53,35 @@ pub journal-refused : (l : List ℕ) (k x : ℕ) → x ≡ numberOf (askJournal 
 journal-refused l k x e deny =
     (part-refused (askJournal l k) 232 k (journalCount l) x e deny, sym (journal-none l k (λ d. deny (e ∙ d))), omega arith)
 
-pub leaders-given : (l : List ℕ) (k : ℕ) → numberOf (askLeaders l k) ≡ 0
-    → Handed l (record { number = 0; start = 200 + k; length = leaderCount l - k }) (leadersPart l k) (handLeaders l k)
-leaders-given l k e =
-    let a = leaders-asked l k e in
-    let c = counts l (a .1) in (
-      part-given (askLeaders l k) 200 k (leaderCount l) e,
-      given-words l 200 k (leaderCount l) (a .2) (omega (arith, a .0, c .0))
-          ∙ sym (leaders-some l k e),
-      omega (arith, a .0, a .2, c .0),
-    )
+-- what is known of a list that is handed over: it stands from `at` on, and has so many words
+pub record HandKnown (l : List ℕ) (at k count : ℕ) (named : Part) (list : List ℕ) : Type 0 where
+  pub size : length l ≡ 5864
+  pub from : k ≤ count
+  pub few : count ≤ 512
+  pub given : Handed l (record { number = 0; start = at + k; length = count - k }) named list
 
-pub journal-given : (l : List ℕ) (k : ℕ) → numberOf (askJournal l k) ≡ 0
-    → Handed l (record { number = 0; start = 232 + k; length = journalCount l - k }) (journalPart l k) (handJournal l k)
-journal-given l k e =
+hand-known : (l : List ℕ) (at k count : ℕ) (why : Refusal) (list : List ℕ) → numberOf why ≡ 0 → length l ≡ 5864 → k ≤ count → count ≤ 512 → at ≤ 232
+    → list ≡ drop k (take count (drop at l)) → HandKnown l at k count (partIf why at k count) list
+hand-known l at k count why list e size from few low some = record {
+  size = size;
+  from = from;
+  few = few;
+  given = (part-given why at k count e, given-words l at k count from (omega arith) ∙ sym some, omega arith);
+}
+
+abbrev pub LeadersKnown : List ℕ → ℕ → Type 0
+LeadersKnown l k = HandKnown l 200 k (leaderCount l) (leadersPart l k) (handLeaders l k)
+
+pub leaders-known : (l : List ℕ) (k : ℕ) → numberOf (askLeaders l k) ≡ 0 → LeadersKnown l k
+leaders-known l k e =
+    let a = leaders-asked l k e in
+    let c = counts l (a .1) in
+    hand-known l 200 k (leaderCount l) (askLeaders l k) (handLeaders l k) e (a .0) (a .2) (omega (arith, c .0)) (omega arith) (leaders-some l k e)
+
+abbrev pub JournalKnown : List ℕ → ℕ → Type 0
+JournalKnown l k = HandKnown l 232 k (journalCount l) (journalPart l k) (handJournal l k)
+
+pub journal-known : (l : List ℕ) (k : ℕ) → numberOf (askJournal l k) ≡ 0 → JournalKnown l k
+journal-known l k e =
     let a = journal-asked l k e in
-    let c = counts l (a .1) in (
-      part-given (askJournal l k) 232 k (journalCount l) e,
-      given-words l 232 k (journalCount l) (a .2) (omega (arith, a .0, c .1))
-          ∙ sym (journal-some l k e),
-      omega (arith, a .0, a .2, c .1),
-    )
+    hand-known l 232 k (journalCount l) (askJournal l k) (handJournal l k) e (a .0) (a .2) (counts l (a .1) .1) (omega arith) (journal-some l k e)

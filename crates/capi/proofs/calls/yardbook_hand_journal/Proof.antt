@@ -1,60 +1,15 @@
-use mathlib.Core.Path.{_∙_, ap, sym}
-use native.Mathlib.Omega.{arith}
-use Rattle.record.specs.Refusals.{numberOf}
-use Rattle.replica.proofs.Calls.{journal-asked}
-use Rattle.replica.proofs.Clauses.{counts}
-use Rattle.capi.proofs.Laws.{journal-refused, journal-given}
+-- `yardbook_hand_journal` meets its contract. Assumes nothing.
+use Rattle.capi.proofs.Laws.{journal-refused, JournalKnown, journal-known}
 use borrow.Author.Needs.{needs}
 use Rattle.capi.proofs.calls.yardbook_hand_journal.Statement.{statement}
 use Rattle.capi.proofs.calls.yardbook_hand_journal.Tie as tie
-use Rattle.capi.proofs.calls.yardbook_hand_journal.Reads as reads
-use Rattle.capi.proofs.calls.yardbook_hand_journal.Lts as lts
-use Rattle.record.proofs.refusal.number.Reads as number-reads
-use Rattle.replica.proofs.lists.ask_journal.Reads as ask-journal-reads
+
+-- the list is handed over
+known : (c : tie.Else1) → let s : tie.Start = search in JournalKnown (s .args .state .now) (s .args .k)
+known c = journal-known _ _ (cc)
 
 returns : tie.Need-returns
-returns c =
-    let after-number : tie.After-number = search in
-    let after-ask-journal : tie.After-ask-journal = search in
-    let start : tie.Start = search in
-    journal-refused (start .args .state .now) (start .args .k) _ (after-number .number .ensures
-    ∙ ap numberOf (after-ask-journal .ask-journal .ensures)) (c .if1 .taken)
-
-add-t7 : tie.Need-add-t7
-add-t7 c =
-    let after-number : tie.After-number = search in
-    let after-ask-journal : tie.After-ask-journal = search in
-    let start : tie.Start = search in
-    let a = journal-asked (start .args .state .now) (start .args .k)
-    (sym (after-number .number .ensures ∙ ap numberOf (after-ask-journal .ask-journal .ensures))
-    ∙ c .if1 .left) in let n = counts (start .args .state .now) (a .1) in omega (arith, a .2, n .0, n .1)
-
-shared-slice-read-t9 : tie.Need-shared-slice-read-t9
-shared-slice-read-t9 c =
-    let else1 : tie.Else1 = search in
-    let after-number : tie.After-number = search in
-    let after-ask-journal : tie.After-ask-journal = search in
-    let start : tie.Start = search in
-    let a = journal-asked (start .args .state .now) (start .args .k)
-    (sym (after-number .number .ensures ∙ ap numberOf (after-ask-journal .ask-journal .ensures)) ∙ else1 .if1 .left) in omega (arith, a .0)
-
-sub-t10 : tie.Need-sub-t10
-sub-t10 c =
-    let else1 : tie.Else1 = search in
-    let after-number : tie.After-number = search in
-    let after-ask-journal : tie.After-ask-journal = search in
-    let start : tie.Start = search in
-    let a = journal-asked (start .args .state .now) (start .args .k)
-    (sym (after-number .number .ensures ∙ ap numberOf (after-ask-journal .ask-journal .ensures)) ∙ else1 .if1 .left) in omega (arith, a .2)
-
-returns-2 : tie.Need-returns-2
-returns-2 c =
-    let else1 : tie.Else1 = search in
-    let after-number : tie.After-number = search in
-    let after-ask-journal : tie.After-ask-journal = search in
-    let start : tie.Start = search in
-    journal-given (start .args .state .now) (start .args .k)
-    (sym (after-number .number .ensures ∙ ap numberOf (after-ask-journal .ask-journal .ensures)) ∙ else1 .if1 .left)
+returns c = let s : tie.Start = search in journal-refused (s .args .state .now) _ _ (cc) (c .if1 .taken)
 
 pub yardbook-hand-journal-spec : {M : Type 1} → statement M
 yardbook-hand-journal-spec =
@@ -64,7 +19,7 @@ yardbook-hand-journal-spec =
     (λ c κs. search needs)
     returns
     (λ c. search needs)
-    add-t7
-    shared-slice-read-t9
-    sub-t10
-    returns-2)
+    (λ c. let k = known (search) in search needs)
+    (λ c. let k = known (search) in search needs)
+    (λ c. let k = known (search) in search needs)
+    (λ c. known (search) .given))

@@ -16,11 +16,12 @@ use Rattle.ordering.specs.Calls.{addMember, hear}
 -- what is known where the source is heard and the words are m: its votes are marked next if it votes for the leader, and in round 1 no one votes
 pub record Marked (l : List ℕ) (r p n strong at : ℕ) (m : List ℕ) : Type 0 where
   pub small : leader n (r - 1) < 32
-  pub first : strong ≡ 0 → m ≡ hear l r p (strong ∷ [])
-  pub silent : has strong (leader n (r - 1)) ≡ false → m ≡ hear l r p (strong ∷ [])
-  pub voting : has strong (leader n (r - 1)) ≡ true → (o : List ℕ) → o ≡ addMember m (at + 2) p → o ≡ hear l r p (strong ∷ [])
+  pub first : r < 2 → m ≡ hear l r p (strong ∷ [])
+  pub silent : (x : ℕ) → x ≡ leader n (r - 1) → (t : Bool) → t ≡ has strong x → t ≡ false → m ≡ hear l r p (strong ∷ [])
+  pub voting : (x : ℕ) → x ≡ leader n (r - 1) → (t : Bool) → t ≡ has strong x → t ≡ true → (o : List ℕ) → o ≡ addMember m (at + 2) p
+      → o ≡ hear l r p (strong ∷ [])
 
-module _ (l : List ℕ) (r p n strong : ℕ) (e : n ≡ memberCount l) (high : r ≤ 32) (at : ℕ) (a : at ≡ masksAt r) (m : List ℕ)
+module _ (l : List ℕ) (r p n strong : ℕ) (e : n ≡ memberCount l) (low : 1 ≤ r) (high : r ≤ 32) (z : r ≡ 1 → strong ≡ 0) (at : ℕ) (a : at ≡ masksAt r) (m : List ℕ)
     (d : m ≡ addMember l (at + 1) p) where
   hear-silent : has strong (leader n (r - 1)) ≡ false → m ≡ hear l r p (strong ∷ [])
   unfolding hear strongOf
@@ -30,9 +31,9 @@ module _ (l : List ℕ) (r p n strong : ℕ) (e : n ≡ memberCount l) (high : r
   unfolding hear strongOf
   marked = record {
     small = leader-small n (r - 1) (omega arith);
-    first = λ z. hear-silent (rw (z, has-zero));
-    silent = hear-silent;
-    voting = λ h o f. rw (f, d, a, ← e, h);
+    first = λ k. hear-silent (rw (z (omega arith), has-zero));
+    silent = λ x q t g h. hear-silent (sym (rw q at g) ∙ h);
+    voting = λ x q t g h o f. let v : has strong (leader n (r - 1)) ≡ true = sym (rw q at g) ∙ h in rw (f, d, a, ← e, v);
   }
 
 -- the body of a record is heard as its strong mask is

@@ -16,7 +16,7 @@ use Rattle.record.specs.Layout.{strongOf, weakCountOf, weakOf}
 use Rattle.record.specs.Refusals.{numberOf}
 use Rattle.record.specs.Questions.{bodyRefusal}
 use Rattle.record.specs.Admitted.{Admitted}
-use Rattle.record.proofs.Booleans.{which, never, and-both, and-left, and-right, and-fails-left, and-fails-right}
+use Rattle.record.proofs.Booleans.{which, never, and-both, and-left, and-right, and-fails-left, and-fails-right, failed}
 use Rattle.record.proofs.Below.{any-false, least-none, least-at}
 use Rattle.record.proofs.Masks.{legal-range, has-bound}
 use Rattle.record.proofs.Turn.{admitted}
@@ -226,8 +226,8 @@ pub record Search (n r : ℕ) (l body : List ℕ) : Type 0 where
       → Looking n r l body found g end (j + 1)
   pub leave : (found g end j : ℕ) → Looking n r l body found g end j → end ≤ j → Searching n r l body found (g + 1)
   pub held : (found g : ℕ) → Searching n r l body found g → 2 ≤ g → found ≡ least idLimit (missing l r body)
-  pub lacking : (found g end j x : ℕ) → Looking n r l body found g end j → j < end → x ≡ parentAt r body g j → (x ≡ 0 → ⊥) → heldId l x ≡ false
-      → x ≡ least idLimit (missing l r body)
+  pub lacking : (found g end j x : ℕ) → Looking n r l body found g end j → j < end → x ≡ parentAt r body g j → (x ≡ 0 → ⊥) → (t : Bool) → t ≡ heldId l x
+      → not t ≡ true → x ≡ least idLimit (missing l r body)
 
 module _ (n r p : ℕ) (l body : List ℕ) (legit : legal n ≡ true) (ok : numberOf (bodyRefusal n r p body) ≡ 0) where
   admit : Admitted n r p body
@@ -259,8 +259,8 @@ module _ (n r p : ℕ) (l body : List ℕ) (legit : legal n ≡ true) (ok : numb
       passed = passed-more n r p l body legit admit b g j (w .group) (w .looked) (omega (arith, w .size));
     };
     held = λ found g w k. let z : g ≡ 2 = omega (arith, w .few) in w .none ∙ none-missing n r p l body legit admit b (rw z at (w .passed));
-    lacking = λ found g end j x w k e h f.
-        e ∙ first-found n r p l body legit admit b g j (w .group) (omega (arith, w .size)) (w .looked) (λ z. h (e ∙ z)) (rw e at f);
+    lacking = λ found g end j x w k e h t f q.
+        e ∙ first-found n r p l body legit admit b g j (w .group) (omega (arith, w .size)) (w .looked) (λ z. h (e ∙ z)) (rw e at (failed f q));
   }
 
   -- a record of round 1 has no parents

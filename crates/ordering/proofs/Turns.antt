@@ -135,9 +135,9 @@ unfolding parentsHeld
 missing-found l r body x e h = ap not (any-intro idLimit (missing l r body) (least idLimit (missing l r body)) (omega arith)
     (least-sat idLimit (missing l r body) (omega arith)))
 
-none-lacking : (l : List ℕ) (r : ℕ) (body : List ℕ) (x : ℕ) → x ≡ least idLimit (missing l r body) → 528 ≤ x → parentsHeld l r body ≡ true
+none-lacking : (l : List ℕ) (r : ℕ) (body : List ℕ) → 528 ≤ least idLimit (missing l r body) → parentsHeld l r body ≡ true
 unfolding parentsHeld
-none-lacking l r body x e h = ap not (any-false idLimit (missing l r body) (λ y k. least-off idLimit (missing l r body) y (omega arith)))
+none-lacking l r body h = ap not (any-false idLimit (missing l r body) (λ y k. least-off idLimit (missing l r body) y (omega arith)))
 
 -- ---- questions 12 to 14 of a vertex
 
@@ -149,7 +149,7 @@ pub record PlaceKnown (l : List ℕ) (n r p : ℕ) (body : List ℕ) : Type 0 wh
   pub other : has (heldMask l r) p ≡ true → sameBody l r p body ≡ false → Conflict ≡ firstNo (placeQuestions l r p body)
   pub lacking : (x : ℕ) → has (heldMask l r) p ≡ false → x ≡ least idLimit (missing l r body) → x < 528
       → MissingParent x ≡ firstNo (placeQuestions l r p body)
-  pub free : (x : ℕ) → has (heldMask l r) p ≡ false → x ≡ least idLimit (missing l r body) → 528 ≤ x → None ≡ firstNo (placeQuestions l r p body)
+  pub free : has (heldMask l r) p ≡ false → 528 ≤ least idLimit (missing l r body) → None ≡ firstNo (placeQuestions l r p body)
 
 pub place-known : (l : List ℕ) (n r p : ℕ) (body : List ℕ) → legal n ≡ true → numberOf (bodyRefusal n r p body) ≡ 0 → PlaceKnown l n r p body
 place-known l n r p body g e =
@@ -160,7 +160,7 @@ place-known l n r p body g e =
       same = λ h d. stop _ _ (ap not (and-both h d));
       other = λ h d. next _ _ (ap not (and-fails-right (has (heldMask l r) p) d)) (stop _ _ (ap not h));
       lacking = λ x h d k. ap MissingParent d ∙ new h (stop _ _ (missing-found l r body x d k));
-      free = λ x h d k. new h (next _ _ (none-lacking l r body x d k) done);
+      free = λ h k. new h (next _ _ (none-lacking l r body k) done);
     }
   where
     new : {s : Refusal} → has (heldMask l r) p ≡ false → s ≡ firstNo ((parentsHeld l r body, MissingParent (least idLimit (missing l r body))) ∷ [])

@@ -7,12 +7,6 @@ use Rattle.ordering.proofs.calls.check_place.Tie as tie
 known : (s : tie.Start) → PlaceKnown (s .args .state .now) (s .args .n) (s .args .round) (s .args .source) (s .args .body .now)
 known s = place-known _ _ _ _ _ (s .pre .1) (s .pre .2)
 
-returns-3 : tie.Need-returns-3
-returns-3 c = let m : tie.After-first-missing = search in known (search) .lacking _ (cc) (m .first-missing .ensures) (c .if3 .taken)
-
-returns-4 : tie.Need-returns-4
-returns-4 c = let m : tie.After-first-missing = search in known (search) .free _ (cc) (m .first-missing .ensures) (c .if3 .left)
-
 pub check-place-spec : {M : Type 1} → statement M
 check-place-spec =
     tie.close
@@ -23,5 +17,5 @@ check-place-spec =
     (λ c. known (search) .same (cc) (cc))
     (λ c. known (search) .other (cc) (cc))
     (λ c κs. search needs)
-    returns-3
-    returns-4)
+    (λ c. known (search) .lacking _ (cc) (search) (search))
+    (λ c. known (search) .free (cc) (search needs)))

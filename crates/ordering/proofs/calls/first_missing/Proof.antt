@@ -1,7 +1,7 @@
 -- `first_missing` meets its contract. The outer loop's invariant: nothing is found, and the parents of the groups below `group` are held.
 -- The inner loop's: and so are the first `j` of this group. Assumes nothing.
 use Rattle.ordering.proofs.Search.{Searching, Looking, Search, searched, first-round}
-use Rattle.record.proofs.Booleans.{passed, failed}
+use Rattle.record.proofs.Booleans.{passed}
 use mathlib.Core.Logic.{inl, inr, ⊎-elim}
 use Prim.Native.Nat.{_-_}
 use native.Mathlib.Omega.{arith}
@@ -43,14 +43,6 @@ loop-again c =
     known (search) .more _ _ _ _ _ (search) (search) (p .parent-at .ensures)
     (⊎-elim (λ v. inr (passed (v .1 .ensures) (v .2 .left))) (λ v. inl (v .left)) (c .if2 .came))
 
-returns-3 : tie.Need-returns-3 Inv-loop μ-loop Inv-search μ-search
-returns-3 c =
-    let t : tie.Then2 Inv-loop μ-loop Inv-search μ-search = search in
-    let p : tie.After-parent-at Inv-loop μ-loop Inv-search μ-search = search in
-    let h : tie.After-is-held Inv-loop μ-loop Inv-search μ-search = search in
-    let at : tie.At-loop Inv-loop μ-loop Inv-search μ-search = search in
-    known (search) .lacking _ _ _ _ _ (at .loop .inv) (search) (p .parent-at .ensures) (t .if2 .taken) (failed (h .is-held .ensures) (c .if3 .taken))
-
 pub first-missing-spec : {M : Type 1} → statement M
 first-missing-spec =
     tie.close
@@ -72,4 +64,4 @@ first-missing-spec =
     (λ c. search needs)
     (λ c. search (known (search) .leave))
     (λ c. search (known (search) .held))
-    returns-3)
+    (λ c. search (known (search) .lacking)))

@@ -221,7 +221,8 @@ pub record Search (n r : ℕ) (l body : List ℕ) : Type 0 where
   pub high : r ≤ 32
   pub start : Searching n r l body 528 0
   pub enter : (found g end : ℕ) → Searching n r l body found g → g < 2 → end ≡ groupSize n body g → Looking n r l body found g end 0
-  pub range : (found g end j : ℕ) → Looking n r l body found g end j → j < end → (j < 16) × (g ≡ 0 → j < 5)
+  pub member : (found g end j : ℕ) → Looking n r l body found g end j → j < end → j < 16
+  pub weak : (found g end j : ℕ) → Looking n r l body found g end j → j < end → g ≡ 0 → j < 5
   pub more : (found g end j x : ℕ) → Looking n r l body found g end j → j < end → x ≡ parentAt r body g j → (x ≡ 0) ⊎ (heldId l x ≡ true)
       → Looking n r l body found g end (j + 1)
   pub leave : (found g end j : ℕ) → Looking n r l body found g end j → end ≤ j → Searching n r l body found (g + 1)
@@ -245,7 +246,8 @@ module _ (n r p : ℕ) (l body : List ℕ) (legit : legal n ≡ true) (ok : numb
       low = omega arith;
       looked = looked-none n r p l body legit admit b g (w .passed);
     };
-    range = λ found g end j w k. look-range n r p l body legit admit b g j (w .group) (omega (arith, w .size));
+    member = λ found g end j w k. look-range n r p l body legit admit b g j (w .group) (omega (arith, w .size)) .0;
+    weak = λ found g end j w k. look-range n r p l body legit admit b g j (w .group) (omega (arith, w .size)) .1;
     more = λ found g end j x w k e h. record {
       group = w .group;
       none = w .none;

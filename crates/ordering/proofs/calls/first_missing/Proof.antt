@@ -4,7 +4,6 @@ use Rattle.ordering.proofs.Search.{Searching, Looking, Search, searched
 use Rattle.record.proofs.Booleans.{passed}
 use mathlib.Core.Logic.{inl, inr, ⊎-elim}
 use Prim.Native.Nat.{_-_}
-use native.Mathlib.Omega.{arith}
 use borrow.Author.Needs.{needs}
 use Rattle.ordering.proofs.calls.first_missing.Statement.{statement}
 use Rattle.ordering.proofs.calls.first_missing.Tie as tie
@@ -23,19 +22,7 @@ abbrev μ-search : tie.MeasureT-search
 
 known : (c : tie.Else1 Inv-loop μ-loop Inv-search μ-search) → let s : tie.Start Inv-loop μ-loop Inv-search μ-search = search in
     Search (s .args .n) (s .args .round) (s .args .state .now) (s .args .body .now)
-known c = let s : tie.Start Inv-loop μ-loop Inv-search μ-search = search in searched _ _ (s .args .source) _ _ (s .pre .1) (s .pre .2) (omega arith)
-
-returns : tie.Need-returns Inv-loop μ-loop Inv-search μ-search
-returns c =
-    let s : tie.Start Inv-loop μ-loop Inv-search μ-search = search in
-    first-round _ _ (s .args .source) _ _ (s .pre .1) (s .pre .2) (c .if1 .taken)
-
-parent-at-requires : tie.Need-parent-at-requires Inv-loop μ-loop Inv-search μ-search
-parent-at-requires c κs =
-    let k = known (search) in
-    let at : tie.At-loop Inv-loop μ-loop Inv-search μ-search = search in
-    let w = k .range _ _ _ _ (at .loop .inv) (search) in
-    search needs
+known c = search searched
 
 loop-again : tie.Need-loop-again Inv-loop μ-loop Inv-search μ-search
 loop-again c =
@@ -51,11 +38,11 @@ first-missing-spec =
     μ-loop
     Inv-search
     μ-search
-    returns
+    (λ c. search first-round)
     (λ c. let k = known (search) in search needs)
     (λ c κs. let k = known (search) in search needs)
     (λ c. search (known (search) .enter))
-    parent-at-requires
+    (λ c κs. let k = known (search) in search (needs, k .member, k .weak))
     (λ c κs. let s : tie.Start Inv-loop μ-loop Inv-search μ-search = search in search needs)
     (λ c. search needs)
     (λ c. search needs)

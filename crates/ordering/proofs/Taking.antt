@@ -165,8 +165,9 @@ pub record NoteTaken (i : ℕ) (after : List ℕ → List ℕ) (l : List ℕ) (r
       ≡ outcome (firstNo (noteQuestions l r p (getD l (masksAt r + i) 0))) l (after (addMember l (masksAt r + i) p))
 
 module _ (l : List ℕ) (r p mask : ℕ) (why : Refusal) (e : why ≡ firstNo (noteQuestions l r p mask)) where
-  pub note-refused : (numberOf why ≡ 0 → ⊥) → (a : Answer) → a ≡ refusedBy why → (m : List ℕ) → told a l ≡ outcome (firstNo (noteQuestions l r p mask)) l m
-  note-refused h a d m = told-refused l a why d ∙ outcome-refused why _ l m e h
+  pub note-refused : (x : ℕ) → x ≡ numberOf why → (x ≡ 0 → ⊥) → (a : Answer) → a ≡ refusedBy why → (m : List ℕ)
+      → told a l ≡ outcome (firstNo (noteQuestions l r p mask)) l m
+  note-refused x f h a d m = told-refused l a why d ∙ outcome-refused why _ l m e (λ z. h (f ∙ z))
 
 module _ (i : ℕ) (from : 3 ≤ i) (to : i < 5) (after : List ℕ → List ℕ) (calm : (m : List ℕ) → Calm m (after m)) (l : List ℕ) (r p : ℕ) (why : Refusal)
     (e : why ≡ firstNo (noteQuestions l r p (getD l (masksAt r + i) 0))) (h : numberOf why ≡ 0) where

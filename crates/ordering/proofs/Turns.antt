@@ -195,8 +195,8 @@ pub record NoteKnown (l : List ℕ) (r p mask : ℕ) : Type 0 where
   pub new : 1 ≤ r → r ≤ 32 → p < memberCount l → has mask p ≡ false → None ≡ firstNo (noteQuestions l r p mask)
 
 module _ (l : List ℕ) (r p mask : ℕ) (why : Refusal) (e : why ≡ firstNo (stateQuestions l)) where
-  pub note-state : (numberOf why ≡ 0 → ⊥) → why ≡ firstNo (noteQuestions l r p mask)
-  note-state h = e ∙ front-no (stateQuestions l) _ (λ d. h (ap numberOf e ∙ d))
+  pub note-state : (x : ℕ) → x ≡ numberOf why → (x ≡ 0 → ⊥) → why ≡ firstNo (noteQuestions l r p mask)
+  note-state x f h = e ∙ front-no (stateQuestions l) _ (λ d. h (f ∙ ap numberOf e ∙ d))
 
   past-note : (s : Refusal) → numberOf why ≡ 0
       → s ≡ firstNo ((roundOk r, Round) ∷ (ltb p (memberCount l), Source) ∷ (not (has mask p), Duplicate) ∷ [])

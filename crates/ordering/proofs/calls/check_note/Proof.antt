@@ -18,18 +18,13 @@ mask s = getD (words s) (masksAt (s .args .round) + s .args .kind) 0
 known : (c : tie.Else1) → let s : tie.Start = search in NoteKnown (words s) (s .args .round) (s .args .signer) (mask s)
 known c = let a : tie.After-check-state = search in note-known _ _ _ _ _ (a .check-state .ensures) (cc)
 
-returns : tie.Need-returns
-returns c =
-    let a : tie.After-check-state = search in
-    note-state (words (search)) _ _ _ _ (a .check-state .ensures) (λ d. c .if1 .taken (cc))
-
 pub check-note-spec : {M : Type 1} → statement M
 check-note-spec =
     tie.close
     (tie.spec
     (λ c κs. search needs)
     (λ c κs. search needs)
-    returns
+    (λ c. search note-state)
     (λ c. let k = known (search) in search needs)
     (λ c. known (search) .below (c .if2 .taken))
     (λ c. known (search) .above (c .if3 .taken))

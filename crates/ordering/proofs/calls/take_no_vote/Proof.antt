@@ -17,17 +17,11 @@ known c = let a : tie.After-check-note = search in no-vote-taken _ _ _ _ (a .che
 
 returns : tie.Need-returns
 unfolding takeNoVote
-returns c =
-    let a : tie.After-check-note = search in
-    let t : tie.Then1 = search in
-    note-refused (words (search)) _ _ _ _ (a .check-note .ensures) (λ d. t .if1 .taken (cc)) _ (c .refuse .ensures) _
+returns c = search note-refused
 
 returns-2 : tie.Need-returns-2
 unfolding takeNoVote
-returns-2 c =
-    let a : tie.After-masks-at = search in
-    let m : tie.After-add-member = search in
-    known (search) .done _ _ _ (a .masks-at .ensures) (m .add-member .ensures) refl
+returns-2 c = search (known (search) .done)
 
 pub take-no-vote-spec : {M : Type 1} → statement M
 take-no-vote-spec =

@@ -17,10 +17,7 @@ known c = let a : tie.After-check-note = search in timeout-taken _ _ _ _ (a .che
 
 returns : tie.Need-returns
 unfolding takeTimeout
-returns c =
-    let a : tie.After-check-note = search in
-    let t : tie.Then1 = search in
-    note-refused (words (search)) _ _ _ _ (a .check-note .ensures) (λ d. t .if1 .taken (cc)) _ (c .refuse .ensures) _
+returns c = search note-refused
 
 raise-round-requires : tie.Need-raise-round-requires
 raise-round-requires c κs =
@@ -31,11 +28,7 @@ raise-round-requires c κs =
 
 returns-2 : tie.Need-returns-2
 unfolding takeTimeout
-returns-2 c =
-    let a : tie.After-masks-at = search in
-    let m : tie.After-add-member = search in
-    let r : tie.After-raise-round = search in
-    known (search) .done _ _ _ (a .masks-at .ensures) (m .add-member .ensures) (r .raise-round .ensures)
+returns-2 c = search (known (search) .done)
 
 pub take-timeout-spec : {M : Type 1} → statement M
 take-timeout-spec =

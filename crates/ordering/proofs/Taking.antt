@@ -24,7 +24,7 @@ use Rattle.ordering.proofs.Turns.{outcome-refused, outcome-admitted, re
 use Rattle.ordering.proofs.Heard.{hear-body}
 use Rattle.ordering.proofs.Counts.{same-growth, no-growth}
 use Rattle.ordering.proofs.Writing.{Calm, calm-self, calm-then, raise-calm, put-calm, hear-calm, note-calm}
-use Rattle.ordering.proofs.Marks.{sound-put, sound-raise, sound-hear, sound-note}
+use Rattle.ordering.proofs.Marks.{sound-put, sound-raise, sound-hear}
 
 -- an answer with a refusal, where the words stay
 told-refused : (l : List ℕ) (a : Answer) (why : Refusal) → a ≡ refusedBy why → told a l ≡ told (refusedBy why) l
@@ -159,7 +159,8 @@ pub record NoteTaken (i : ℕ) (after : List ℕ → List ℕ) (l : List ℕ) (r
   pub low : 1 ≤ r
   pub high : r ≤ 32
   pub few : p < 16
-  pub joined : (at : ℕ) (m : List ℕ) → at ≡ masksAt r → m ≡ addMember l (at + i) p → Ready (memberCount l) m
+  pub some : 0 < memberCount l
+  pub members : (at : ℕ) (m : List ℕ) → at ≡ masksAt r → m ≡ addMember l (at + i) p → memberCount l ≡ memberCount m
   pub done : (at : ℕ) (m o : List ℕ) → at ≡ masksAt r → m ≡ addMember l (at + i) p → o ≡ after m
       → record { number = 0; id = 0; leaders = 0; journal = 0; words = o }
       ≡ outcome (firstNo (noteQuestions l r p (getD l (masksAt r + i) 0))) l (after (addMember l (masksAt r + i) p))
@@ -169,24 +170,25 @@ module _ (l : List ℕ) (r p mask : ℕ) (why : Refusal) (e : why ≡ firstNo (n
       → told a l ≡ outcome (firstNo (noteQuestions l r p mask)) l m
   note-refused x f h a d m = told-refused l a why d ∙ outcome-refused why _ l m e (λ z. h (f ∙ z))
 
-module _ (i : ℕ) (from : 3 ≤ i) (to : i < 5) (after : List ℕ → List ℕ) (calm : (m : List ℕ) → Calm m (after m)) (l : List ℕ) (r p : ℕ) (why : Refusal)
+module _ (i : ℕ) (to : i < 6) (after : List ℕ → List ℕ) (calm : (m : List ℕ) → Calm m (after m)) (l : List ℕ) (r p : ℕ) (why : Refusal)
     (e : why ≡ firstNo (noteQuestions l r p (getD l (masksAt r + i) 0))) (h : numberOf why ≡ 0) where
   note-taken : NoteTaken i after l r p
   note-taken =
       let w = note-passed l r p _ (sym (ap numberOf e) ∙ h) in
-      let C = note-calm l r i p (w .1) (w .2) (omega arith) in
+      let C = note-calm l r i p (w .1) (w .2) to in
       record {
         sound = w .0;
         low = w .1;
         high = w .2;
         few = omega (arith, w .3, w .0 .front .high);
-        joined = λ at m a d. rw (d, a) (ready _ _ (sound-note l (w .0) r p (w .1) (w .2) (w .3) i (omega arith) to (λ z. omega arith)) (calm-count C));
+        some = omega (arith, w .0 .front .low);
+        members = λ at m a d. rw (d, a) (calm-count C);
         done = λ at m o a d f. rw (f, d, a) (calm-still (calm-then C (calm _)) ∙ outcome-admitted why _ l _ e h);
       }
 
 module _ (l : List ℕ) (r p : ℕ) (why : Refusal) where
   pub timeout-taken : why ≡ firstNo (noteQuestions l r p (timeoutsMask l r)) → numberOf why ≡ 0 → NoteTaken 3 raiseRound l r p
-  timeout-taken = note-taken 3 (omega arith) (omega arith) raiseRound raise-calm l r p why
+  timeout-taken = note-taken 3 (omega arith) raiseRound raise-calm l r p why
 
   pub no-vote-taken : why ≡ firstNo (noteQuestions l r p (noVotesMask l r)) → numberOf why ≡ 0 → NoteTaken 4 (λ m. m) l r p
-  no-vote-taken = note-taken 4 (omega arith) (omega arith) (λ m. m) calm-self l r p why
+  no-vote-taken = note-taken 4 (omega arith) (λ m. m) calm-self l r p why

@@ -19,13 +19,6 @@ returns : tie.Need-returns
 unfolding takeTimeout
 returns c = search note-refused
 
-raise-round-requires : tie.Need-raise-round-requires
-raise-round-requires c κs =
-    let a : tie.After-masks-at = search in
-    let m : tie.After-add-member = search in
-    let ready = known (search) .joined _ _ (a .masks-at .ensures) (m .add-member .ensures) in
-    search needs
-
 returns-2 : tie.Need-returns-2
 unfolding takeTimeout
 returns-2 c = search (known (search) .done)
@@ -43,6 +36,6 @@ take-timeout-spec =
     (λ c κs. let k = known (search) in search needs)
     (λ c. search needs)
     (λ c κs. let k = known (search) in search needs)
-    raise-round-requires
+    (λ c κs. let k = known (search) in search (needs, k .members))
     (λ c. search needs)
     returns-2)

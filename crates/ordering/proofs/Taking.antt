@@ -171,9 +171,10 @@ module _ (l : List ℕ) (r p mask : ℕ) (why : Refusal) (e : why ≡ firstNo (n
   note-refused x f h a d m = told-refused l a why d ∙ outcome-refused why _ l m e (λ z. h (f ∙ z))
 
 module _ (i : ℕ) (to : i < 6) (after : List ℕ → List ℕ) (calm : (m : List ℕ) → Calm m (after m)) (l : List ℕ) (r p : ℕ) (why : Refusal)
-    (e : why ≡ firstNo (noteQuestions l r p (getD l (masksAt r + i) 0))) (h : numberOf why ≡ 0) where
+    (e : why ≡ firstNo (noteQuestions l r p (getD l (masksAt r + i) 0))) (x : ℕ) (f : x ≡ numberOf why) (z : x ≡ 0) where
   note-taken : NoteTaken i after l r p
   note-taken =
+      let h : numberOf why ≡ 0 = sym f ∙ z in
       let w = note-passed l r p _ (sym (ap numberOf e) ∙ h) in
       let C = note-calm l r i p (w .1) (w .2) to in
       record {
@@ -183,12 +184,12 @@ module _ (i : ℕ) (to : i < 6) (after : List ℕ → List ℕ) (calm : (m : Lis
         few = omega (arith, w .3, w .0 .front .high);
         some = omega (arith, w .0 .front .low);
         members = λ at m a d. rw (d, a) (calm-count C);
-        done = λ at m o a d f. rw (f, d, a) (calm-still (calm-then C (calm _)) ∙ outcome-admitted why _ l _ e h);
+        done = λ at m o a d g. rw (g, d, a) (calm-still (calm-then C (calm _)) ∙ outcome-admitted why _ l _ e h);
       }
 
 module _ (l : List ℕ) (r p : ℕ) (why : Refusal) where
-  pub timeout-taken : why ≡ firstNo (noteQuestions l r p (timeoutsMask l r)) → numberOf why ≡ 0 → NoteTaken 3 raiseRound l r p
+  pub timeout-taken : why ≡ firstNo (noteQuestions l r p (timeoutsMask l r)) → (x : ℕ) → x ≡ numberOf why → x ≡ 0 → NoteTaken 3 raiseRound l r p
   timeout-taken = note-taken 3 (omega arith) raiseRound raise-calm l r p why
 
-  pub no-vote-taken : why ≡ firstNo (noteQuestions l r p (noVotesMask l r)) → numberOf why ≡ 0 → NoteTaken 4 (λ m. m) l r p
+  pub no-vote-taken : why ≡ firstNo (noteQuestions l r p (noVotesMask l r)) → (x : ℕ) → x ≡ numberOf why → x ≡ 0 → NoteTaken 4 (λ m. m) l r p
   no-vote-taken = note-taken 4 (omega arith) (λ m. m) calm-self l r p why

@@ -203,7 +203,10 @@ module _ (l : List ℕ) (r p mask : ℕ) (why : Refusal) (e : why ≡ firstNo (s
       → s ≡ firstNo (noteQuestions l r p mask)
   past-note s h d = d ∙ front-yes (stateQuestions l) _ (state-numbered l) (sym (ap numberOf e) ∙ h)
 
-  module _ (h : numberOf why ≡ 0) where
+  module _ (x : ℕ) (f : x ≡ numberOf why) (z : x ≡ 0) where
+    h : numberOf why ≡ 0
+    h = sym f ∙ z
+
     round-no : roundOk r ≡ false → Round ≡ firstNo (noteQuestions l r p mask)
     round-no a = past-note Round h (stop _ _ a)
 

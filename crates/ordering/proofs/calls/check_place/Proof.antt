@@ -5,7 +5,7 @@ use Rattle.ordering.proofs.calls.check_place.Statement.{statement}
 use Rattle.ordering.proofs.calls.check_place.Tie as tie
 
 known : (s : tie.Start) → PlaceKnown (s .args .state .now) (s .args .n) (s .args .round) (s .args .source) (s .args .body .now)
-known s = place-known _ _ _ _ _ (s .pre .1) (s .pre .2)
+known s = search place-known
 
 pub check-place-spec : {M : Type 1} → statement M
 check-place-spec =

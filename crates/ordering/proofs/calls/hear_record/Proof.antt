@@ -7,10 +7,7 @@ use Rattle.ordering.proofs.calls.hear_record.Tie as tie
 -- the source is heard
 known : (c : tie.After-add-member) → let s : tie.Start = search in let a : tie.After-masks-at = search in
     Marked (s .args .state .now) (s .args .round) (s .args .source) (s .args .n) (s .args .strong) (a .masks-at .result) (c .add-member .last .0)
-known c =
-    let s : tie.Start = search in
-    let a : tie.After-masks-at = search in
-    marked _ _ _ _ _ (s .pre .1) (s .pre .4) (s .pre .5) (s .pre .7) _ (a .masks-at .ensures) _ (c .add-member .ensures)
+known c = search marked
 
 pub hear-record-spec : {M : Type 1} → statement M
 hear-record-spec =

@@ -1,19 +1,13 @@
 -- `take_no_vote` meets its contract. Assumes nothing.
 use Rattle.ordering.proofs.Taking.{note-refused, NoteTaken, no-vote-taken}
 use Rattle.ordering.specs.Calls.{takeNoVote}
-use mathlib.Core.Path.{refl}
-use mathlib.Core.List.{List}
-use Prim.Native.Nat.{ℕ}
 use borrow.Author.Needs.{needs}
 use Rattle.ordering.proofs.calls.take_no_vote.Statement.{statement}
 use Rattle.ordering.proofs.calls.take_no_vote.Tie as tie
 
-abbrev words : tie.Start → List ℕ
-words s = s .args .state .now
-
 -- no question stopped the note
-known : (c : tie.Else1) → let s : tie.Start = search in NoteTaken 4 (λ m. m) (words s) (s .args .round) (s .args .signer)
-known c = let a : tie.After-check-note = search in no-vote-taken _ _ _ _ (a .check-note .ensures) (cc)
+known : (c : tie.Else1) → let s : tie.Start = search in NoteTaken 4 (λ m. m) (s .args .state .now) (s .args .round) (s .args .signer)
+known c = search no-vote-taken
 
 returns : tie.Need-returns
 unfolding takeNoVote

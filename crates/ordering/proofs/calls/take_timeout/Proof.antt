@@ -2,18 +2,13 @@
 use Rattle.ordering.proofs.Taking.{note-refused, NoteTaken, timeout-taken}
 use Rattle.ordering.specs.Calls.{takeTimeout}
 use Rattle.commits.specs.Commit.{raiseRound}
-use mathlib.Core.List.{List}
-use Prim.Native.Nat.{ℕ}
 use borrow.Author.Needs.{needs}
 use Rattle.ordering.proofs.calls.take_timeout.Statement.{statement}
 use Rattle.ordering.proofs.calls.take_timeout.Tie as tie
 
-abbrev words : tie.Start → List ℕ
-words s = s .args .state .now
-
 -- no question stopped the note
-known : (c : tie.Else1) → let s : tie.Start = search in NoteTaken 3 raiseRound (words s) (s .args .round) (s .args .signer)
-known c = let a : tie.After-check-note = search in timeout-taken _ _ _ _ (a .check-note .ensures) (cc)
+known : (c : tie.Else1) → let s : tie.Start = search in NoteTaken 3 raiseRound (s .args .state .now) (s .args .round) (s .args .signer)
+known c = search timeout-taken
 
 returns : tie.Need-returns
 unfolding takeTimeout

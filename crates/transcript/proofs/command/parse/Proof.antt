@@ -6,7 +6,7 @@ use Rattle.transcript.proofs.command.parse.Tie as tie
 
 known : (c : tie.After-word-count) → let s : tie.Start = search in let k : tie.After-kind-of = search in
     LineKnown (s .args .line .now) (k .kind-of .result) (c .word-count .result)
-known c = let k : tie.After-kind-of = search in line-known _ _ _ (k .kind-of .ensures) (c .word-count .ensures)
+known c = search line-known
 
 pub parse-spec : {M : Type 1} → statement M
 parse-spec =

@@ -146,15 +146,15 @@ handing-journal l k e = let a = journal-asked l k e in handing l 232 k _ _ a (om
 
 -- ---- status
 
-pub head-refused : (l : List ℕ) (why : Refusal) → why ≡ firstNo (stateQuestions l) → (numberOf why ≡ 0 → ⊥)
+pub head-refused : (l : List ℕ) (why : Refusal) (m : ℕ) → why ≡ firstNo (stateQuestions l) → m ≡ numberOf why → (m ≡ 0 → ⊥)
     → headOf (record { refusal = why; «current_round» = 0; «committed_round» = 0; «leader_count» = 0; «journal_count» = 0 }) ≡ statusOf l
 unfolding headIf
-head-refused l why e deny = sym (cond-false _ _ (ne-eqb (numberOf why) 0 deny)) ∙ ap (λ (r : Refusal). headIf r l) e
+head-refused l why m e n deny = sym (cond-false _ _ (ne-eqb (numberOf why) 0 (λ d. deny (n ∙ d)))) ∙ ap (λ (r : Refusal). headIf r l) e
 
 abbrev headed : ℕ → List ℕ → Head
 headed x l = record { number = x; currentRound = currentRound l; committedRound = committedRound l; leaderCount = leaderCount l; journalCount = journalCount l }
 
-pub head-done : (l : List ℕ) (why : Refusal) → why ≡ firstNo (stateQuestions l) → numberOf why ≡ 0
+pub head-done : (l : List ℕ) (why : Refusal) (m : ℕ) → why ≡ firstNo (stateQuestions l) → m ≡ numberOf why → m ≡ 0
     → headOf
     (record {
       refusal = why;
@@ -164,5 +164,6 @@ pub head-done : (l : List ℕ) (why : Refusal) → why ≡ firstNo (stateQuestio
       «journal_count» = journalCount l;
     }) ≡ statusOf l
 unfolding headIf
-head-done l why e sure =
+head-done l why m e n z =
+    let sure : numberOf why ≡ 0 = cc in
     ap (λ (x : ℕ). headed x l) sure ∙ sym (cond-true _ _ (eq-eqb (numberOf why) 0 sure)) ∙ ap (λ (r : Refusal). headIf r l) e

@@ -14,21 +14,15 @@ words s = s .args .state .now
 known : (c : tie.Else1) → length (words (search)) ≡ 5864
 known c = state-ok (words (search)) (cc) .0
 
-returns : tie.Need-returns
-returns c = let a : tie.After-check-state = search in head-refused (words (search)) _ (a .check-state .ensures) (λ d. c .if1 .taken (cc))
-
-returns-2 : tie.Need-returns-2
-returns-2 c = let a : tie.After-check-state = search in head-done (words (search)) _ (a .check-state .ensures) (cc)
-
 pub status-spec : {M : Type 1} → statement M
 status-spec =
     tie.close
     (tie.spec
     (λ c κs. search needs)
     (λ c κs. search needs)
-    returns
+    (λ c. search (head-refused (words (search))))
     (λ c. let k = known (search) in search needs)
     (λ c. let k = known (search) in search needs)
     (λ c. let k = known (search) in search needs)
     (λ c. let k = known (search) in search needs)
-    returns-2)
+    (λ c. search (head-done (words (search)))))

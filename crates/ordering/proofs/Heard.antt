@@ -21,8 +21,8 @@ pub record Marked (l : List ℕ) (r p n strong at : ℕ) (m : List ℕ) : Type 0
   pub voting : (x : ℕ) → x ≡ leader n (r - 1) → (t : Bool) → t ≡ has strong x → t ≡ true → (o : List ℕ) → o ≡ addMember m (at + 2) p
       → o ≡ hear l r p (strong ∷ [])
 
-module _ (l : List ℕ) (r p n strong : ℕ) (e : n ≡ memberCount l) (low : 1 ≤ r) (high : r ≤ 32) (z : r ≡ 1 → strong ≡ 0) (at : ℕ) (a : at ≡ masksAt r) (m : List ℕ)
-    (d : m ≡ addMember l (at + 1) p) where
+module _ (l : List ℕ) (r p n strong : ℕ) (e : n ≡ memberCount l) (low : 1 ≤ r) (high : r ≤ 32) (z : r ≡ 1 → strong ≡ 0) (at : ℕ) (a : at ≡ masksAt r)
+    (m : List ℕ) (d : m ≡ addMember l (at + 1) p) where
   hear-silent : has strong (leader n (r - 1)) ≡ false → m ≡ hear l r p (strong ∷ [])
   unfolding hear strongOf
   hear-silent h = rw (d, a, ← e, h)

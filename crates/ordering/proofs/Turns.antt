@@ -204,19 +204,19 @@ module _ (l : List ℕ) (r p mask : ℕ) (why : Refusal) (e : why ≡ firstNo (s
   past-note s h d = d ∙ front-yes (stateQuestions l) _ (state-numbered l) (sym (ap numberOf e) ∙ h)
 
   module _ (x : ℕ) (f : x ≡ numberOf why) (z : x ≡ 0) where
-    h : numberOf why ≡ 0
-    h = sym f ∙ z
+    state-yes : numberOf why ≡ 0
+    state-yes = sym f ∙ z
 
     round-no : roundOk r ≡ false → Round ≡ firstNo (noteQuestions l r p mask)
-    round-no a = past-note Round h (stop _ _ a)
+    round-no a = past-note Round state-yes (stop _ _ a)
 
     round-yes : 1 ≤ r → r ≤ 32 → (s : Refusal) → s ≡ firstNo ((ltb p (memberCount l), Source) ∷ (not (has mask p), Duplicate) ∷ [])
         → s ≡ firstNo (noteQuestions l r p mask)
-    round-yes a b s d = past-note s h (next _ _ (round-in r a b) d)
+    round-yes a b s d = past-note s state-yes (next _ _ (round-in r a b) d)
 
     pub note-known : NoteKnown l r p mask
     note-known =
-        let s = state-ok l (sym (ap numberOf e) ∙ h) in
+        let s = state-ok l (sym (ap numberOf e) ∙ state-yes) in
         record {
           size = s .0;
           high = sound l (s .0) (s .1) .front .high;

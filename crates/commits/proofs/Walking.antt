@@ -7,6 +7,7 @@ use Prim.Native.Nat.{ℕ, zero, suc, _+_, _-_, _^_, _≤_, _<_}
 use native.Mathlib.Nat.{eq-or-lt-of-le, le-of-suc-le-suc, not-suc-le-zero}
 use native.Mathlib.Numerals.{add-one, sub-one}
 use native.Mathlib.Omega.{arith}
+use lib.Bits.{bitOr}
 use borrow.Author.Tests.{eq-eqb, ne-eqb}
 use Rattle.record.specs.Below.{select}
 use Rattle.record.specs.Members.{leader, has, add}
@@ -145,19 +146,21 @@ module _ (n : ℕ) (pos : 0 < n) (v : Records) (W : WellFormed n v) (low q : ℕ
 -- what each step of the code may use of the state that it walks
 pub record Walk (l : List ℕ) (n low q : ℕ) : Type 0 where
   pub begun : (taken reached : ℕ) → taken ≡ 2 ^ q → reached ≡ 2 ^ leader n q → Walked n (vertices l) low q (q - 1) taken reached
-  pub took : (t taken reached below : ℕ) → low < t → Walked n (vertices l) low q t taken reached → below ≡ parents (vertices l) (t + 1) reached n
-      → has below (leader n t) ≡ true → (taken′ reached′ : ℕ) → taken′ ≡ add taken t → reached′ ≡ 2 ^ leader n t
+  pub took : (t taken reached below p x y : ℕ) (b : Bool) → low < t → Walked n (vertices l) low q t taken reached → below ≡ parents (vertices l) (t + 1) reached n
+      → p ≡ leader n t → b ≡ has below p → b ≡ true → x ≡ 2 ^ t → y ≡ 2 ^ p → (taken′ reached′ : ℕ) → taken′ ≡ bitOr taken x → reached′ ≡ y
       → Walked n (vertices l) low q (t - 1) taken′ reached′
-  pub passed : (t taken reached below : ℕ) → low < t → Walked n (vertices l) low q t taken reached → below ≡ parents (vertices l) (t + 1) reached n
-      → has below (leader n t) ≡ false → (taken′ reached′ : ℕ) → taken′ ≡ taken → reached′ ≡ below
+  pub passed : (t taken reached below p : ℕ) (b : Bool) → low < t → Walked n (vertices l) low q t taken reached → below ≡ parents (vertices l) (t + 1) reached n
+      → p ≡ leader n t → b ≡ has below p → b ≡ false → (taken′ reached′ : ℕ) → taken′ ≡ taken → reached′ ≡ below
       → Walked n (vertices l) low q (t - 1) taken′ reached′
   pub done : (t taken reached : ℕ) → t ≤ low → Walked n (vertices l) low q t taken reached → select 32 (has taken) ≡ chain n (vertices l) low q
 
 pub walk-known : (l : List ℕ) (n low q : ℕ) → Standing l → n ≡ memberCount l → low < q → q ≤ 31 → held (vertices l) q (leader n q) ≡ true → Walk l n low q
 walk-known l n low q S e above high there = record {
   begun = λ taken reached a b. rw (a, b) (start n pos (vertices l) W low q high above there);
-  took = λ t taken reached below k w d h taken′ reached′ a b. rw (a, b) (take-leader n pos (vertices l) W low q high t taken reached below k w d h);
-  passed = λ t taken reached below k w d h taken′ reached′ a b. rw (a, b) (pass-leader n pos (vertices l) W low q high t taken reached below k w d h);
+  took = λ t taken reached below p x y b k w d f h z ex ey taken′ reached′ e₁ e₂.
+      rw (e₁, e₂, ex, ey, f) (take-leader n pos (vertices l) W low q high t taken reached below k w d (sym (rw f at h) ∙ z));
+  passed = λ t taken reached below p b k w d f h z taken′ reached′ e₁ e₂.
+      rw (e₁, e₂) (pass-leader n pos (vertices l) W low q high t taken reached below k w d (sym (rw f at h) ∙ z));
   done = finish n pos (vertices l) W low q high;
 }
   where

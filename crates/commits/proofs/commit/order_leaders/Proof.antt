@@ -1,6 +1,6 @@
 -- The loop's invariant: the histories of the leaders taken of the rounds below r are ordered. The measure is how many rounds are left.
 use Rattle.commits.proofs.Committing.{Ordering, ordering-start, ordering-in, ordering-out}
-use mathlib.Core.Path.{_≡_, _∙_}
+use mathlib.Core.Path.{_≡_, sym, _∙_}
 use mathlib.Core.Logic.{⊎-elim}
 use Prim.Native.Nat.{_≤_, _-_}
 use native.Mathlib.Omega.{arith}
@@ -28,12 +28,13 @@ order-leader-requires c κs =
 
 loop-again : tie.Need-loop-again Inv-loop μ-loop
 loop-again c =
-    let a : tie.At-loop Inv-loop μ-loop = search in (
+    let a : tie.At-loop Inv-loop μ-loop = search in
+    let h : tie.After-has Inv-loop μ-loop = search in (
       omega arith,
       omega arith,
       ⊎-elim
-          (λ w. ordering-in _ _ _ _ _ _ (a .loop .inv .2) (omega arith) (cc) (w .5 ∙ w .2 .ensures))
-          (λ w. ordering-out _ _ _ _ _ _ (a .loop .inv .2) (cc) (w .1))
+          (λ w. ordering-in _ _ _ _ _ _ (a .loop .inv .2) (omega arith) (sym (h .has .ensures) ∙ w .0 .taken) (w .5 ∙ w .2 .ensures))
+          (λ w. ordering-out _ _ _ _ _ _ (a .loop .inv .2) (sym (h .has .ensures) ∙ w .0 .left) (w .1))
           (c .if1 .came),
     )
 

@@ -37,7 +37,7 @@ returns-2 : tie.Need-returns-2 Inv-loop μ-loop
 returns-2 c =
     let a : tie.At-loop Inv-loop μ-loop = search in
     let e : a .loop .p ≡ 16 = omega arith in
-    cc
+    rw e at (a .loop .inv .1)
 
 pub order-round-spec : {M : Type 1} → statement M
 order-round-spec =

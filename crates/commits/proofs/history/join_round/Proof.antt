@@ -2,7 +2,7 @@
 use Rattle.commits.proofs.Laws.{join-round-none, join-round-in, join-round-out}
 use Rattle.protocol.specs.Masks.{joinRound}
 use Rattle.replica.specs.State.{vertices}
-use mathlib.Core.Path.{_≡_, _∙_}
+use mathlib.Core.Path.{_≡_, sym, _∙_}
 use mathlib.Core.Logic.{⊎-elim}
 use Prim.Native.Nat.{_≤_, _-_}
 use native.Mathlib.Omega.{arith}
@@ -19,11 +19,12 @@ abbrev μ-loop : tie.MeasureT-loop
 loop-again : tie.Need-loop-again Inv-loop μ-loop
 loop-again c =
     let a : tie.At-loop Inv-loop μ-loop = search in
-    let w : tie.After-wide Inv-loop μ-loop = search in (
+    let w : tie.After-wide Inv-loop μ-loop = search in
+    let h : tie.After-has Inv-loop μ-loop = search in (
       omega arith,
       ⊎-elim
-          (λ t. join-round-in _ _ _ _ _ _ _ (a .loop .inv .1) (w .wide .ensures) (cc) (t .3 ∙ t .2 .ensures))
-          (λ t. join-round-out _ _ _ _ _ _ _ (a .loop .inv .1) (w .wide .ensures) (cc) (t .1))
+          (λ t. join-round-in _ _ _ _ _ _ _ (a .loop .inv .1) (w .wide .ensures) (sym (h .has .ensures) ∙ t .0 .taken) (t .3 ∙ t .2 .ensures))
+          (λ t. join-round-out _ _ _ _ _ _ _ (a .loop .inv .1) (w .wide .ensures) (sym (h .has .ensures) ∙ t .0 .left) (t .1))
           (c .if1 .came),
     )
 
@@ -32,7 +33,7 @@ returns c =
     let s : tie.Start Inv-loop μ-loop = search in
     let a : tie.At-loop Inv-loop μ-loop = search in
     let e : a .loop .p ≡ s .args .n = omega arith in
-    cc
+    rw e at (a .loop .inv .1)
 
 pub join-round-spec : {M : Type 1} → statement M
 join-round-spec =

@@ -2,7 +2,7 @@
 use Rattle.commits.proofs.Laws.{cell-known, parents-none, parents-in, parents-out}
 use Rattle.protocol.specs.Masks.{parents}
 use Rattle.replica.specs.State.{vertices}
-use mathlib.Core.Path.{_≡_}
+use mathlib.Core.Path.{_≡_, sym, _∙_}
 use mathlib.Core.Logic.{⊎-elim}
 use Prim.Native.Nat.{_≤_, _-_}
 use native.Mathlib.Omega.{arith}
@@ -19,12 +19,13 @@ abbrev μ-loop : tie.MeasureT-loop
 loop-again : tie.Need-loop-again Inv-loop μ-loop
 loop-again c =
     let s : tie.Start Inv-loop μ-loop = search in
-    let a : tie.At-loop Inv-loop μ-loop = search in (
+    let a : tie.At-loop Inv-loop μ-loop = search in
+    let h : tie.After-has Inv-loop μ-loop = search in (
       omega arith,
       ⊎-elim
           (λ w. let k = cell-known _ (s .pre .0) _ _ _ (s .pre .2) (s .pre .3) (omega (arith, s .pre .0 .high)) (w .1 .ensures) in
-          parents-in _ _ _ _ _ _ _ k (a .loop .inv .1) (cc) (w .3))
-          (λ w. parents-out _ _ _ _ _ _ (a .loop .inv .1) (cc) (w .1))
+          parents-in _ _ _ _ _ _ _ k (a .loop .inv .1) (sym (h .has .ensures) ∙ w .0 .taken) (w .3))
+          (λ w. parents-out _ _ _ _ _ _ (a .loop .inv .1) (sym (h .has .ensures) ∙ w .0 .left) (w .1))
           (c .if1 .came),
     )
 
@@ -33,7 +34,7 @@ returns c =
     let s : tie.Start Inv-loop μ-loop = search in
     let a : tie.At-loop Inv-loop μ-loop = search in
     let e : a .loop .p ≡ s .args .n = omega arith in
-    cc
+    rw e at (a .loop .inv .1)
 
 pub parents-of-spec : {M : Type 1} → statement M
 parents-of-spec =

@@ -1,5 +1,5 @@
 -- The journal's growth by one leader's history, an id at a time. Assumes nothing.
-use mathlib.Core.Path.{_≡_, refl, sym, ap, _∙_, subst}
+use mathlib.Core.Path.{_≡_, refl, sym, ap, ap₂, _∙_, subst}
 use mathlib.Core.Bool.{Bool, true, false, not, _&&_, or-false}
 use mathlib.Core.Logic.{_⊎_, inl, inr, ⊎-elim}
 use mathlib.Core.List.{List}
@@ -195,15 +195,16 @@ module _ (n : ℕ) (l : List ℕ) (S : Standing l) (R : Room l) (e : n ≡ membe
 pub record Growth (n : ℕ) (l : List ℕ) (r : ℕ) : Type 0 where
   pub begun : l ≡ soFarIn n l r 16
   pub kept : (s : ℕ) (m : List ℕ) → m ≡ soFarIn n l r (16 * (s + 1)) → Roomy m
-  pub more : (s : ℕ) (m o : List ℕ) (mask : ℕ) → s < 32 → m ≡ soFarIn n l r (16 * (s + 1))
-      → mask ≡ getD (historyMasks n (vertices l) r (leader n r)) s 0 → o ≡ orderRound m mask (s + 1) 16 → o ≡ soFarIn n l r (16 * (s + 1 + 1))
+  pub more : (s k p : ℕ) (m o masks : List ℕ) → s < 32 → m ≡ soFarIn n l r (16 * (s + 1)) → p ≡ leader n r → masks ≡ historyMasks n (vertices l) r p
+      → k ≡ s → o ≡ orderRound m (getD masks k 0) (s + 1) 16 → o ≡ soFarIn n l r (16 * (s + 1 + 1))
   pub done : (m : List ℕ) → m ≡ soFarIn n l r (16 * (r + 1)) → m ≡ orderLeader (vertices l) l r
 
 pub growth : (n : ℕ) (l : List ℕ) (r : ℕ) → Standing l → Room l → n ≡ memberCount l → r ≤ 31 → held (vertices l) r (leader n r) ≡ true → Growth n l r
 growth n l r S R e high there = record {
   begun = start n l S R e r there;
   kept = λ s m d. let y = 16 * (s + 1) in rw d (so-far-alike n l S R e r there y .size ∙ S .size, so-far-room n l S R e r there y);
-  more = λ s m o mask h d k f. f ∙ round-step n l S R e r there s m mask h d k;
+  more = λ s k p m o masks h d ep em ek f.
+      f ∙ round-step n l S R e r there s m (getD masks k 0) h d (ap₂ (λ (x : List ℕ) (i : ℕ). getD x i 0) (rw ep at em) ek);
   done = λ m d. d ∙ last-round n l S R e r there (omega arith);
 }
 

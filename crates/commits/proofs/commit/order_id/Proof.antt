@@ -1,15 +1,20 @@
 -- An id that is not ordered finds room in the journal.
 use Rattle.commits.proofs.Steps.{order-out, order-old, order-new, room-for}
 use Rattle.record.proofs.Booleans.{passed, failed}
-use mathlib.Core.Path.{_∙_}
+use Rattle.replica.specs.State.{orderedId}
+use mathlib.Core.Path.{_≡_, sym, _∙_}
+use mathlib.Core.Bool.{false}
 use borrow.Author.Needs.{needs}
 use Rattle.commits.proofs.commit.order_id.Statement.{statement}
 use Rattle.commits.proofs.commit.order_id.Tie as tie
 
+fresh : (c : tie.Else2) → let s : tie.Start = search in orderedId (s .args .state .now) (s .args .id) ≡ false
+fresh c = let o : tie.After-is-ordered = search in sym (o .is-ordered .ensures) ∙ c .if2 .left
+
 enter-id-requires : tie.Need-enter-id-requires
 enter-id-requires c κs =
     let s : tie.Start = search in
-    let space = room-for (s .args .state .now) (s .args .id) (s .pre .3) (s .pre .1) (s .pre .2) (cc) in
+    let space = room-for (s .args .state .now) (s .args .id) (s .pre .3) (s .pre .1) (s .pre .2) (fresh (search)) in
     search needs
 
 returns-3 : tie.Need-returns-3
@@ -17,7 +22,7 @@ returns-3 c =
     let h : tie.After-has = search in
     let e : tie.Else1 = search in
     let o : tie.After-enter-id = search in
-    o .enter-id .ensures ∙ order-new _ _ _ (passed (h .has .ensures) (e .if1 .left)) (cc)
+    o .enter-id .ensures ∙ order-new _ _ _ (passed (h .has .ensures) (e .if1 .left)) (fresh (search))
 
 pub order-id-spec : {M : Type 1} → statement M
 order-id-spec =
@@ -27,7 +32,7 @@ order-id-spec =
     (λ c. let h : tie.After-has = search in order-out _ _ _ (failed (h .has .ensures) (c .if1 .taken)))
     (λ c κs. search needs)
     (λ c. search needs)
-    (λ c. order-old _ _ _ (cc))
+    (λ c. let o : tie.After-is-ordered = search in order-old _ _ _ (sym (o .is-ordered .ensures) ∙ c .if2 .taken))
     enter-id-requires
     (λ c. search needs)
     returns-3)

@@ -28,15 +28,21 @@ roomy c = known (search) .kept _ _ (c .loop .inv .1)
 loop-again : tie.Need-loop-again Inv-loop μ-loop
 loop-again c =
     let a : tie.At-loop Inv-loop μ-loop = search in
-    let o : tie.After-order-round Inv-loop μ-loop = search in
-    (omega arith, known (search) .more _ _ _ _ (omega arith) (a .loop .inv .1) (cc) (o .order-round .ensures))
+    let p : tie.After-leader-of Inv-loop μ-loop = search in
+    let h : tie.After-history-of Inv-loop μ-loop = search in
+    let w : tie.After-wide Inv-loop μ-loop = search in
+    let o : tie.After-order-round Inv-loop μ-loop = search in (
+      omega arith,
+      known (search) .more _ _ _ _ _ _ (omega arith) (a .loop .inv .1) (p .leader-of .ensures) (h .history-of .ensures) (w .wide .ensures)
+          (o .order-round .ensures),
+    )
 
 returns : tie.Need-returns Inv-loop μ-loop
 returns c =
     let s : tie.Start Inv-loop μ-loop = search in
     let a : tie.At-loop Inv-loop μ-loop = search in
     let e : a .loop .r ≡ s .args .round = omega arith in
-    known (search) .done _ (cc)
+    known (search) .done _ (rw e at (a .loop .inv .1))
 
 pub order-leader-spec : {M : Type 1} → statement M
 order-leader-spec =

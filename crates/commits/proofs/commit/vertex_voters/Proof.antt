@@ -29,11 +29,14 @@ known c =
 loop-again : tie.Need-loop-again Inv-loop μ-loop
 loop-again c =
     let a : tie.At-loop Inv-loop μ-loop = search in
-    let k = known (search) in (
+    let s : tie.Start Inv-loop μ-loop = search in
+    let h : tie.After-has Inv-loop μ-loop = search in
+    let k = known (search) in
+    let e = sym (rw (s .pre .3) at (h .has .ensures)) in (
       omega arith,
       ⊎-elim
-          (λ w. voter-in _ _ _ _ _ k _ _ (a .loop .inv .1) (cc) (w .2 ∙ w .1 .ensures))
-          (λ w. voter-out _ _ _ _ _ k _ _ (a .loop .inv .1) (cc) (w .1))
+          (λ w. voter-in _ _ _ _ _ k _ _ (a .loop .inv .1) (e ∙ w .0 .taken) (w .2 ∙ w .1 .ensures))
+          (λ w. voter-out _ _ _ _ _ k _ _ (a .loop .inv .1) (e ∙ w .0 .left) (w .1))
           (c .if1 .came),
     )
 

@@ -4,7 +4,7 @@ use Rattle.replica.specs.State.{heldMask}
 use Rattle.record.specs.Members.{leader, has, meets}
 use Rattle.record.proofs.Booleans.{passed, failed}
 use Rattle.record.proofs.Masks.{leader-small}
-use mathlib.Core.Path.{_≡_, _∙_}
+use mathlib.Core.Path.{_≡_, sym, _∙_}
 use Prim.Native.Nat.{ℕ}
 use native.Mathlib.Omega.{arith}
 use borrow.Author.Needs.{needs}
@@ -15,10 +15,13 @@ abbrev held : tie.Start → ℕ
 held s = heldMask (s .args .state .now) (s .args .round)
 
 many : (c : tie.After-meets-quorum) → let s : tie.Start = search in c .meets-quorum .result ≡ meets (s .args .n) (held s)
-many c = cc
+many c = let m : tie.After-held-mask = search in rw (m .held-mask .ensures) at (c .meets-quorum .ensures)
 
 led : (c : tie.After-has) → let s : tie.Start = search in c .has .result ≡ has (held s) (leader (s .args .n) (s .args .round))
-led c = cc
+led c =
+    let m : tie.After-held-mask = search in
+    let p : tie.After-leader-of = search in
+    rw (m .held-mask .ensures, p .leader-of .ensures) at (c .has .ensures)
 
 returns : tie.Need-returns
 returns c = let s : tie.Start = search in passable-few _ _ _ (s .pre .1) (failed (many (search)) (c .if1 .taken))
@@ -30,17 +33,16 @@ returns-2 : tie.Need-returns-2
 returns-2 c =
     let s : tie.Start = search in
     let e : tie.Else1 = search in
-    let h = led (search) in
-    passable-led _ _ _ (s .pre .1) (passed (many (search)) (e .if1 .left)) (cc)
+    passable-led _ _ _ (s .pre .1) (passed (many (search)) (e .if1 .left)) (sym (led (search)) ∙ c .if2 .taken)
 
 returns-3 : tie.Need-returns-3
 returns-3 c =
     let s : tie.Start = search in
     let e : tie.Else1 = search in
     let t : tie.After-timeouts-mask = search in
-    let h = led (search) in
+    let d : tie.Else2 = search in
     rw (t .timeouts-mask .ensures) at (c .meets-quorum2 .ensures)
-    ∙ passable-late _ _ _ (s .pre .1) (passed (many (search)) (e .if1 .left)) (cc)
+    ∙ passable-late _ _ _ (s .pre .1) (passed (many (search)) (e .if1 .left)) (sym (led (search)) ∙ d .if2 .left)
 
 pub is-passable-spec : {M : Type 1} → statement M
 is-passable-spec =

@@ -146,7 +146,8 @@ module _ (n : ℕ) (pos : 0 < n) (v : Records) (W : WellFormed n v) (low q : ℕ
 -- what each step of the code may use of the state that it walks
 pub record Walk (l : List ℕ) (n low q : ℕ) : Type 0 where
   pub begun : (taken reached : ℕ) → taken ≡ 2 ^ q → reached ≡ 2 ^ leader n q → Walked n (vertices l) low q (q - 1) taken reached
-  pub took : (t taken reached below p x y : ℕ) (b : Bool) → low < t → Walked n (vertices l) low q t taken reached → below ≡ parents (vertices l) (t + 1) reached n
+  pub took : (t taken reached below p x y : ℕ) (b : Bool) → low < t
+      → Walked n (vertices l) low q t taken reached → below ≡ parents (vertices l) (t + 1) reached n
       → p ≡ leader n t → b ≡ has below p → b ≡ true → x ≡ 2 ^ t → y ≡ 2 ^ p
       → (taken′ reached′ : ℕ) → taken′ ≡ bitOr taken x → reached′ ≡ y → Walked n (vertices l) low q (t - 1) taken′ reached′
   pub passed : (t taken reached below p : ℕ) (b : Bool) → low < t → Walked n (vertices l) low q t taken reached → below ≡ parents (vertices l) (t + 1) reached n

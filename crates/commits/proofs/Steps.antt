@@ -23,7 +23,7 @@ use Rattle.record.proofs.Masks.{has-zero, has-one, meets-count}
 use Rattle.protocol.specs.Dag.{Dag, present, held, votes, enough, committed}
 use Rattle.protocol.specs.Masks.{voters}
 use Rattle.protocol.specs.Chain.{leaderId}
-use Rattle.protocol.proofs.Voters.{voters-in, voters-out}
+use Rattle.protocol.proofs.Voters.{voters-in, voters-out, voters-claim}
 use Rattle.protocol.proofs.History.{id-round, id-member}
 use Rattle.replica.specs.Layout.{cellAt}
 use Rattle.replica.specs.State.{memberCount, committedRound, leaderCount, journalCount, heldMask, heardMask, votesMask, orderedMask, cell, vertices}
@@ -243,6 +243,11 @@ pub by-vertices : (n : ℕ) (d : Dag) (q : ℕ) → held (d .vertex) q (leader n
     → enough n (λ p. votes n q (d .vertex (suc q) p)) ≡ committed n d q
 unfolding committed
 by-vertices n d q e h = rw (e, h) (sym (or-false (enough n (λ p. votes n q (d .vertex (suc q) p)))))
+
+-- so by the mask of the voters
+pub by-voters : (n : ℕ) (d : Dag) (q : ℕ) (m : Members) → (m .bits ≡ voters n (d .vertex) q n) × (m .n ≡ n)
+    → held (d .vertex) q (leader n q) ≡ true → enough n (λ p. votes n q (d .first (suc q) p)) ≡ false → meets (m .n) (m .bits) ≡ committed n d q
+by-voters n d q m e led none = rw (e .0, e .1) (voters-claim n (d .vertex) q ∙ by-vertices n d q led none)
 
 -- ---- the lowest committable round
 

@@ -14,7 +14,7 @@ use Rattle.protocol.proofs.Journal.{extend-prefix}
 use Rattle.replica.specs.State.{memberCount, leaderCount, journalCount, journalList, vertices}
 use Rattle.replica.specs.Outcome.{admitted}
 use Rattle.replica.proofs.Sound.{Sound, journal-length}
-use Rattle.commits.specs.Commit.{taken, commit, committable, lowest, commitUpTo}
+use Rattle.commits.specs.Commit.{taken, commit, committable, lowest, commitUpTo, commitAll}
 use Rattle.commits.proofs.Growing.{commit-leader-count, commit-journal-length}
 use Rattle.ordering.proofs.Kept.{sound-commit, committable-round}
 
@@ -57,3 +57,11 @@ no-growth l after a b =
     let x : 0 ≡ leaderCount after - leaderCount l = omega arith in
     let y : 0 ≡ journalCount after - journalCount l = omega arith in
     ap₂ (λ (i j : ℕ). record { number = 0; id = 0; leaders = i; journal = j; words = after }) x y
+
+-- the words after the commits have lists at least as long
+pub record Settled (l after : List ℕ) : Type 0 where
+  pub leaders : leaderCount l ≤ leaderCount after
+  pub journal : journalCount l ≤ journalCount after
+
+pub settled : (l after : List ℕ) → Sound l → after ≡ commitAll l → Settled l after
+settled l after S e = let g = commits-grow 31 l S in rw e (record { leaders = g .0; journal = g .1 })

@@ -4,11 +4,6 @@ use lib.ListN.{length}
 use borrow.Author.Needs.{needs}
 use Rattle.sheetlog.proofs.answer_all.Statement.{statement}
 use Rattle.sheetlog.proofs.answer_all.Tie as tie
-use Rattle.sheetlog.proofs.answer_all.Reads as reads
-use Rattle.sheetlog.proofs.answer_all.Lts as lts
-use Rattle.io.proofs.count.Reads as count-reads
-use Rattle.libc.proofs.read.Reads as read-reads
-use Rattle.sheetlog.proofs.buffers.answer_block.Reads as answer-block-reads
 
 abbrev Inv-loop : tie.InvT-loop
 Inv-loop input₀ line₀ out₀ state₀ blocks₀ kept₀ input line out state blocks kept = (kept ≤ length line₀) × (length input ≡ length input₀)

@@ -3,16 +3,6 @@ use Prim.Native.Nat.{ℕ}
 use borrow.Author.Needs.{needs}
 use Rattle.capi.proofs.answer.plain_answer.Statement.{statement}
 use Rattle.capi.proofs.answer.plain_answer.Tie as tie
-use Rattle.capi.proofs.answer.plain_answer.Reads as reads
-use Rattle.capi.proofs.answer.plain_answer.Lts as lts
-use Rattle.record.proofs.refusal.missing_id.Reads as missing-id-reads
-use Rattle.record.proofs.refusal.number.Reads as number-reads
-
-number-requires : tie.Need-number-requires
-number-requires c κs = search needs
-
-missing-id-requires : tie.Need-missing-id-requires
-missing-id-requires c κs = search needs
 
 returns : tie.Need-returns
 returns c =
@@ -22,4 +12,7 @@ returns c =
     (after-number .number .ensures) (c .missing-id .ensures)
 
 pub plain-answer-spec : {M : Type 1} → statement M
-plain-answer-spec = tie.close (tie.spec number-requires missing-id-requires returns)
+plain-answer-spec = tie.close (tie.spec
+    (λ c κs. search needs)
+    (λ c κs. search needs)
+    returns)

@@ -3,12 +3,6 @@ use Prim.Native.Nat.{ℕ}
 use borrow.Author.Needs.{needs}
 use Rattle.capi.proofs.answer.plain_status.Statement.{statement}
 use Rattle.capi.proofs.answer.plain_status.Tie as tie
-use Rattle.capi.proofs.answer.plain_status.Reads as reads
-use Rattle.capi.proofs.answer.plain_status.Lts as lts
-use Rattle.record.proofs.refusal.number.Reads as number-reads
-
-number-requires : tie.Need-number-requires
-number-requires c κs = search needs
 
 returns : tie.Need-returns
 returns c =
@@ -23,4 +17,6 @@ returns c =
     }) (c .number .ensures)
 
 pub plain-status-spec : {M : Type 1} → statement M
-plain-status-spec = tie.close (tie.spec number-requires returns)
+plain-status-spec = tie.close (tie.spec
+    (λ c κs. search needs)
+    returns)

@@ -3,16 +3,6 @@ use Rattle.record.specs.Refusals.{numberOf}
 use borrow.Author.Needs.{needs}
 use Rattle.capi.proofs.calls.yardbook_ask_leaders.Statement.{statement}
 use Rattle.capi.proofs.calls.yardbook_ask_leaders.Tie as tie
-use Rattle.capi.proofs.calls.yardbook_ask_leaders.Reads as reads
-use Rattle.capi.proofs.calls.yardbook_ask_leaders.Lts as lts
-use Rattle.record.proofs.refusal.number.Reads as number-reads
-use Rattle.replica.proofs.lists.ask_leaders.Reads as ask-leaders-reads
-
-ask-leaders-requires : tie.Need-ask-leaders-requires
-ask-leaders-requires c κs = search needs
-
-number-requires : tie.Need-number-requires
-number-requires c κs = search needs
 
 returns : tie.Need-returns
 returns c =
@@ -20,4 +10,7 @@ returns c =
     c .number .ensures ∙ ap numberOf (after-ask-leaders .ask-leaders .ensures)
 
 pub yardbook-ask-leaders-spec : {M : Type 1} → statement M
-yardbook-ask-leaders-spec = tie.close (tie.spec ask-leaders-requires number-requires returns)
+yardbook-ask-leaders-spec = tie.close (tie.spec
+    (λ c κs. search needs)
+    (λ c κs. search needs)
+    returns)

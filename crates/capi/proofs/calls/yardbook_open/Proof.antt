@@ -2,19 +2,6 @@ use Rattle.capi.proofs.Laws.{answered}
 use borrow.Author.Needs.{needs}
 use Rattle.capi.proofs.calls.yardbook_open.Statement.{statement}
 use Rattle.capi.proofs.calls.yardbook_open.Tie as tie
-use Rattle.capi.proofs.calls.yardbook_open.Reads as reads
-use Rattle.capi.proofs.calls.yardbook_open.Lts as lts
-use Rattle.capi.proofs.answer.plain_answer.Reads as plain-answer-reads
-use Rattle.replica.proofs.lists.open.Reads as open-reads
-
-open-requires : tie.Need-open-requires
-open-requires c κs = search needs
-
-plain-answer-requires : tie.Need-plain-answer-requires
-plain-answer-requires c κs = search needs
-
-same-length : tie.Need-same-length
-same-length c = search needs
 
 returns : tie.Need-returns
 returns c =
@@ -22,4 +9,8 @@ returns c =
     answered (after-open .«open» .result) _ _ _ (c .plain-answer .ensures) (after-open .«open» .ensures)
 
 pub yardbook-open-spec : {M : Type 1} → statement M
-yardbook-open-spec = tie.close (tie.spec open-requires plain-answer-requires same-length returns)
+yardbook-open-spec = tie.close (tie.spec
+    (λ c κs. search needs)
+    (λ c κs. search needs)
+    (λ c. search needs)
+    returns)

@@ -3,16 +3,6 @@ use Rattle.capi.specs.Plain.{plainHead}
 use borrow.Author.Needs.{needs}
 use Rattle.capi.proofs.calls.yardbook_status.Statement.{statement}
 use Rattle.capi.proofs.calls.yardbook_status.Tie as tie
-use Rattle.capi.proofs.calls.yardbook_status.Reads as reads
-use Rattle.capi.proofs.calls.yardbook_status.Lts as lts
-use Rattle.capi.proofs.answer.plain_status.Reads as plain-status-reads
-use Rattle.replica.proofs.lists.status.Reads as status-reads
-
-status-requires : tie.Need-status-requires
-status-requires c κs = search needs
-
-plain-status-requires : tie.Need-plain-status-requires
-plain-status-requires c κs = search needs
 
 returns : tie.Need-returns
 returns c =
@@ -20,4 +10,7 @@ returns c =
     ap plainHead (c .plain-status .ensures) ∙ after-status .status .ensures
 
 pub yardbook-status-spec : {M : Type 1} → statement M
-yardbook-status-spec = tie.close (tie.spec status-requires plain-status-requires returns)
+yardbook-status-spec = tie.close (tie.spec
+    (λ c κs. search needs)
+    (λ c κs. search needs)
+    returns)

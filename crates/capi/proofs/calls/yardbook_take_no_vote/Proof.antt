@@ -2,19 +2,6 @@ use Rattle.capi.proofs.Laws.{answered}
 use borrow.Author.Needs.{needs}
 use Rattle.capi.proofs.calls.yardbook_take_no_vote.Statement.{statement}
 use Rattle.capi.proofs.calls.yardbook_take_no_vote.Tie as tie
-use Rattle.capi.proofs.calls.yardbook_take_no_vote.Reads as reads
-use Rattle.capi.proofs.calls.yardbook_take_no_vote.Lts as lts
-use Rattle.capi.proofs.answer.plain_answer.Reads as plain-answer-reads
-use Rattle.ordering.proofs.calls.take_no_vote.Reads as take-no-vote-reads
-
-take-no-vote-requires : tie.Need-take-no-vote-requires
-take-no-vote-requires c κs = search needs
-
-plain-answer-requires : tie.Need-plain-answer-requires
-plain-answer-requires c κs = search needs
-
-same-length : tie.Need-same-length
-same-length c = search needs
 
 returns : tie.Need-returns
 returns c =
@@ -23,4 +10,8 @@ returns c =
 
 pub yardbook-take-no-vote-spec : {M : Type 1} → statement M
 yardbook-take-no-vote-spec =
-    tie.close (tie.spec take-no-vote-requires plain-answer-requires same-length returns)
+    tie.close (tie.spec
+    (λ c κs. search needs)
+    (λ c κs. search needs)
+    (λ c. search needs)
+    returns)

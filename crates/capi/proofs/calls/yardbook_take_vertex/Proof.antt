@@ -2,19 +2,6 @@ use Rattle.capi.proofs.Laws.{answered}
 use borrow.Author.Needs.{needs}
 use Rattle.capi.proofs.calls.yardbook_take_vertex.Statement.{statement}
 use Rattle.capi.proofs.calls.yardbook_take_vertex.Tie as tie
-use Rattle.capi.proofs.calls.yardbook_take_vertex.Reads as reads
-use Rattle.capi.proofs.calls.yardbook_take_vertex.Lts as lts
-use Rattle.capi.proofs.answer.plain_answer.Reads as plain-answer-reads
-use Rattle.ordering.proofs.calls.take_vertex.Reads as take-vertex-reads
-
-take-vertex-requires : tie.Need-take-vertex-requires
-take-vertex-requires c κs = search needs
-
-plain-answer-requires : tie.Need-plain-answer-requires
-plain-answer-requires c κs = search needs
-
-same-length : tie.Need-same-length
-same-length c = search needs
 
 returns : tie.Need-returns
 returns c =
@@ -23,4 +10,8 @@ returns c =
 
 pub yardbook-take-vertex-spec : {M : Type 1} → statement M
 yardbook-take-vertex-spec =
-    tie.close (tie.spec take-vertex-requires plain-answer-requires same-length returns)
+    tie.close (tie.spec
+    (λ c κs. search needs)
+    (λ c κs. search needs)
+    (λ c. search needs)
+    returns)

@@ -1,13 +1,9 @@
 use Rattle.commits.specs.Commit.{appendLeader}
-use Rattle.record.proofs.Masks.{leader-lt, leader-small}
+use Rattle.record.proofs.Masks.{leader-small}
 use native.Mathlib.Omega.{arith}
 use borrow.Author.Needs.{needs}
 use Rattle.commits.proofs.commit.append_leader.Statement.{statement}
 use Rattle.commits.proofs.commit.append_leader.Tie as tie
-use Rattle.commits.proofs.commit.append_leader.Reads as reads
-use Rattle.commits.proofs.commit.append_leader.Lts as lts
-use Rattle.record.proofs.members.leader_of.Reads as leader-of-reads
-use Rattle.replica.proofs.layout.wide.Reads as wide-reads
 
 add-id : tie.Need-add-id
 add-id c =

@@ -1,23 +1,14 @@
 use Rattle.commits.proofs.Steps.{Appending, appending-start, appending-in, appending-out}
-use Rattle.commits.specs.Commit.{appendLeader, appendLeaders}
-use Rattle.commits.proofs.Steps.{select-zero, select-in, select-out, append-none, append-more, append-size, append-members, append-count}
-use Rattle.replica.specs.State.{memberCount, leaderCount}
+use Rattle.commits.specs.Commit.{appendLeaders}
 use Rattle.record.specs.Below.{select}
 use Rattle.record.specs.Members.{has}
-use Rattle.record.proofs.Booleans.{never}
-use mathlib.Core.Path.{_≡_, refl, sym, ap, _∙_}
+use mathlib.Core.Path.{_≡_, sym, ap, _∙_}
 use mathlib.Core.Logic.{⊎-elim}
-use mathlib.Core.List.{List}
-use Prim.Native.Nat.{ℕ, _+_, _≤_, _-_}
+use Prim.Native.Nat.{ℕ, _≤_, _-_}
 use native.Mathlib.Omega.{arith}
-use lib.ListN.{length}
 use borrow.Author.Needs.{needs}
 use Rattle.commits.proofs.commit.append_leaders.Statement.{statement}
 use Rattle.commits.proofs.commit.append_leaders.Tie as tie
-use Rattle.commits.proofs.commit.append_leaders.Reads as reads
-use Rattle.commits.proofs.commit.append_leaders.Lts as lts
-use Rattle.commits.proofs.commit.append_leader.Reads as append-leader-reads
-use Rattle.record.proofs.members.Members.has.Reads as has-reads
 
 abbrev Inv-loop : tie.InvT-loop
 Inv-loop state₀ n taken rounds r₀ state r = (1 ≤ r) × (r ≤ 32) × Appending n state₀ taken r state

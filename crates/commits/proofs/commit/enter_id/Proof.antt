@@ -4,11 +4,6 @@ use native.Mathlib.Omega.{arith}
 use borrow.Author.Needs.{needs}
 use Rattle.commits.proofs.commit.enter_id.Statement.{statement}
 use Rattle.commits.proofs.commit.enter_id.Tie as tie
-use Rattle.commits.proofs.commit.enter_id.Reads as reads
-use Rattle.commits.proofs.commit.enter_id.Lts as lts
-use Rattle.record.proofs.members.power.Reads as power-reads
-use Rattle.replica.proofs.layout.masks_at.Reads as masks-at-reads
-use Rattle.replica.proofs.layout.wide.Reads as wide-reads
 
 slice-write-state-2 : tie.Need-slice-write-state-2
 slice-write-state-2 c =

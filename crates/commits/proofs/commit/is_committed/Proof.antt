@@ -1,16 +1,14 @@
 -- `is_committed` meets its contract. Assumes nothing.
-use Rattle.commits.proofs.Steps.{held-word, first-quorum, not-led, by-messages, by-vertices}
+use Rattle.commits.proofs.Steps.{held-word, first-quorum, not-led, by-messages, by-voters}
 use Rattle.replica.specs.State.{dag, vertices, firsts}
 use Rattle.protocol.specs.Dag.{enough, held, votes}
 use Rattle.record.specs.Members.{leader}
 use Rattle.record.proofs.Booleans.{passed, failed}
 use Rattle.record.proofs.Masks.{leader-small, leader-lt}
 use native.Mathlib.Numerals.{add-one}
-use Rattle.protocol.proofs.Voters.{voters-claim}
 use native.Mathlib.Omega.{arith}
-use mathlib.Core.Path.{_≡_, ap₂, _∙_}
+use mathlib.Core.Path.{_≡_, sym, _∙_}
 use Prim.Native.Nat.{suc}
-use lib.Dec.{leb}
 use borrow.Author.Needs.{needs}
 use Rattle.commits.proofs.commit.is_committed.Statement.{statement}
 use Rattle.commits.proofs.commit.is_committed.Tie as tie
@@ -43,12 +41,11 @@ returns-2 c = let e : tie.Else1 = search in let h = heard (search) in by-message
 returns-3 : tie.Need-returns-3
 returns-3 c =
     let e : tie.Else1 = search in
+    let f : tie.Else2 = search in
+    let v : tie.After-vertex-voters = search in
     let s : tie.Start = search in
-    let h = heard (search) in
-    cc (
-      voters-claim (s .args .n) (vertices (s .args .state .now)) (s .args .q),
-      by-vertices _ (dag (s .args .state .now)) _ (passed (led (search)) (e .if1 .left)) (cc),
-    )
+    c .meets-quorum2 .ensures
+    ∙ by-voters _ (dag (s .args .state .now)) _ _ (v .vertex-voters .ensures) (passed (led (search)) (e .if1 .left)) (sym (heard (search)) ∙ f .if2 .left)
 
 pub is-committed-spec : {M : Type 1} → statement M
 is-committed-spec =

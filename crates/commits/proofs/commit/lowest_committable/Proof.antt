@@ -1,18 +1,15 @@
 use Rattle.commits.proofs.Steps.{committable-at, committable-low}
-use Rattle.commits.specs.Commit.{committable, lowest}
+use Rattle.commits.specs.Commit.{committable}
 use Rattle.replica.specs.State.{committedRound}
-use Rattle.record.specs.Below.{any, least}
+use Rattle.record.specs.Below.{any}
 use Rattle.record.proofs.Below.{any-false, any-less, least-none, least-at}
 use mathlib.Core.Bool.{false}
-use mathlib.Core.Path.{_≡_, refl, sym, ap, _∙_}
-use Prim.Native.Nat.{ℕ, _+_, _≤_, _<_, _-_}
+use mathlib.Core.Path.{_≡_, sym, _∙_}
+use Prim.Native.Nat.{_≤_, _<_, _-_}
 use native.Mathlib.Omega.{arith}
 use borrow.Author.Needs.{needs}
 use Rattle.commits.proofs.commit.lowest_committable.Statement.{statement}
 use Rattle.commits.proofs.commit.lowest_committable.Tie as tie
-use Rattle.commits.proofs.commit.lowest_committable.Reads as reads
-use Rattle.commits.proofs.commit.lowest_committable.Lts as lts
-use Rattle.commits.proofs.commit.is_committed.Reads as is-committed-reads
 
 abbrev Inv-loop : tie.InvT-loop
 Inv-loop state n q₀ q = (committedRound state < q) × (q ≤ 32) × (any q (committable state) ≡ false)

@@ -1,19 +1,14 @@
 use Rattle.commits.proofs.Laws.{history-start}
-use Rattle.protocol.specs.Masks.{fill, join, historyMasks}
+use Rattle.protocol.specs.Masks.{fill, historyMasks}
 use Rattle.replica.specs.State.{vertices}
 use Rattle.commits.proofs.Laws.{fill-none, fill-step}
-use mathlib.Core.Path.{_≡_, refl, sym, ap, _∙_}
+use mathlib.Core.Path.{_≡_, sym, ap, _∙_}
 use mathlib.Core.List.{List}
-use Prim.Native.Nat.{ℕ, _+_, _≤_, _-_}
+use Prim.Native.Nat.{ℕ, _≤_, _-_}
 use native.Mathlib.Omega.{arith}
 use borrow.Author.Needs.{needs}
 use Rattle.commits.proofs.history.history_of.Statement.{statement}
 use Rattle.commits.proofs.history.history_of.Tie as tie
-use Rattle.commits.proofs.history.history_of.Reads as reads
-use Rattle.commits.proofs.history.history_of.Lts as lts
-use Rattle.commits.proofs.history.join_round.Reads as join-round-reads
-use Rattle.record.proofs.members.power.Reads as power-reads
-use Rattle.replica.proofs.layout.wide.Reads as wide-reads
 
 abbrev Inv-loop : tie.InvT-loop
 Inv-loop state n round member masks₀ at k₀ masks k = (k ≤ 31) × (historyMasks n (vertices state) round member ≡ fill n (vertices state) masks k)

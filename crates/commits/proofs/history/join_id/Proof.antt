@@ -2,10 +2,6 @@ use Rattle.protocol.specs.Masks.{join}
 use borrow.Author.Needs.{needs}
 use Rattle.commits.proofs.history.join_id.Statement.{statement}
 use Rattle.commits.proofs.history.join_id.Tie as tie
-use Rattle.commits.proofs.history.join_id.Reads as reads
-use Rattle.commits.proofs.history.join_id.Lts as lts
-use Rattle.record.proofs.members.power.Reads as power-reads
-use Rattle.replica.proofs.layout.wide.Reads as wide-reads
 
 returns : tie.Need-returns
 unfolding join

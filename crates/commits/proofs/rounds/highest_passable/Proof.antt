@@ -6,9 +6,6 @@ use Prim.Native.Nat.{_≤_, _-_}
 use borrow.Author.Needs.{needs}
 use Rattle.commits.proofs.rounds.highest_passable.Statement.{statement}
 use Rattle.commits.proofs.rounds.highest_passable.Tie as tie
-use Rattle.commits.proofs.rounds.highest_passable.Reads as reads
-use Rattle.commits.proofs.rounds.highest_passable.Lts as lts
-use Rattle.commits.proofs.rounds.is_passable.Reads as is-passable-reads
 
 abbrev Inv-loop : tie.InvT-loop
 Inv-loop state n round₀ round = (round ≤ 32) × (highestPassable state 32 ≡ highestPassable state round)

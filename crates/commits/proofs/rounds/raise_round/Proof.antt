@@ -1,11 +1,7 @@
 use Rattle.commits.proofs.Laws.{raised, not-raised}
-use native.Mathlib.Omega.{arith}
 use borrow.Author.Needs.{needs}
 use Rattle.commits.proofs.rounds.raise_round.Statement.{statement}
 use Rattle.commits.proofs.rounds.raise_round.Tie as tie
-use Rattle.commits.proofs.rounds.raise_round.Reads as reads
-use Rattle.commits.proofs.rounds.raise_round.Lts as lts
-use Rattle.commits.proofs.rounds.highest_passable.Reads as highest-passable-reads
 
 returns : tie.Need-returns
 returns c =

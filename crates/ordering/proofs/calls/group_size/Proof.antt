@@ -4,11 +4,6 @@ use borrow.Author.Tests.{eq-eqb, ne-eqb}
 use borrow.Author.Needs.{needs}
 use Rattle.ordering.proofs.calls.group_size.Statement.{statement}
 use Rattle.ordering.proofs.calls.group_size.Tie as tie
-use Rattle.ordering.proofs.calls.group_size.Reads as reads
-use Rattle.ordering.proofs.calls.group_size.Lts as lts
-
-shared-slice-read-result : tie.Need-shared-slice-read-result
-shared-slice-read-result c = search needs
 
 returns : tie.Need-returns
 unfolding groupSize weakCountOf
@@ -21,4 +16,7 @@ unfolding groupSize weakCountOf
 returns-2 c = rw (ne-eqb _ _ (c .if1 .left))
 
 pub group-size-spec : {M : Type 1} → statement M
-group-size-spec = tie.close (tie.spec shared-slice-read-result returns returns-2)
+group-size-spec = tie.close (tie.spec
+    (λ c. search needs)
+    returns
+    returns-2)

@@ -1,15 +1,11 @@
 use Rattle.ordering.specs.Search.{parentAt}
 use Rattle.record.specs.Layout.{weakOf, strongOf}
 use borrow.Author.Tests.{eq-eqb, ne-eqb}
-use mathlib.Core.Path.{_≡_, refl, sym, ap, _∙_}
+use mathlib.Core.Path.{sym, _∙_}
 use native.Mathlib.Omega.{arith}
 use borrow.Author.Needs.{needs}
 use Rattle.ordering.proofs.calls.parent_at.Statement.{statement}
 use Rattle.ordering.proofs.calls.parent_at.Tie as tie
-use Rattle.ordering.proofs.calls.parent_at.Reads as reads
-use Rattle.ordering.proofs.calls.parent_at.Lts as lts
-use Rattle.record.proofs.members.Members.has.Reads as has-reads
-use Rattle.replica.proofs.layout.wide.Reads as wide-reads
 
 shared-slice-read-result : tie.Need-shared-slice-read-result
 shared-slice-read-result c =

@@ -4,18 +4,15 @@ use Rattle.record.specs.Below.{all}
 use Rattle.record.proofs.Below.{all-none, all-more, all-stop}
 use Rattle.replica.specs.Layout.{cellAt}
 use borrow.Author.Tests.{eq-eqb, ne-eqb}
-use mathlib.Core.Path.{_≡_, refl, sym, ap, _∙_}
+use mathlib.Core.Path.{_≡_, sym}
 use mathlib.Core.Bool.{true}
-use Prim.Native.Nat.{ℕ, _+_, _≤_, _<_, _-_}
+use Prim.Native.Nat.{ℕ, _+_, _≤_, _-_}
 use native.Mathlib.Omega.{arith}
 use lib.Dec.{eqb}
 use lib.ListN.{getD}
 use borrow.Author.Needs.{needs}
 use Rattle.ordering.proofs.calls.same_body.Statement.{statement}
 use Rattle.ordering.proofs.calls.same_body.Tie as tie
-use Rattle.ordering.proofs.calls.same_body.Reads as reads
-use Rattle.ordering.proofs.calls.same_body.Lts as lts
-use Rattle.replica.proofs.layout.cell_at.Reads as cell-at-reads
 
 abbrev Inv-loop : tie.InvT-loop
 Inv-loop state round member body at i₀ i = (i ≤ 10) × (all i (λ k. eqb (getD state (cellAt round member + k) 0) (getD body k 0)) ≡ true)

@@ -1,47 +1,21 @@
+-- What was added is the growth of the lists: the commits shorten neither.
 use Rattle.commits.proofs.Ground.{standing, room}
-use Rattle.ordering.proofs.Counts.{commits-grow}
+use Rattle.ordering.proofs.Counts.{Settled, settled}
 use Rattle.replica.proofs.Sound.{sound, leaders-few}
-use native.Mathlib.Omega.{arith}
-use mathlib.Core.Path.{_≡_, refl, sym, ap, _∙_}
-use lib.ListN.{getD}
-use mathlib.Core.List.{List}
-use Prim.Native.Nat.{ℕ}
 use borrow.Author.Needs.{needs}
 use Rattle.ordering.proofs.calls.settle.Statement.{statement}
 use Rattle.ordering.proofs.calls.settle.Tie as tie
-use Rattle.ordering.proofs.calls.settle.Reads as reads
-use Rattle.ordering.proofs.calls.settle.Lts as lts
-use Rattle.commits.proofs.commit.commit_all.Reads as commit-all-reads
 
 commit-all-requires : tie.Need-commit-all-requires
 commit-all-requires c κs =
-    let start : tie.Start = search in
-    let S = sound _ (start .pre .0) (start .pre .1) in (standing _ S, room _ S, start .pre .2, leaders-few _ S, S .leaders .committed-high)
+    let s : tie.Start = search in
+    let S = sound _ (s .pre .0) (s .pre .1) in (standing _ S, room _ S, s .pre .2, leaders-few _ S, S .leaders .committed-high)
 
-sub-t13 : tie.Need-sub-t13
-sub-t13 c =
-    let after-commit-all : tie.After-commit-all = search in
-    let start : tie.Start = search in
-    let S = sound _ (start .pre .0) (start .pre .1) in omega (
-      arith,
-      ap (λ (x : List ℕ). getD x 3 0) (after-commit-all .commit-all .ensures),
-      commits-grow 31 (start .args .state .now) S .0,
-    )
-
-sub-t16 : tie.Need-sub-t16
-sub-t16 c =
-    let after-commit-all : tie.After-commit-all = search in
-    let start : tie.Start = search in
-    let S = sound _ (start .pre .0) (start .pre .1) in omega (
-      arith,
-      ap (λ (x : List ℕ). getD x 4 0) (after-commit-all .commit-all .ensures),
-      commits-grow 31 (start .args .state .now) S .1,
-    )
+known : (c : tie.After-commit-all) → let s : tie.Start = search in Settled (s .args .state .now) (c .commit-all .last .0)
+known c = let s : tie.Start = search in settled _ _ (sound _ (s .pre .0) (s .pre .1)) (c .commit-all .ensures)
 
 returns : tie.Need-returns
-returns c =
-    let after-commit-all : tie.After-commit-all = search in
-    rw (after-commit-all .commit-all .ensures)
+returns c = let a : tie.After-commit-all = search in rw (a .commit-all .ensures)
 
 pub settle-spec : {M : Type 1} → statement M
 settle-spec =
@@ -51,8 +25,8 @@ settle-spec =
     (λ c. search needs)
     commit-all-requires
     (λ c. search needs)
-    sub-t13
+    (λ c. let k = known (search) in search needs)
     (λ c. search needs)
-    sub-t16
+    (λ c. let k = known (search) in search needs)
     (λ c. search needs)
     returns)

@@ -1,14 +1,11 @@
-use mathlib.Core.Path.{_≡_, refl, sym, ap, _∙_}
-use mathlib.Core.List.{List}
-use Prim.Native.Nat.{ℕ, _+_, _≤_, _<_, _-_}
+use mathlib.Core.Path.{_≡_, refl, _∙_}
+use Prim.Native.Nat.{_≤_, _-_}
 use native.Mathlib.Omega.{arith}
 use lib.ListN.{length, take, length-set}
 use Rattle.ordering.proofs.Copying.{take-copied, take-whole}
 use borrow.Author.Needs.{needs}
 use Rattle.ordering.proofs.calls.write_body.Statement.{statement}
 use Rattle.ordering.proofs.calls.write_body.Tie as tie
-use Rattle.ordering.proofs.calls.write_body.Reads as reads
-use Rattle.ordering.proofs.calls.write_body.Lts as lts
 
 abbrev Inv-loop : tie.InvT-loop
 Inv-loop cell₀ body i₀ cell i = (i ≤ 10) × (length cell ≡ 10) × (take i cell ≡ take i body)

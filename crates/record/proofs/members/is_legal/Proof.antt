@@ -1,10 +1,7 @@
 use Rattle.record.specs.Members.{legal}
 use borrow.Author.Tests.{le-leb, lt-leb}
-use native.Mathlib.Omega.{arith}
 use Rattle.record.proofs.members.is_legal.Statement.{statement}
 use Rattle.record.proofs.members.is_legal.Tie as tie
-use Rattle.record.proofs.members.is_legal.Reads as reads
-use Rattle.record.proofs.members.is_legal.Lts as lts
 
 returns : tie.Need-returns
 unfolding legal
@@ -23,4 +20,7 @@ returns-3 c =
     simp (le-leb _ _ (else1 .if1 .left), le-leb _ _ (c .if2 .left))
 
 pub is-legal-spec : {M : Type 1} → statement M
-is-legal-spec = tie.close (tie.spec returns returns-2 returns-3)
+is-legal-spec = tie.close (tie.spec
+    returns
+    returns-2
+    returns-3)

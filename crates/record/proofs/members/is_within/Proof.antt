@@ -4,17 +4,15 @@ use native.Mathlib.Omega.{arith}
 use borrow.Author.Needs.{needs}
 use Rattle.record.proofs.members.is_within.Statement.{statement}
 use Rattle.record.proofs.members.is_within.Tie as tie
-use Rattle.record.proofs.members.is_within.Reads as reads
-use Rattle.record.proofs.members.is_within.Lts as lts
 
 returns : tie.Need-returns
 returns c = sym (within-wide _ _ (omega arith) (omega arith))
-
-shr-result : tie.Need-shr-result
-shr-result c = search needs
 
 returns-2 : tie.Need-returns-2
 returns-2 c = within-shift _ _
 
 pub is-within-spec : {M : Type 1} → statement M
-is-within-spec = tie.close (tie.spec returns shr-result returns-2)
+is-within-spec = tie.close (tie.spec
+    returns
+    (λ c. search needs)
+    returns-2)

@@ -8,9 +8,6 @@ use native.Mathlib.Omega.{arith}
 use borrow.Author.Needs.{needs}
 use Rattle.record.proofs.questions.check.Statement.{statement}
 use Rattle.record.proofs.questions.check.Tie as tie
-use Rattle.record.proofs.questions.check.Reads as reads
-use Rattle.record.proofs.questions.check.Lts as lts
-use Rattle.record.proofs.questions.check_body.Reads as check-body-reads
 
 returns : tie.Need-returns
 unfolding bodyRefusal

@@ -7,11 +7,6 @@ use native.Mathlib.Omega.{arith}
 use borrow.Author.Needs.{needs}
 use Rattle.record.proofs.questions.check_body.Statement.{statement}
 use Rattle.record.proofs.questions.check_body.Tie as tie
-use Rattle.record.proofs.questions.check_body.Reads as reads
-use Rattle.record.proofs.questions.check_body.Lts as lts
-use Rattle.record.proofs.questions.check_known.Reads as check-known-reads
-use Rattle.record.proofs.questions.round_ok.Reads as round-ok-reads
-use Rattle.record.proofs.questions.terms_of.Reads as terms-of-reads
 
 returns : tie.Need-returns
 unfolding bodyRefusal

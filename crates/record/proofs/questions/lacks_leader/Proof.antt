@@ -5,14 +5,10 @@ use mathlib.Core.Bool.{not}
 use mathlib.Core.Path.{_∙_, ap}
 use native.Mathlib.Omega.{arith}
 use Prim.Native.Nat.{_-_}
-use Rattle.record.specs.Questions.{lacksLeader, termsOf}
+use Rattle.record.specs.Questions.{lacksLeader}
 use borrow.Author.Tests.{le-leb, lt-leb}
-use borrow.Author.Needs.{needs}
 use Rattle.record.proofs.questions.lacks_leader.Statement.{statement}
 use Rattle.record.proofs.questions.lacks_leader.Tie as tie
-use Rattle.record.proofs.questions.lacks_leader.Reads as reads
-use Rattle.record.proofs.questions.lacks_leader.Lts as lts
-use Rattle.record.proofs.members.Members.has.Reads as has-reads
 
 returns : tie.Need-returns
 unfolding lacksLeader
@@ -31,4 +27,7 @@ returns-2 c =
     simp (le-leb _ _ (else1 .if1 .left)) (ap not (c .has .ensures ∙ ap (λ (t : Terms). has (start .args .strong) (t .previous)) (start .pre .0)))
 
 pub lacks-leader-spec : {M : Type 1} → statement M
-lacks-leader-spec = tie.close (tie.spec returns has-requires returns-2)
+lacks-leader-spec = tie.close (tie.spec
+    returns
+    has-requires
+    returns-2)

@@ -5,11 +5,10 @@ use Rattle.record.proofs.Masks.{within-three}
 use Rattle.record.proofs.questions.masks_ok.Statement.{statement}
 use Rattle.record.proofs.questions.masks_ok.Tie as tie
 
-is-within-requires : tie.Need-is-within-requires
-is-within-requires c κs = search needs
-
 returns : tie.Need-returns
 returns c = c .is-within .ensures ∙ within-three _ _ _ _
 
 pub masks-ok-spec : {M : Type 1} → statement M
-masks-ok-spec = tie.close (tie.spec is-within-requires returns)
+masks-ok-spec = tie.close (tie.spec
+    (λ c κs. search needs)
+    returns)

@@ -1,17 +1,9 @@
 use Rattle.record.proofs.Turn.{wanted-leading, wanted-not}
 use mathlib.Core.Path.{_∙_}
-use mathlib.Core.Bool.{and-true, and-false}
-use Rattle.record.specs.Questions.{quorumIf}
 use borrow.Author.Tests.{eq-eqb, ne-eqb}
 use borrow.Author.Needs.{needs}
 use Rattle.record.proofs.questions.no_votes_ok.Statement.{statement}
 use Rattle.record.proofs.questions.no_votes_ok.Tie as tie
-use Rattle.record.proofs.questions.no_votes_ok.Reads as reads
-use Rattle.record.proofs.questions.no_votes_ok.Lts as lts
-use Rattle.record.proofs.questions.quorum_if.Reads as quorum-if-reads
-
-quorum-if-requires : tie.Need-quorum-if-requires
-quorum-if-requires c κs = search needs
 
 returns : tie.Need-returns
 returns c =
@@ -24,4 +16,7 @@ returns-2 c =
     wanted-not (start .args .terms .n) (start .args .lack) _ (start .args .no-votes) (ne-eqb _ _ (c .if1 .left))
 
 pub no-votes-ok-spec : {M : Type 1} → statement M
-no-votes-ok-spec = tie.close (tie.spec quorum-if-requires returns returns-2)
+no-votes-ok-spec = tie.close (tie.spec
+    (λ c κs. search needs)
+    returns
+    returns-2)

@@ -2,12 +2,6 @@ use Rattle.record.specs.Questions.{quorumIf}
 use borrow.Author.Needs.{needs}
 use Rattle.record.proofs.questions.quorum_if.Statement.{statement}
 use Rattle.record.proofs.questions.quorum_if.Tie as tie
-use Rattle.record.proofs.questions.quorum_if.Reads as reads
-use Rattle.record.proofs.questions.quorum_if.Lts as lts
-use Rattle.record.proofs.members.Members.meets_quorum.Reads as meets-quorum-reads
-
-meets-quorum-requires : tie.Need-meets-quorum-requires
-meets-quorum-requires c κs = search needs
 
 returns : tie.Need-returns
 unfolding quorumIf
@@ -20,4 +14,7 @@ unfolding quorumIf
 returns-2 c = rw (c .if1 .left)
 
 pub quorum-if-spec : {M : Type 1} → statement M
-quorum-if-spec = tie.close (tie.spec meets-quorum-requires returns returns-2)
+quorum-if-spec = tie.close (tie.spec
+    (λ c κs. search needs)
+    returns
+    returns-2)

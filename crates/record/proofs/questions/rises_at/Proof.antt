@@ -4,8 +4,6 @@ use borrow.Author.Tests.{eq-eqb, ne-eqb}
 use borrow.Author.Needs.{needs}
 use Rattle.record.proofs.questions.rises_at.Statement.{statement}
 use Rattle.record.proofs.questions.rises_at.Tie as tie
-use Rattle.record.proofs.questions.rises_at.Reads as reads
-use Rattle.record.proofs.questions.rises_at.Lts as lts
 
 returns : tie.Need-returns
 unfolding rises

@@ -2,8 +2,6 @@ use Rattle.record.specs.Questions.{roundOk}
 use borrow.Author.Tests.{le-leb, lt-leb}
 use Rattle.record.proofs.questions.round_ok.Statement.{statement}
 use Rattle.record.proofs.questions.round_ok.Tie as tie
-use Rattle.record.proofs.questions.round_ok.Reads as reads
-use Rattle.record.proofs.questions.round_ok.Lts as lts
 
 returns : tie.Need-returns
 unfolding roundOk
@@ -14,4 +12,6 @@ unfolding roundOk
 returns-2 c = simp (le-leb _ _ (c .if1 .left))
 
 pub round-ok-spec : {M : Type 1} → statement M
-round-ok-spec = tie.close (tie.spec returns returns-2)
+round-ok-spec = tie.close (tie.spec
+    returns
+    returns-2)

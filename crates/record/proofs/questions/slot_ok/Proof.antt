@@ -5,11 +5,6 @@ use borrow.Author.Tests.{le-ltb, lt-ltb}
 use borrow.Author.Needs.{needs}
 use Rattle.record.proofs.questions.slot_ok.Statement.{statement}
 use Rattle.record.proofs.questions.slot_ok.Tie as tie
-use Rattle.record.proofs.questions.slot_ok.Reads as reads
-use Rattle.record.proofs.questions.slot_ok.Lts as lts
-use Rattle.record.proofs.questions.rises_at.Reads as rises-at-reads
-use Rattle.record.proofs.questions.weak_id_ok.Reads as weak-id-ok-reads
-use Rattle.record.proofs.questions.wide.Reads as wide-reads
 
 returns : tie.Need-returns
 unfolding slotOk weakOf weakCountOf

@@ -3,16 +3,10 @@ use borrow.Author.Tests.{eq-eqb, ne-eqb}
 use borrow.Author.Needs.{needs}
 use Rattle.record.proofs.questions.strong_ok.Statement.{statement}
 use Rattle.record.proofs.questions.strong_ok.Tie as tie
-use Rattle.record.proofs.questions.strong_ok.Reads as reads
-use Rattle.record.proofs.questions.strong_ok.Lts as lts
-use Rattle.record.proofs.members.Members.meets_quorum.Reads as meets-quorum-reads
 
 returns : tie.Need-returns
 unfolding strongOk
 returns c = simp (eq-eqb _ _ (c .if1 .taken))
-
-meets-quorum-requires : tie.Need-meets-quorum-requires
-meets-quorum-requires c κs = search needs
 
 returns-2 : tie.Need-returns-2
 unfolding strongOk
@@ -21,4 +15,7 @@ returns-2 c =
     simp (ne-eqb _ _ (else1 .if1 .left)) (c .meets-quorum .ensures)
 
 pub strong-ok-spec : {M : Type 1} → statement M
-strong-ok-spec = tie.close (tie.spec returns meets-quorum-requires returns-2)
+strong-ok-spec = tie.close (tie.spec
+    returns
+    (λ c κs. search needs)
+    returns-2)

@@ -3,8 +3,6 @@ use borrow.Author.Tests.{le-leb, lt-leb, le-ltb, lt-ltb}
 use borrow.Author.Needs.{needs}
 use Rattle.record.proofs.questions.weak_id_ok.Statement.{statement}
 use Rattle.record.proofs.questions.weak_id_ok.Tie as tie
-use Rattle.record.proofs.questions.weak_id_ok.Reads as reads
-use Rattle.record.proofs.questions.weak_id_ok.Lts as lts
 
 returns : tie.Need-returns
 unfolding weakIdOk
@@ -16,9 +14,6 @@ returns-2 c =
     let else1 : tie.Else1 = search in
     simp (lt-ltb _ _ (else1 .if1 .left), lt-leb _ _ (c .if2 .taken))
 
-add-result : tie.Need-add-result
-add-result c = search needs
-
 returns-3 : tie.Need-returns-3
 unfolding weakIdOk
 returns-3 c =
@@ -26,4 +21,8 @@ returns-3 c =
     simp (lt-ltb _ _ (else1 .if1 .left), le-leb _ _ (c .if2 .left))
 
 pub weak-id-ok-spec : {M : Type 1} → statement M
-weak-id-ok-spec = tie.close (tie.spec returns returns-2 add-result returns-3)
+weak-id-ok-spec = tie.close (tie.spec
+    returns
+    returns-2
+    (λ c. search needs)
+    returns-3)

@@ -11,10 +11,6 @@ use Prim.Native.Nat.{_≤_, _-_}
 use borrow.Author.Needs.{needs}
 use Rattle.record.proofs.questions.weak_ok.Statement.{statement}
 use Rattle.record.proofs.questions.weak_ok.Tie as tie
-use Rattle.record.proofs.questions.weak_ok.Reads as reads
-use Rattle.record.proofs.questions.weak_ok.Lts as lts
-use Rattle.record.proofs.members.faulty_of.Reads as faulty-of-reads
-use Rattle.record.proofs.questions.slot_ok.Reads as slot-ok-reads
 
 abbrev Inv-loop : tie.InvT-loop
 Inv-loop n round body most i₀ i = (i ≤ 5) × (all i (slotOk n round body) ≡ true)

@@ -2,7 +2,6 @@
 use borrow.Author.Tests.{le-leb, lt-leb}
 use borrow.Author.Needs.{needs}
 use Rattle.record.specs.Questions.{roundOk}
-use Rattle.record.specs.Members.{has}
 use Rattle.replica.proofs.layout.is_held.Statement.{statement}
 use Rattle.replica.proofs.layout.is_held.Tie as tie
 
@@ -16,12 +15,6 @@ returns-2 c =
     let else1 : tie.Else1 = search in
     simp (le-leb _ _ (else1 .if1 .left), lt-leb _ _ (c .if2 .taken))
 
-held-mask-requires : tie.Need-held-mask-requires
-held-mask-requires c κs = search needs
-
-has-requires : tie.Need-has-requires
-has-requires c κs = search needs
-
 returns-3 : tie.Need-returns-3
 unfolding roundOk
 returns-3 c =
@@ -31,4 +24,9 @@ returns-3 c =
     simp (le-leb _ _ (else1 .if1 .left), le-leb _ _ (else2 .if2 .left)) (rw (after-held-mask .held-mask .ensures) at (c .has .ensures))
 
 pub is-held-spec : {M : Type 1} → statement M
-is-held-spec = tie.close (tie.spec returns returns-2 held-mask-requires has-requires returns-3)
+is-held-spec = tie.close (tie.spec
+    returns
+    returns-2
+    (λ c κs. search needs)
+    (λ c κs. search needs)
+    returns-3)

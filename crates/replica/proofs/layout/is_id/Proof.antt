@@ -10,4 +10,6 @@ returns-2 : tie.Need-returns-2
 returns-2 c = id-test _ (c .if1 .left)
 
 pub is-id-spec : {M : Type 1} → statement M
-is-id-spec = tie.close (tie.spec returns returns-2)
+is-id-spec = tie.close (tie.spec
+    returns
+    returns-2)

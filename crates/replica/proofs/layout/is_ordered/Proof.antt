@@ -2,7 +2,6 @@
 use borrow.Author.Tests.{le-leb, lt-leb}
 use borrow.Author.Needs.{needs}
 use Rattle.record.specs.Questions.{roundOk}
-use Rattle.record.specs.Members.{has}
 use Rattle.replica.proofs.layout.is_ordered.Statement.{statement}
 use Rattle.replica.proofs.layout.is_ordered.Tie as tie
 
@@ -16,12 +15,6 @@ returns-2 c =
     let else1 : tie.Else1 = search in
     simp (le-leb _ _ (else1 .if1 .left), lt-leb _ _ (c .if2 .taken))
 
-ordered-mask-requires : tie.Need-ordered-mask-requires
-ordered-mask-requires c κs = search needs
-
-has-requires : tie.Need-has-requires
-has-requires c κs = search needs
-
 returns-3 : tie.Need-returns-3
 unfolding roundOk
 returns-3 c =
@@ -32,4 +25,9 @@ returns-3 c =
 
 pub is-ordered-spec : {M : Type 1} → statement M
 is-ordered-spec =
-    tie.close (tie.spec returns returns-2 ordered-mask-requires has-requires returns-3)
+    tie.close (tie.spec
+    returns
+    returns-2
+    (λ c κs. search needs)
+    (λ c κs. search needs)
+    returns-3)

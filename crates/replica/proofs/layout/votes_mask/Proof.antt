@@ -3,18 +3,6 @@ use borrow.Author.Needs.{needs}
 use Rattle.replica.proofs.layout.votes_mask.Statement.{statement}
 use Rattle.replica.proofs.layout.votes_mask.Tie as tie
 
-masks-at-requires : tie.Need-masks-at-requires
-masks-at-requires c κs = search needs
-
-add-result : tie.Need-add-result
-add-result c = search needs
-
-mul-result : tie.Need-mul-result
-mul-result c = search needs
-
-shared-slice-read-result : tie.Need-shared-slice-read-result
-shared-slice-read-result c = search needs
-
 returns : tie.Need-returns
 returns c =
     let after-masks-at : tie.After-masks-at = search in
@@ -22,4 +10,9 @@ returns c =
 
 pub votes-mask-spec : {M : Type 1} → statement M
 votes-mask-spec =
-    tie.close (tie.spec masks-at-requires add-result mul-result shared-slice-read-result returns)
+    tie.close (tie.spec
+    (λ c κs. search needs)
+    (λ c. search needs)
+    (λ c. search needs)
+    (λ c. search needs)
+    returns)

@@ -11,18 +11,12 @@ returns : tie.Need-returns
 unfolding askJournal
 returns c = stop _ _ (ne-eqb _ _ (c .if1 .taken))
 
-is-well-formed-requires : tie.Need-is-well-formed-requires
-is-well-formed-requires c κs = search needs
-
 returns-2 : tie.Need-returns-2
 unfolding askJournal
 returns-2 c =
     let after-is-well-formed : tie.After-is-well-formed = search in
     let else1 : tie.Else1 = search in
     next _ _ (eq-eqb _ _ (else1 .if1 .left)) (stop _ _ (failed (after-is-well-formed .is-well-formed .ensures) (c .if2 .taken)))
-
-shared-slice-read-if3 : tie.Need-shared-slice-read-if3
-shared-slice-read-if3 c = search needs
 
 returns-3 : tie.Need-returns-3
 unfolding askJournal
@@ -45,4 +39,10 @@ returns-4 c =
 pub ask-journal-spec : {M : Type 1} → statement M
 ask-journal-spec =
     tie.close
-    (tie.spec returns is-well-formed-requires returns-2 shared-slice-read-if3 returns-3 returns-4)
+    (tie.spec
+    returns
+    (λ c κs. search needs)
+    returns-2
+    (λ c. search needs)
+    returns-3
+    returns-4)

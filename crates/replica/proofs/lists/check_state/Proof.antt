@@ -9,9 +9,6 @@ use Rattle.replica.proofs.lists.check_state.Tie as tie
 returns : tie.Need-returns
 returns c = stop _ _ (ne-eqb _ _ (c .if1 .taken))
 
-is-well-formed-requires : tie.Need-is-well-formed-requires
-is-well-formed-requires c κs = search needs
-
 returns-2 : tie.Need-returns-2
 returns-2 c =
     let after-is-well-formed : tie.After-is-well-formed = search in
@@ -25,4 +22,8 @@ returns-3 c =
     next _ _ (eq-eqb _ _ (else1 .if1 .left)) (next _ _ (passed (after-is-well-formed .is-well-formed .ensures) (c .if2 .left)) done)
 
 pub check-state-spec : {M : Type 1} → statement M
-check-state-spec = tie.close (tie.spec returns is-well-formed-requires returns-2 returns-3)
+check-state-spec = tie.close (tie.spec
+    returns
+    (λ c κs. search needs)
+    returns-2
+    returns-3)

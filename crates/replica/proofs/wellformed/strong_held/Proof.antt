@@ -8,16 +8,14 @@ use Rattle.replica.proofs.wellformed.strong_held.Tie as tie
 returns : tie.Need-returns
 returns c = sym (or-left _ (lt-ltb _ _ (c .if1 .taken)))
 
-sub-held-mask : tie.Need-sub-held-mask
-sub-held-mask c = search needs
-
-held-mask-requires : tie.Need-held-mask-requires
-held-mask-requires c κs = search needs
-
 returns-2 : tie.Need-returns-2
 returns-2 c =
     let else1 : tie.Else1 = search in
     rw (le-ltb _ _ (else1 .if1 .left), c .held-mask .ensures)
 
 pub strong-held-spec : {M : Type 1} → statement M
-strong-held-spec = tie.close (tie.spec returns sub-held-mask held-mask-requires returns-2)
+strong-held-spec = tie.close (tie.spec
+    returns
+    (λ c. search needs)
+    (λ c κs. search needs)
+    returns-2)

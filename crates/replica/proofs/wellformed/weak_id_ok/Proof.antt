@@ -10,22 +10,10 @@ use Rattle.replica.proofs.wellformed.weak_id_ok.Tie as tie
 returns : tie.Need-returns
 returns c = sym (and-fails-left _ (le-ltb _ _ (c .if1 .taken)))
 
-sub-if2 : tie.Need-sub-if2
-sub-if2 c = search needs
-
-mul-if2 : tie.Need-mul-if2
-mul-if2 c = search needs
-
 returns-2 : tie.Need-returns-2
 returns-2 c =
     let start : tie.Start = search in
     sym (weak-beyond (start .args .state .now) (start .args .n) (start .args .round) (start .args .last) (start .args .x) (start .pre .3) (c .if2 .taken))
-
-held-mask-requires : tie.Need-held-mask-requires
-held-mask-requires c κs = search needs
-
-has-requires : tie.Need-has-requires
-has-requires c κs = search needs
 
 returns-3 : tie.Need-returns-3
 returns-3 c =
@@ -40,4 +28,11 @@ returns-3 c =
 pub weak-id-ok-spec : {M : Type 1} → statement M
 weak-id-ok-spec =
     tie.close
-    (tie.spec returns sub-if2 mul-if2 returns-2 held-mask-requires has-requires returns-3)
+    (tie.spec
+    returns
+    (λ c. search needs)
+    (λ c. search needs)
+    returns-2
+    (λ c κs. search needs)
+    (λ c κs. search needs)
+    returns-3)

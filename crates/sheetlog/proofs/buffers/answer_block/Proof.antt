@@ -7,10 +7,6 @@ use lib.ListN.{length}
 use borrow.Author.Needs.{needs}
 use Rattle.sheetlog.proofs.buffers.answer_block.Statement.{statement}
 use Rattle.sheetlog.proofs.buffers.answer_block.Tie as tie
-use Rattle.sheetlog.proofs.buffers.answer_block.Reads as reads
-use Rattle.sheetlog.proofs.buffers.answer_block.Lts as lts
-use Rattle.sheetlog.proofs.buffers.flush.Reads as flush-reads
-use Rattle.sheetlog.proofs.buffers.take_byte.Reads as take-byte-reads
 
 abbrev Inv-loop : tie.InvT-loop
 Inv-loop input line₀ kept out₀ state₀ fill₀ i₀ line out state fill i = (i ≤ length input) × (fill .kept ≤ length line₀) × (fill .filled ≤ length out₀)

@@ -2,17 +2,6 @@ use Rattle.sheetlog.proofs.Feeding.{keeps-more, keeps-full}
 use borrow.Author.Needs.{needs}
 use Rattle.sheetlog.proofs.buffers.keep.Statement.{statement}
 use Rattle.sheetlog.proofs.buffers.keep.Tie as tie
-use Rattle.sheetlog.proofs.buffers.keep.Reads as reads
-use Rattle.sheetlog.proofs.buffers.keep.Lts as lts
-
-slice-write-line : tie.Need-slice-write-line
-slice-write-line c = search needs
-
-add-result : tie.Need-add-result
-add-result c = search needs
-
-same-length : tie.Need-same-length
-same-length c = search needs
 
 returns : tie.Need-returns
 returns c =
@@ -25,4 +14,9 @@ returns-2 c =
     (search needs, λ whole k. keeps-full whole _ (start .pre .0) (c .if1 .left) k)
 
 pub keep-spec : {M : Type 1} → statement M
-keep-spec = tie.close (tie.spec slice-write-line add-result same-length returns returns-2)
+keep-spec = tie.close (tie.spec
+    (λ c. search needs)
+    (λ c. search needs)
+    (λ c. search needs)
+    returns
+    returns-2)

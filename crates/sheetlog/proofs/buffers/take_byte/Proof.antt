@@ -4,10 +4,6 @@ use mathlib.Core.Path.{sym}
 use borrow.Author.Needs.{needs}
 use Rattle.sheetlog.proofs.buffers.take_byte.Statement.{statement}
 use Rattle.sheetlog.proofs.buffers.take_byte.Tie as tie
-use Rattle.sheetlog.proofs.buffers.take_byte.Reads as reads
-use Rattle.sheetlog.proofs.buffers.take_byte.Lts as lts
-use Rattle.sheetlog.proofs.buffers.answer_kept.Reads as answer-kept-reads
-use Rattle.sheetlog.proofs.buffers.keep.Reads as keep-reads
 
 slice-aggregate-answer-kept : tie.Need-slice-aggregate-answer-kept
 slice-aggregate-answer-kept c =

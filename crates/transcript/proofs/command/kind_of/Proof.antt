@@ -2,8 +2,6 @@ use borrow.Author.Tests.{ne-eqb}
 use mathlib.Core.Path.{refl}
 use Rattle.transcript.proofs.command.kind_of.Statement.{statement}
 use Rattle.transcript.proofs.command.kind_of.Tie as tie
-use Rattle.transcript.proofs.command.kind_of.Reads as reads
-use Rattle.transcript.proofs.command.kind_of.Lts as lts
 
 returns : tie.Need-returns
 returns c = rw (c .match .keys1) refl
@@ -25,4 +23,10 @@ returns-6 c = let h = c .match .rest in
     simp (ne-eqb _ 79 (h .0 .0 .0 .0 .1), ne-eqb _ 86 (h .0 .0 .0 .1), ne-eqb _ 70 (h .0 .0 .1), ne-eqb _ 84 (h .0 .1), ne-eqb _ 78 (h .1))
 
 pub kind-of-spec : {M : Type 1} → statement M
-kind-of-spec = tie.close (tie.spec returns returns-2 returns-3 returns-4 returns-5 returns-6)
+kind-of-spec = tie.close (tie.spec
+    returns
+    returns-2
+    returns-3
+    returns-4
+    returns-5
+    returns-6)

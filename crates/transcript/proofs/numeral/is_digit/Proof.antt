@@ -2,8 +2,6 @@ use Rattle.transcript.specs.Grammar.{isDigit}
 use borrow.Author.Tests.{le-leb, lt-leb}
 use Rattle.transcript.proofs.numeral.is_digit.Statement.{statement}
 use Rattle.transcript.proofs.numeral.is_digit.Tie as tie
-use Rattle.transcript.proofs.numeral.is_digit.Reads as reads
-use Rattle.transcript.proofs.numeral.is_digit.Lts as lts
 
 returns : tie.Need-returns
 unfolding isDigit
@@ -14,4 +12,6 @@ unfolding isDigit
 returns-2 c = simp (le-leb 48 _ (c .if1 .left))
 
 pub is-digit-spec : {M : Type 1} → statement M
-is-digit-spec = tie.close (tie.spec returns returns-2)
+is-digit-spec = tie.close (tie.spec
+    returns
+    returns-2)

@@ -2,17 +2,12 @@ use Rattle.transcript.proofs.Numerals.{led-none, led-one, led-more}
 use borrow.Author.Needs.{needs}
 use Rattle.transcript.proofs.numeral.is_led.Statement.{statement}
 use Rattle.transcript.proofs.numeral.is_led.Tie as tie
-use Rattle.transcript.proofs.numeral.is_led.Reads as reads
-use Rattle.transcript.proofs.numeral.is_led.Lts as lts
 
 returns : tie.Need-returns
 returns c = led-none _ (c .if1 .taken)
 
 returns-2 : tie.Need-returns-2
 returns-2 c = led-one _ (c .if2 .taken)
-
-shared-slice-read-result : tie.Need-shared-slice-read-result
-shared-slice-read-result c = search needs
 
 returns-3 : tie.Need-returns-3
 returns-3 c =
@@ -21,4 +16,8 @@ returns-3 c =
     led-more _ (else1 .if1 .left) (else2 .if2 .left)
 
 pub is-led-spec : {M : Type 1} → statement M
-is-led-spec = tie.close (tie.spec returns returns-2 shared-slice-read-result returns-3)
+is-led-spec = tie.close (tie.spec
+    returns
+    returns-2
+    (λ c. search needs)
+    returns-3)

@@ -7,8 +7,6 @@ use Rattle.transcript.proofs.Words.{word-stop, word-next, word-none}
 use borrow.Author.Needs.{needs}
 use Rattle.transcript.proofs.numeral.word_end.Statement.{statement}
 use Rattle.transcript.proofs.numeral.word_end.Tie as tie
-use Rattle.transcript.proofs.numeral.word_end.Reads as reads
-use Rattle.transcript.proofs.numeral.word_end.Lts as lts
 
 abbrev Inv-loop : tie.InvT-loop
 Inv-loop line from i₀ i = (i ≤ length line) × (i + length (upToSpace (drop i line)) ≡ from + length (upToSpace (drop from line)))

@@ -5,11 +5,6 @@ use Rattle.transcript.proofs.Digits.{an-answer, items-few, decimal-few}
 use borrow.Author.Needs.{needs}
 use Rattle.transcript.proofs.text.answer_line.Statement.{statement}
 use Rattle.transcript.proofs.text.answer_line.Tie as tie
-use Rattle.transcript.proofs.text.answer_line.Reads as reads
-use Rattle.transcript.proofs.text.answer_line.Lts as lts
-use Rattle.transcript.proofs.text.put_byte.Reads as put-byte-reads
-use Rattle.transcript.proofs.text.put_items.Reads as put-items-reads
-use Rattle.transcript.proofs.text.put_number.Reads as put-number-reads
 
 put-items-requires : tie.Need-put-items-requires
 put-items-requires c κs =

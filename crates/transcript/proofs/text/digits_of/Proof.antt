@@ -9,9 +9,6 @@ use Rattle.transcript.proofs.Digits.{digits-done, digits-out, digits-tu
 use borrow.Author.Needs.{needs}
 use Rattle.transcript.proofs.text.digits_of.Statement.{statement}
 use Rattle.transcript.proofs.text.digits_of.Tie as tie
-use Rattle.transcript.proofs.text.digits_of.Reads as reads
-use Rattle.transcript.proofs.text.digits_of.Lts as lts
-use Rattle.transcript.proofs.text.last_digit.Reads as last-digit-reads
 
 abbrev Inv-loop : tie.InvT-loop
 Inv-loop n bytes₀ rest₀ i₀ bytes rest i = (i ≤ 10) × (length bytes ≡ 10) × (digitsFrom i rest ++ drop i bytes ≡ digitsFrom 10 n)

@@ -3,10 +3,6 @@ use Rattle.transcript.proofs.Digits.{no-list, a-list, items-few}
 use borrow.Author.Needs.{needs}
 use Rattle.transcript.proofs.text.list_line.Statement.{statement}
 use Rattle.transcript.proofs.text.list_line.Tie as tie
-use Rattle.transcript.proofs.text.list_line.Reads as reads
-use Rattle.transcript.proofs.text.list_line.Lts as lts
-use Rattle.transcript.proofs.text.put_byte.Reads as put-byte-reads
-use Rattle.transcript.proofs.text.put_items.Reads as put-items-reads
 
 returns : tie.Need-returns
 returns c =

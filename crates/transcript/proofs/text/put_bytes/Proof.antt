@@ -6,8 +6,6 @@ use Rattle.transcript.specs.Text.{Appended}
 use borrow.Author.Needs.{needs}
 use Rattle.transcript.proofs.text.put_bytes.Statement.{statement}
 use Rattle.transcript.proofs.text.put_bytes.Tie as tie
-use Rattle.transcript.proofs.text.put_bytes.Reads as reads
-use Rattle.transcript.proofs.text.put_bytes.Lts as lts
 
 abbrev Inv-loop : tie.InvT-loop
 Inv-loop out₀ at text i₀ out i = (i ≤ length text) × Appended out₀ at (take i text) out (at + i)

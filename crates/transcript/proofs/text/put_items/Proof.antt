@@ -8,10 +8,6 @@ use Rattle.transcript.proofs.Digits.{appended-none, appended-item, item
 use borrow.Author.Needs.{needs}
 use Rattle.transcript.proofs.text.put_items.Statement.{statement}
 use Rattle.transcript.proofs.text.put_items.Tie as tie
-use Rattle.transcript.proofs.text.put_items.Reads as reads
-use Rattle.transcript.proofs.text.put_items.Lts as lts
-use Rattle.transcript.proofs.text.put_byte.Reads as put-byte-reads
-use Rattle.transcript.proofs.text.put_number.Reads as put-number-reads
 
 abbrev Inv-loop : tie.InvT-loop
 Inv-loop out₀ at numbers end₀ i₀ out end i = (i ≤ length numbers) × (end ≤ at + 11 * i) × Appended out₀ at (items (take i numbers)) out end

@@ -3,10 +3,6 @@ use Rattle.transcript.proofs.Digits.{digits-part}
 use borrow.Author.Needs.{needs}
 use Rattle.transcript.proofs.text.put_number.Statement.{statement}
 use Rattle.transcript.proofs.text.put_number.Tie as tie
-use Rattle.transcript.proofs.text.put_number.Reads as reads
-use Rattle.transcript.proofs.text.put_number.Lts as lts
-use Rattle.transcript.proofs.text.digits_of.Reads as digits-of-reads
-use Rattle.transcript.proofs.text.put_bytes.Reads as put-bytes-reads
 
 part-put-bytes-end : tie.Need-part-put-bytes-end
 part-put-bytes-end c = omega arith

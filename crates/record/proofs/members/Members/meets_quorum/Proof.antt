@@ -2,12 +2,6 @@ use Rattle.record.specs.Members.{meets}
 use borrow.Author.Needs.{needs}
 use Rattle.record.proofs.members.Members.meets_quorum.Statement.{statement}
 use Rattle.record.proofs.members.Members.meets_quorum.Tie as tie
-use Rattle.record.proofs.members.Members.meets_quorum.Reads as reads
-use Rattle.record.proofs.members.Members.meets_quorum.Lts as lts
-use Rattle.record.proofs.members.quorum_of.Reads as quorum-of-reads
-
-quorum-of-requires : tie.Need-quorum-of-requires
-quorum-of-requires c κs = search needs
 
 returns : tie.Need-returns
 unfolding meets
@@ -16,4 +10,6 @@ returns c =
     rw (after-quorum-of .quorum-of .ensures)
 
 pub meets-quorum-spec : {M : Type 1} → statement M
-meets-quorum-spec = tie.close (tie.spec quorum-of-requires returns)
+meets-quorum-spec = tie.close (tie.spec
+    (λ c κs. search needs)
+    returns)

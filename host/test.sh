@@ -1,11 +1,11 @@
 #!/usr/bin/env bash
 # Builds the example programs with warnings as errors, runs them, and compares them on the same calls with sheetlog, the proved one
-# and the second implementation's. `rt staticlib capi` must have written target/staticlib/libcapi.a.
+# and the second implementation's. `rt staticlib yardbook` must have written target/staticlib/libyardbook.a.
 set -euo pipefail
 cd "$(dirname "${BASH_SOURCE[0]}")/.."
 
-library=target/staticlib/libcapi.a
-[ -f "$library" ] || { echo "host: $library is missing: run rt staticlib capi" >&2; exit 1; }
+library=target/staticlib/libyardbook.a
+[ -f "$library" ] || { echo "host: $library is missing: run rt staticlib yardbook" >&2; exit 1; }
 out=target/host
 mkdir -p "$out"
 warnings=(-Wall -Wextra -Wpedantic -Wconversion -Wshadow -Werror)

@@ -25,6 +25,8 @@
 extern "C" {
 #endif
 
+#define YARDBOOK_VERSION "0.1.0"
+
 /* Words of a replica state, and of a record. */
 #define YARDBOOK_STATE_WORDS 5864
 #define YARDBOOK_RECORD_WORDS 12

@@ -1,5 +1,5 @@
 /*
- * Yardbook ordering engine: the C interface of libcapi.a.
+ * Yardbook ordering engine: the C interface of libyardbook.a.
  *
  * The host lends a replica state of YARDBOOK_STATE_WORDS words and calls. The library keeps nothing between calls, has no
  * globals, allocates nothing and calls nothing but memset. Each call is proved equal to its written definition for every
@@ -24,6 +24,8 @@
 #ifdef __cplusplus
 extern "C" {
 #endif
+
+#define YARDBOOK_VERSION "0.1.0"
 
 /* Words of a replica state, and of a record. */
 #define YARDBOOK_STATE_WORDS 5864

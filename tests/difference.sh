@@ -4,11 +4,11 @@
 set -euo pipefail
 cd "$(dirname "${BASH_SOURCE[0]}")/.."
 
-# The folder of libcapi.a, and a target folder of its own.
+# The folder of libyardbook.a, and a target folder of its own.
 export YARDBOOK_LIBRARY=$PWD/target/staticlib
 export CARGO_TARGET_DIR=$PWD/difference/target
 
-rt staticlib capi >/dev/null
+rt staticlib yardbook >/dev/null
 cargo build --manifest-path difference/Cargo.toml --release --offline --locked --quiet
 if [ $# -eq 0 ]; then
     cargo test --manifest-path difference/Cargo.toml --release --offline --locked --quiet

@@ -29,7 +29,7 @@ struct Part {
 }
 
 #[rustfmt::skip]
-#[link(name = "capi", kind = "static")]
+#[link(name = "yardbook", kind = "static")]
 extern "C" {
     fn yardbook_open(state: *mut u32, words: usize, n: u32) -> Answer;
     fn yardbook_take_vertex(state: *mut u32, words: usize, record: *const u32, length: usize) -> Answer;
@@ -43,7 +43,7 @@ extern "C" {
     fn yardbook_hand_journal(state: *const u32, words: usize, k: u32) -> Part;
 }
 
-/// The library `libcapi.a`.
+/// The library `libyardbook.a`.
 pub struct Proved;
 
 impl Engine for Proved {

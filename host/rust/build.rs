@@ -1,4 +1,4 @@
-//! Links libcapi.a from YARDBOOK_LIB, or from where `rt staticlib capi` writes it in this repository.
+//! Links libyardbook.a from YARDBOOK_LIB, or from where `rt staticlib yardbook` writes it in this repository.
 use std::env;
 use std::path::PathBuf;
 
@@ -8,7 +8,7 @@ fn main() {
         Some(folder) => PathBuf::from(folder),
         None => PathBuf::from(env!("CARGO_MANIFEST_DIR")).join("../../target/staticlib"),
     };
-    println!("cargo:rerun-if-changed={}", folder.join("libcapi.a").display());
+    println!("cargo:rerun-if-changed={}", folder.join("libyardbook.a").display());
     println!("cargo:rustc-link-search=native={}", folder.display());
-    println!("cargo:rustc-link-lib=static=capi");
+    println!("cargo:rustc-link-lib=static=yardbook");
 }

@@ -4,14 +4,20 @@ use mathlib.Core.Bool.{Bool, true, false, cond}
 use mathlib.Core.List.{List, [], _∷_}
 use Prim.Native.Nat.{ℕ, _+_, _-_, _≤_, _<_}
 use native.Mathlib.Omega.{arith}
-use lib.ListN.{getD, drop}
+use lib.ListN.{getD, set, drop}
 use lib.Seq.{getD-drop}
-use Rattle.record.specs.Members.{leader, has}
+use Rattle.record.specs.Members.{leader, has, with}
+use Rattle.record.specs.declared.members.Members.{Members}
 use Rattle.record.specs.Layout.{bodyOf, strongOf}
 use Rattle.record.proofs.Masks.{leader-small, has-zero}
 use Rattle.replica.specs.Layout.{masksAt}
 use Rattle.replica.specs.State.{memberCount}
 use Rattle.ordering.specs.Calls.{addMember, hear}
+
+-- the word with the member added
+pub member-added : (l : List ℕ) (at n p : ℕ) (m : Members) → m ≡ with (record { bits = getD l at 0; n = n }) p → set l at (m .bits) ≡ addMember l at p
+unfolding addMember
+member-added l at n p m e = rw e
 
 -- what is known where the source is heard and the words are m: its votes are marked next if it votes for the leader, and in round 1 no one votes
 pub record Marked (l : List ℕ) (r p n strong at : ℕ) (m : List ℕ) : Type 0 where

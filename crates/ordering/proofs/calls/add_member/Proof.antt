@@ -1,11 +1,11 @@
-use Rattle.ordering.specs.Calls.{addMember}
+-- The word that is written is the mask with the member added.
+use Rattle.ordering.proofs.Heard.{member-added}
 use borrow.Author.Needs.{needs}
 use Rattle.ordering.proofs.calls.add_member.Statement.{statement}
 use Rattle.ordering.proofs.calls.add_member.Tie as tie
 
 returns : tie.Need-returns
-unfolding addMember
-returns c = rw (c .with .ensures)
+returns c = member-added _ _ _ _ (c .with .result) (c .with .ensures)
 
 pub add-member-spec : {M : Type 1} → statement M
 add-member-spec =

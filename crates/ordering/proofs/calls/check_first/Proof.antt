@@ -5,6 +5,7 @@ use Rattle.record.specs.Members.{has}
 use Rattle.record.specs.Layout.{roundOf, sourceOf}
 use Rattle.record.specs.Refusals.{Question}
 use Rattle.record.specs.declared.refusal.Refusal.the-variants.{Duplicate}
+use mathlib.Core.Path.{_≡_, sym, ap, _∙_}
 use mathlib.Core.Bool.{not}
 use mathlib.Core.List.{List, [], _∷_}
 use Prim.Native.Nat.{ℕ}
@@ -55,11 +56,15 @@ shared-slice-read-has c = let k = known (search) in search needs
 has-requires : tie.Need-has-requires
 has-requires c κs = let k = known (search) in search needs
 
+-- what question 12 finds in the heard mask
+heard : (c : tie.After-has) → c .has .result ≡ has (heardMask (words (search)) (roundOf (rec (search)))) (sourceOf (rec (search)))
+heard c = let m : tie.After-heard-mask = search in c .has .ensures ∙ ap (λ (x : ℕ). has x (sourceOf (rec (search)))) (m .heard-mask .ensures)
+
 returns-3 : tie.Need-returns-3
-returns-3 c = known (search) .last _ (heard-before _ _ (cc))
+returns-3 c = known (search) .last _ (heard-before _ _ (sym (heard (search)) ∙ c .if3 .taken))
 
 returns-4 : tie.Need-returns-4
-returns-4 c = known (search) .last _ (heard-first _ _ (cc))
+returns-4 c = known (search) .last _ (heard-first _ _ (sym (heard (search)) ∙ c .if3 .left))
 
 pub check-first-spec : {M : Type 1} → statement M
 check-first-spec =

@@ -29,7 +29,7 @@ use Rattle.ordering.proofs.Marks.{sound-raise, sound-timeout, sound-no-vote}
 use Rattle.agreement.specs.Call.{Call, opening, vertex, firstMessage, timeout, noVote, status, askLeaderList, askJournalList, handLeaderList}
 use Rattle.agreement.specs.Call.{handJournalList, outcomeOf, run, allowed, allAllowed}
 use Rattle.agreement.specs.Model.{Model, empty, admit, follow, modelOf, dagOf}
-use Rattle.agreement.specs.Claim.{Premises, Matches, Agreed, AgreementClaim}
+use Rattle.agreement.specs.Claim.{Premises, Matches, Behind, Agreed, AgreementClaim}
 use Rattle.agreement.proofs.Records.{records-none}
 use Rattle.agreement.proofs.Family.{Inside, inside-self, inside-then, Either, either-before, Part, partDag, family}
 use Rattle.agreement.proofs.Tracking.{at-open, at-leaders, at-journal}
@@ -191,7 +191,7 @@ module _ (n : ℕ) (a b : Model) (honest : ℕ → Bool) (g : legal n ≡ true) 
               ∙ ap (λ (x : ℕ). journal x (dagOf m)) (sym count);
         }
 
-  -- and of both, one is a prefix of the other
+  -- and those of the one are prefixes of the other's
   agreed : (l k : List ℕ) → a .n ≡ n → b .n ≡ n → Follows n l a → Follows n k b → Agreed l k a b
   agreed l k ca cb f h =
       let x = matches l a ca f in
@@ -202,8 +202,16 @@ module _ (n : ℕ) (a b : Model) (honest : ℕ → Bool) (g : legal n ≡ true) 
       record {
         first = x;
         second = y;
-        leader-lists = rw (x .leader-list, y .leader-list, ca, cb) (⊎-elim (λ e. inl (e .0)) (λ e. inr (e .0)) both);
-        journals = rw (x .journal-list, y .journal-list, ca, cb) (⊎-elim (λ e. inl (e .1)) (λ e. inr (e .1)) both);
+        ordered = ⊎-elim
+            (λ e. inl (record {
+              leader-list = rw (x .leader-list, y .leader-list, ca, cb) (e .0);
+              journal-list = rw (x .journal-list, y .journal-list, ca, cb) (e .1);
+            }))
+            (λ e. inr (record {
+              leader-list = rw (x .leader-list, y .leader-list, ca, cb) (e .0);
+              journal-list = rw (x .journal-list, y .journal-list, ca, cb) (e .1);
+            }))
+            both;
       }
 
 -- THE CLAIM

@@ -44,21 +44,21 @@ module _ (n : ℕ) (a b : Model) (honest : ℕ → Bool) where
     pub no-both : (x y : List ℕ) → Vertex x ⊎ First x → Vertex y → roundOf x ≡ roundOf y → honest (sourceOf x) ≡ true
         → votes n (roundOf x - 1) (bodyOf x) ≡ true → has (noVotesOf (bodyOf y)) (sourceOf x) ≡ true → ⊥
 
--- one list is the beginning of the other
-abbrev pub OnePrefix : List ℕ → List ℕ → Type 0
-OnePrefix xs ys = Prefix xs ys ⊎ Prefix ys xs
+-- both lists of the state l are prefixes of those of the state k
+pub record Behind (l k : List ℕ) : Type 0 where
+  pub leader-list : Prefix (handLeaders l 0) (handLeaders k 0)
+  pub journal-list : Prefix (handJournal l 0) (handJournal k 0)
 
 -- the lists that handing over from entry 0 gives of a state are those of the model
 pub record Matches (l : List ℕ) (m : Model) : Type 0 where
   pub leader-list : handLeaders l 0 ≡ leaders (m .n) (dagOf m)
   pub journal-list : handJournal l 0 ≡ journal (m .n) (dagOf m)
 
--- The states l and k after two lists of calls: each has exactly its model's lists, and of both lists one is a prefix of the other.
+-- The states l and k after two lists of calls: each has exactly its model's lists, and leader list and journal of the one are prefixes of the other's.
 pub record Agreed (l k : List ℕ) (a b : Model) : Type 0 where
   pub first : Matches l a
   pub second : Matches k b
-  pub leader-lists : OnePrefix (handLeaders l 0) (handLeaders k 0)
-  pub journals : OnePrefix (handJournal l 0) (handJournal k 0)
+  pub ordered : Behind l k ⊎ Behind k l
 
 -- THE CLAIM. Two states are opened with answer 0 and the same n, each on any words; then any two lists of calls follow.
 abbrev pub AgreementClaim : Type 0

@@ -9,7 +9,7 @@ use borrow.Author.Tests.{lt-ltb, eq-eqb}
 use lib.Dec.{eqb}
 use lib.ListN.{length, getD, set}
 use lib.Seq.{getD-set-other}
-use Rattle.record.specs.Below.{select}
+use Rattle.record.specs.Below.{count, select}
 use Rattle.record.specs.Members.{leader, has, add, idRound, idMember}
 use Rattle.record.specs.Questions.{roundOk}
 use Rattle.record.proofs.Booleans.{which, and-cong, or-left, or-right}
@@ -24,8 +24,8 @@ use Rattle.protocol.proofs.Laws.{chain-bounds, chain-length}
 use Rattle.replica.specs.Layout.{orderedAt}
 use Rattle.replica.specs.State.{memberCount, committedRound, leaderCount, journalCount, orderedMask, vertices, orderedId}
 use Rattle.commits.specs.Commit.{appendLeader, appendLeaders, enter, enterAll, orderLeader, orderLeaders, commit}
-use Rattle.commits.specs.Standing.{Standing, Room}
-use Rattle.commits.proofs.Steps.{select-zero, select-in, select-out, append-count}
+use Rattle.commits.specs.Standing.{Standing, Room, LeaderRoom}
+use Rattle.commits.proofs.Steps.{select-zero, select-in, select-out, length-select, append-count}
 use Rattle.commits.proofs.Frame.{Alike, alike-self, alike-then, alike-set, loose-head, loose-list, vertices-same, standing-kept}
 use Rattle.commits.proofs.Entering.{leader-alike, leader-room}
 
@@ -175,6 +175,7 @@ quiet-room {l} {m} q R = omega (
 -- what each later step may use of the rounds taken
 pub record Taken (l : List ℕ) (n q mask : ℕ) : Type 0 where
   pub none : has mask 0 ≡ false
+  pub fits : LeaderRoom l (count 32 (has mask))
   pub led : (m : List ℕ) → m ≡ appendLeaders l (select 32 (has mask)) → Led n mask (set m 2 q)
   pub done : (m o : List ℕ) → m ≡ appendLeaders l (select 32 (has mask)) → o ≡ orderLeaders (vertices (set m 2 q)) (set m 2 q) (select 32 (has mask))
       → o ≡ commit l q
@@ -211,6 +212,15 @@ module _ (n : ℕ) (l : List ℕ) (S : Standing l) (R : Room l) (e : n ≡ membe
   pub taken : Taken l n q mask
   taken = record {
     none = taken-none;
+    fits = record {
+      size = S .size;
+      room = omega (
+        arith,
+        length-select 32 (has mask),
+        ap length is,
+        chain-length n (vertices l) (committedRound l) q (omega arith),
+      );
+    };
     led = λ m d. rw d (let Q = quiet-led .0 in record {
       standing = standing-kept (Q .alike) S;
       room = quiet-room Q R;

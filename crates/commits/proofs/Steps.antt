@@ -8,7 +8,7 @@ use native.Mathlib.Nat.{add-zero, add-suc, eq-or-lt-of-le, le-of-suc-le-suc}
 use native.Mathlib.Numerals.{add-one, sub-one}
 use native.Mathlib.Omega.{arith}
 use lib.Dec.{leb}
-use lib.ListN.{getD, set, take, drop, length, length-set, length-drop}
+use lib.ListN.{getD, set, take, drop, length, length-append, length-set, length-drop}
 use lib.Seq.{getD-set-same, getD-set-other}
 use borrow.Author.Tests.{lt-ltb, le-ltb, le-leb, lt-leb, eq-eqb}
 use Rattle.record.specs.Below.{count, select}
@@ -32,7 +32,7 @@ use Rattle.replica.specs.WellFormed.{subset}
 use Rattle.replica.proofs.Laws.{subset-has}
 use Rattle.replica.proofs.Parents.{round-in}
 use Rattle.commits.specs.Commit.{appendLeader, appendLeaders, enter, enterAll, committable}
-use Rattle.commits.specs.Standing.{Standing, Room, orderId, orderRound}
+use Rattle.commits.specs.Standing.{Standing, Room, LeaderRoom, orderId, orderRound}
 use Rattle.commits.proofs.Laws.{Cell}
 
 -- a cell that lies within the state is a record's body
@@ -56,6 +56,16 @@ select-in i t e = rw (add-one i) (rw e)
 pub select-out : (i : ℕ) (t : ℕ → Bool) → t i ≡ false → select (i + 1) t ≡ select i t
 unfolding select
 select-out i t e = rw (add-one i) (rw e (append-nil (select i t)))
+
+-- as many as are counted
+pub length-select : (k : ℕ) (t : ℕ → Bool) → length (select k t) ≡ count k t
+unfolding select count
+length-select zero t = refl
+length-select (suc k) t = go (which (t k)) (length-select k t)
+  where
+    go : (t k ≡ true) ⊎ (t k ≡ false) → length (select k t) ≡ count k t → length (select (suc k) t) ≡ count (suc k) t
+    go (inl e) ih = rw e (omega (arith, length-append (select k t) (k ∷ []), ih))
+    go (inr e) ih = rw e (omega (arith, ap length (append-nil (select k t)), ih))
 
 -- ---- leaders appended
 
@@ -88,20 +98,20 @@ append-count l r e =
 pub record Appending (n : ℕ) (l₀ : List ℕ) (taken r : ℕ) (l : List ℕ) : Type 0 where
   pub size : length l ≡ 5864
   pub members : n ≡ memberCount l
-  pub few : leaderCount l ≤ 32 + r
+  pub few : leaderCount l + count 32 (has taken) ≤ 32 + count r (has taken)
   pub is : l ≡ appendLeaders l₀ (select r (has taken))
 
-pub appending-start : (n : ℕ) (l : List ℕ) (taken : ℕ) → length l ≡ 5864 → n ≡ memberCount l → leaderCount l ≤ 32 → has taken 0 ≡ false
+pub appending-start : (n : ℕ) (l : List ℕ) (taken : ℕ) → LeaderRoom l (count 32 (has taken)) → n ≡ memberCount l → has taken 0 ≡ false
     → Appending n l taken 1 l
-appending-start n l taken s m f e =
-    record { size = s; members = m; few = omega arith; is = append-none l ∙ ap (appendLeaders l) (sym (select-out 0 (has taken) e ∙ select-zero (has taken))) }
+appending-start n l taken w m e =
+    record { size = w .size; members = m; few = omega (arith, w .room); is = append-none l ∙ ap (appendLeaders l) (sym (select-out 0 (has taken) e ∙ select-zero (has taken))) }
 
 pub appending-in : (n : ℕ) (l₀ : List ℕ) (taken r : ℕ) (l l′ : List ℕ) → Appending n l₀ taken r l → has taken r ≡ true → l′ ≡ appendLeader l r
     → Appending n l₀ taken (r + 1) l′
 appending-in n l₀ taken r l l′ a e d = rw d (record {
   size = append-size l r ∙ a .size;
   members = a .members ∙ sym (append-members l r);
-  few = omega (arith, append-count l r (a .size), a .few);
+  few = omega (arith, append-count l r (a .size), a .few, count-more r (has taken) e);
   is = ap (λ (x : List ℕ). appendLeader x r) (a .is) ∙ append-more l₀ (select r (has taken)) r ∙ ap (appendLeaders l₀) (sym (select-in r (has taken) e));
 })
 
@@ -110,9 +120,22 @@ pub appending-out : (n : ℕ) (l₀ : List ℕ) (taken r : ℕ) (l l′ : List �
 appending-out n l₀ taken r l l′ a e d = rw d (record {
   size = a .size;
   members = a .members;
-  few = omega (arith, a .few);
+  few = omega (arith, a .few, count-same r (has taken) e);
   is = a .is ∙ ap (appendLeaders l₀) (sym (select-out r (has taken) e));
 })
+
+-- a bound does not lower a count
+count-grows : (k j : ℕ) (t : ℕ → Bool) → count k t ≤ count (k + j) t
+unfolding count
+count-grows k zero t = rw (add-zero k) (omega arith)
+count-grows k (suc j) t = rw (add-suc k j) (omega (arith, count-grows k j t))
+
+-- a round that is taken finds room in the list
+pub appending-room : (n : ℕ) (l₀ : List ℕ) (taken r : ℕ) (l : List ℕ) → Appending n l₀ taken r l → has taken r ≡ true → r < 32 → LeaderRoom l 1
+appending-room n l₀ taken r l a e h =
+    let d : (r + 1) + (31 - r) ≡ 32 = omega arith in
+    let up : count (r + 1) (has taken) ≤ count 32 (has taken) = rw d at (count-grows (r + 1) (31 - r) (has taken)) in
+    record { size = a .size; room = omega (arith, a .few, up, count-more r (has taken) e) }
 
 -- ---- ids entered
 

@@ -8,8 +8,8 @@ use Rattle.record.specs.Below.{count}
 use Rattle.record.specs.Members.{legal, has, idOf, idMember}
 use Rattle.protocol.specs.Journal.{idLimit}
 use Rattle.protocol.specs.Premises.{WellFormed}
-use Rattle.replica.specs.Layout.{stateSize, cellAt}
-use Rattle.replica.specs.State.{memberCount, heldMask, heardMask, votesMask, journalCount, vertices, orderedId}
+use Rattle.replica.specs.Layout.{stateSize, leadersSize, cellAt}
+use Rattle.replica.specs.State.{memberCount, heldMask, heardMask, votesMask, leaderCount, journalCount, vertices, orderedId}
 use Rattle.commits.specs.Commit.{enter}
 
 pub record Standing (l : List ℕ) : Type 0 where
@@ -23,6 +23,11 @@ pub record Standing (l : List ℕ) : Type 0 where
   pub held-low : (r : ℕ) → 1 ≤ r → r ≤ 32 → heldMask l r < 2 ^ memberCount l
   pub votes-low : (r : ℕ) → 1 ≤ r → r ≤ 32 → votesMask l r < 2 ^ memberCount l
   pub votes-heard : (r p : ℕ) → 1 ≤ r → r ≤ 32 → has (votesMask l r) p ≡ true → has (heardMask l r) p ≡ true
+
+-- a state's words, with room in the leader list for k more
+pub record LeaderRoom (l : List ℕ) (k : ℕ) : Type 0 where
+  pub size : length l ≡ stateSize
+  pub room : leaderCount l + k ≤ leadersSize
 
 -- there is room in the journal for every vertex that is not yet ordered
 abbrev pub Room : List ℕ → Type 0

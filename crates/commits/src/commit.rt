@@ -3,14 +3,14 @@ ghost use mathlib.Core.Path.{_≡_};
 ghost use mathlib.Core.Bool.{true, false};
 ghost use Prim.Native.Nat.{ℕ, suc, _<_, _≤_};
 ghost use lib.ListN.{length};
-ghost use Rattle.record.specs.Below.{select};
+ghost use Rattle.record.specs.Below.{count, select};
 ghost use Rattle.record.specs.Members.{leader, has};
 ghost use Rattle.protocol.specs.Dag.{held, committed};
 ghost use Rattle.protocol.specs.Masks.{voters};
 ghost use Rattle.replica.specs.Layout.{stateSize};
 ghost use Rattle.replica.specs.State.{memberCount, committedRound, leaderCount, journalCount, vertices, dag, orderedId};
 ghost use Rattle.commits.specs.Commit.{appendLeader, appendLeaders, enter, orderLeader, orderLeaders, commit, committable, lowest, commitAll};
-ghost use Rattle.commits.specs.Standing.{Standing, Room, orderId, orderRound};
+ghost use Rattle.commits.specs.Standing.{Standing, Room, LeaderRoom, orderId, orderRound};
 use super::history::history_of;
 use super::walk::taken_rounds;
 use record::layout::STRONG;
@@ -94,7 +94,7 @@ fn lowest_committable(state: &[u32], n: u32) -> u32
 
 // The leader of the round joins the leader list.
 fn append_leader(state: &mut [u32], n: u32, round: u32)
-    requires { ⌜ (length (now state) ≡ stateSize) × (n ≡ memberCount (now state)) × (0 < n) × (1 ≤ round) × (round ≤ 31) × (leaderCount (now state) < 100) ⌝ }
+    requires { ⌜ LeaderRoom (now state) 1 × (n ≡ memberCount (now state)) × (0 < n) × (1 ≤ round) × (round ≤ 31) ⌝ }
     ensures { λ _. ⌜ now (state .exit) ≡ appendLeader (now (state .entry)) round ⌝ }
 {
     let count = state[LEADER_COUNT];
@@ -105,7 +105,7 @@ fn append_leader(state: &mut [u32], n: u32, round: u32)
 
 // The leaders of the rounds taken, bit r for round r, join the leader list.
 fn append_leaders(state: &mut [u32], n: u32, taken: u32)
-    requires { ⌜ (length (now state) ≡ stateSize) × (n ≡ memberCount (now state)) × (0 < n) × (has taken 0 ≡ false) × (leaderCount (now state) ≤ 32) ⌝ }
+    requires { ⌜ LeaderRoom (now state) (count 32 (has taken)) × (n ≡ memberCount (now state)) × (0 < n) × (has taken 0 ≡ false) ⌝ }
     ensures { λ _. ⌜ now (state .exit) ≡ appendLeaders (now (state .entry)) (select 32 (has taken)) ⌝ }
 {
     let rounds = Members { bits: taken, n };

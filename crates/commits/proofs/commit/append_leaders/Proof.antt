@@ -1,4 +1,4 @@
-use Rattle.commits.proofs.Steps.{Appending, appending-start, appending-in, appending-out}
+use Rattle.commits.proofs.Steps.{Appending, appending-start, appending-room, appending-in, appending-out}
 use Rattle.commits.specs.Commit.{appendLeaders}
 use Rattle.record.specs.Below.{select}
 use Rattle.record.specs.Members.{has}
@@ -19,13 +19,17 @@ abbrev μ-loop : tie.MeasureT-loop
 loop-holds : tie.Need-loop-holds Inv-loop μ-loop
 loop-holds c =
     let start : tie.Start Inv-loop μ-loop = search in
-    (omega arith, omega arith, appending-start _ _ _ (start .pre .0) (start .pre .1) (start .pre .4) (start .pre .3))
+    (omega arith, omega arith, appending-start _ _ _ (start .pre .0) (start .pre .1) (start .pre .3))
 
 append-leader-requires : tie.Need-append-leader-requires Inv-loop μ-loop
 append-leader-requires c κs =
     let at-loop : tie.At-loop Inv-loop μ-loop = search in
     let start : tie.Start Inv-loop μ-loop = search in
-    (at-loop .loop .inv .2 .size, at-loop .loop .inv .2 .members, start .pre .2, at-loop .loop .inv .0, omega arith, omega (arith, at-loop .loop .inv .2 .few))
+    let after-has : tie.After-has Inv-loop μ-loop = search in
+    let then1 : tie.Then1 Inv-loop μ-loop = search in
+    let a = at-loop .loop .inv .2 in
+    let room = appending-room _ _ _ _ _ a (sym (after-has .has .ensures) ∙ then1 .if1 .taken) (omega arith) in
+    (room, a .members, start .pre .2, at-loop .loop .inv .0, omega arith)
 
 loop-again : tie.Need-loop-again Inv-loop μ-loop
 loop-again c =

@@ -24,7 +24,7 @@ use Rattle.protocol.proofs.Laws.{chain-bounds, chain-length}
 use Rattle.replica.specs.Layout.{orderedAt}
 use Rattle.replica.specs.State.{memberCount, committedRound, leaderCount, journalCount, orderedMask, vertices, orderedId}
 use Rattle.commits.specs.Commit.{appendLeader, appendLeaders, enter, enterAll, orderLeader, orderLeaders, commit}
-use Rattle.commits.specs.Standing.{Standing, Room, LeaderRoom}
+use Rattle.commits.specs.Standing.{Standing, Room, LeaderRoom, LeadersReady}
 use Rattle.commits.proofs.Steps.{select-zero, select-in, select-out, length-select, append-count}
 use Rattle.commits.proofs.Frame.{Alike, alike-self, alike-then, alike-set, loose-head, loose-list, vertices-same, standing-kept}
 use Rattle.commits.proofs.Entering.{leader-alike, leader-room}
@@ -40,21 +40,14 @@ unfolding orderLeaders
 order-more v l [] r = refl
 order-more v l (x ∷ rs) r = order-more v (orderLeader v l x) rs r
 
--- what the ordering asks of a state
-pub record Led (n mask : ℕ) (l : List ℕ) : Type 0 where
-  pub standing : Standing l
-  pub room : Room l
-  pub members : n ≡ memberCount l
-  pub there : (r : ℕ) → r < 32 → has mask r ≡ true → held (vertices l) r (leader n r) ≡ true
-
 -- the histories of the leaders of the rounds below r that are taken have been ordered
 pub record Ordering (n : ℕ) (l₀ : List ℕ) (mask r : ℕ) (l : List ℕ) : Type 0 where
   pub alike : Alike l₀ l
-  pub led : Led n mask l
+  pub led : LeadersReady n mask l
   pub is : l ≡ orderLeaders (vertices l₀) l₀ (select r (has mask))
 
 module _ (n : ℕ) (l₀ : List ℕ) (mask : ℕ) where
-  pub ordering-start : Led n mask l₀ → has mask 0 ≡ false → Ordering n l₀ mask 1 l₀
+  pub ordering-start : LeadersReady n mask l₀ → has mask 0 ≡ false → Ordering n l₀ mask 1 l₀
   ordering-start L z = record {
     alike = alike-self l₀;
     led = L;
@@ -176,7 +169,7 @@ quiet-room {l} {m} q R = omega (
 pub record Taken (l : List ℕ) (n q mask : ℕ) : Type 0 where
   pub none : has mask 0 ≡ false
   pub fits : LeaderRoom l (count 32 (has mask))
-  pub led : (m : List ℕ) → m ≡ appendLeaders l (select 32 (has mask)) → Led n mask (set m 2 q)
+  pub led : (m : List ℕ) → m ≡ appendLeaders l (select 32 (has mask)) → LeadersReady n mask (set m 2 q)
   pub done : (m o : List ℕ) → m ≡ appendLeaders l (select 32 (has mask)) → o ≡ orderLeaders (vertices (set m 2 q)) (set m 2 q) (select 32 (has mask))
       → o ≡ commit l q
 

@@ -20,7 +20,7 @@ use Rattle.protocol.proofs.Chain.{chain-held}
 use Rattle.protocol.proofs.Laws.{chain-length}
 use Rattle.replica.specs.State.{memberCount, committedRound, leaderCount, vertices, dag}
 use Rattle.commits.specs.Commit.{appendLeaders, taken, commit, committable, lowest, commitUpTo}
-use Rattle.commits.specs.Standing.{Standing, Room}
+use Rattle.commits.specs.Standing.{Standing, Room, Going}
 use Rattle.commits.proofs.Steps.{committable-low}
 use Rattle.commits.proofs.Frame.{Alike, alike-self, alike-then, vertices-same, standing-kept}
 use Rattle.commits.proofs.Committing.{Quiet, quiet-leaders, quiet-head, quiet-then, quiet-room, order-head, ordered-kept}
@@ -40,13 +40,6 @@ committable-is l q e =
       high = leb-true q 31 (and-left (leb q 31) _ rest);
       there = committed-held (memberCount l) (dag l) q (and-right (leb q 31) _ rest);
     }
-
--- what the commits keep from one to the next
-pub record Going (l : List ℕ) : Type 0 where
-  pub standing : Standing l
-  pub room : Room l
-  pub few : leaderCount l ≤ committedRound l
-  pub high : committedRound l ≤ 31
 
 module _ (l : List ℕ) (G : Going l) (q : ℕ) (c : Committable l q) where
   led : Quiet l (set (appendLeaders l (taken l q)) 2 q) × (leaderCount (appendLeaders l (taken l q)) ≤ q)

@@ -5,11 +5,12 @@ use mathlib.Core.List.{List}
 use Prim.Native.Nat.{ℕ, zero, suc, _+_, _^_, _≤_, _<_}
 use lib.ListN.{length, getD}
 use Rattle.record.specs.Below.{count}
-use Rattle.record.specs.Members.{legal, has, idOf, idMember}
+use Rattle.record.specs.Members.{legal, leader, has, idOf, idMember}
+use Rattle.protocol.specs.Dag.{held}
 use Rattle.protocol.specs.Journal.{idLimit}
 use Rattle.protocol.specs.Premises.{WellFormed}
 use Rattle.replica.specs.Layout.{stateSize, leadersSize, cellAt}
-use Rattle.replica.specs.State.{memberCount, heldMask, heardMask, votesMask, leaderCount, journalCount, vertices, orderedId}
+use Rattle.replica.specs.State.{memberCount, committedRound, leaderCount, journalCount, heldMask, heardMask, votesMask, vertices, orderedId}
 use Rattle.commits.specs.Commit.{enter}
 
 pub record Standing (l : List ℕ) : Type 0 where
@@ -32,6 +33,33 @@ pub record LeaderRoom (l : List ℕ) (k : ℕ) : Type 0 where
 -- there is room in the journal for every vertex that is not yet ordered
 abbrev pub Room : List ℕ → Type 0
 Room l = journalCount l ≤ count idLimit (orderedId l)
+
+-- the vertex of round r's leader is held
+abbrev pub LeaderHeld : List ℕ → ℕ → ℕ → Type 0
+LeaderHeld l n r = held (vertices l) r (leader n r) ≡ true
+
+-- what ordering the history of round r's leader asks
+pub record LeaderReady (l : List ℕ) (n r : ℕ) : Type 0 where
+  pub standing : Standing l
+  pub room : Room l
+  pub members : n ≡ memberCount l
+  pub low : 1 ≤ r
+  pub high : r ≤ 31
+  pub there : LeaderHeld l n r
+
+-- what ordering the histories of the leaders of the rounds taken asks, bit r for round r
+pub record LeadersReady (n taken : ℕ) (l : List ℕ) : Type 0 where
+  pub standing : Standing l
+  pub room : Room l
+  pub members : n ≡ memberCount l
+  pub there : (r : ℕ) → r < 32 → has taken r ≡ true → LeaderHeld l n r
+
+-- what the commits ask, and keep from one to the next
+pub record Going (l : List ℕ) : Type 0 where
+  pub standing : Standing l
+  pub room : Room l
+  pub few : leaderCount l ≤ committedRound l
+  pub high : committedRound l ≤ 31
 
 -- the vertex with the id y joins the journal if the mask has its member and it is not yet ordered
 unfoldable pub orderId : List ℕ → ℕ → ℕ → List ℕ

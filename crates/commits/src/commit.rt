@@ -5,12 +5,12 @@ ghost use Prim.Native.Nat.{ℕ, suc, _<_, _≤_};
 ghost use lib.ListN.{length};
 ghost use Rattle.record.specs.Below.{count, select};
 ghost use Rattle.record.specs.Members.{leader, has};
-ghost use Rattle.protocol.specs.Dag.{held, committed};
+ghost use Rattle.protocol.specs.Dag.{committed};
 ghost use Rattle.protocol.specs.Masks.{voters};
 ghost use Rattle.replica.specs.Layout.{stateSize};
 ghost use Rattle.replica.specs.State.{memberCount, committedRound, leaderCount, journalCount, vertices, dag, orderedId};
 ghost use Rattle.commits.specs.Commit.{appendLeader, appendLeaders, enter, orderLeader, orderLeaders, commit, committable, lowest, commitAll};
-ghost use Rattle.commits.specs.Standing.{Standing, Room, LeaderRoom, orderId, orderRound};
+ghost use Rattle.commits.specs.Standing.{Standing, Room, LeaderRoom, LeaderHeld, LeaderReady, LeadersReady, Going, orderId, orderRound};
 use super::history::history_of;
 use super::walk::taken_rounds;
 use record::layout::STRONG;
@@ -162,7 +162,7 @@ fn order_round(state: &mut [u32], n: u32, mask: u32, round: u32)
 
 // The history of the round's leader that is not yet ordered joins the journal, by rising id. It has nothing above that round.
 fn order_leader(state: &mut [u32], n: u32, round: u32)
-    requires { ⌜ Standing (now state) × Room (now state) × (n ≡ memberCount (now state)) × (1 ≤ round) × (round ≤ 31) × (held (vertices (now state)) round (leader n round) ≡ true) ⌝ }
+    requires { ⌜ LeaderReady (now state) n round ⌝ }
     ensures { λ _. ⌜ now (state .exit) ≡ orderLeader (vertices (now (state .entry))) (now (state .entry)) round ⌝ }
 {
     let masks = history_of(state, n, round, leader_of(n, round));
@@ -175,7 +175,7 @@ fn order_leader(state: &mut [u32], n: u32, round: u32)
 
 // So for the leaders of the rounds taken, bit r for round r.
 fn order_leaders(state: &mut [u32], n: u32, taken: u32)
-    requires { ⌜ Standing (now state) × Room (now state) × (n ≡ memberCount (now state)) × (has taken 0 ≡ false) × ((r : ℕ) → r < 32 → has taken r ≡ true → held (vertices (now state)) r (leader n r) ≡ true) ⌝ }
+    requires { ⌜ LeadersReady n taken (now state) × (has taken 0 ≡ false) ⌝ }
     ensures { λ _. ⌜ now (state .exit) ≡ orderLeaders (vertices (now (state .entry))) (now (state .entry)) (select 32 (has taken)) ⌝ }
 {
     let rounds = Members { bits: taken, n };
@@ -190,7 +190,7 @@ fn order_leaders(state: &mut [u32], n: u32, taken: u32)
 
 // Commits round q.
 fn commit_round(state: &mut [u32], n: u32, q: u32)
-    requires { ⌜ Standing (now state) × Room (now state) × (n ≡ memberCount (now state)) × (leaderCount (now state) ≤ committedRound (now state)) × (committedRound (now state) < q) × (q ≤ 31) × (held (vertices (now state)) q (leader n q) ≡ true) ⌝ }
+    requires { ⌜ Going (now state) × (n ≡ memberCount (now state)) × (committedRound (now state) < q) × (q ≤ 31) × LeaderHeld (now state) n q ⌝ }
     ensures { λ _. ⌜ now (state .exit) ≡ commit (now (state .entry)) q ⌝ }
 {
     let taken = taken_rounds(state, n, state[COMMITTED_ROUND], q);
@@ -201,7 +201,7 @@ fn commit_round(state: &mut [u32], n: u32, q: u32)
 
 // The lowest committable round is committed, and again until none is.
 pub fn commit_all(state: &mut [u32], n: u32)
-    requires { ⌜ Standing (now state) × Room (now state) × (n ≡ memberCount (now state)) × (leaderCount (now state) ≤ committedRound (now state)) × (committedRound (now state) ≤ 31) ⌝ }
+    requires { ⌜ Going (now state) × (n ≡ memberCount (now state)) ⌝ }
     ensures { λ _. ⌜ now (state .exit) ≡ commitAll (now (state .entry)) ⌝ }
 {
     let mut q: u32 = lowest_committable(state, n);

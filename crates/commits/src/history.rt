@@ -3,7 +3,7 @@ ghost use mathlib.Core.Path.{_≡_};
 ghost use Prim.Native.Nat.{_/_, _%_, _^_, _<_, _≤_};
 ghost use lib.ListN.{length, getD};
 ghost use Rattle.record.specs.Layout.{weakCountOf, weakOf};
-ghost use Rattle.protocol.specs.Masks.{join, joinWeak, joinParents, joinRound, historyMasks};
+ghost use Rattle.protocol.specs.Masks.{join, joinWeakParents, joinParents, joinRound, historyMasks};
 ghost use Rattle.replica.specs.Layout.{stateSize, cellAt};
 ghost use Rattle.replica.specs.State.{memberCount, vertices};
 ghost use Rattle.commits.specs.Standing.{Standing};
@@ -27,7 +27,7 @@ fn join_id(masks: &mut [u32; 32], x: u32)
 // Adds the weak parents of the vertex in the cell.
 fn join_weak(state: &[u32], masks: &mut [u32; 32], round: u32, member: u32)
     requires { ⌜ Standing (now state) × (1 ≤ round) × (round ≤ 32) × (member < 16) ⌝ }
-    ensures { λ _. ⌜ now (masks .exit) ≡ joinWeak (now (masks .entry)) (vertices (now (state .entry)) round member) (weakCountOf (vertices (now (state .entry)) round member)) ⌝ }
+    ensures { λ _. ⌜ now (masks .exit) ≡ joinWeakParents (vertices (now (state .entry))) (now (masks .entry)) round member ⌝ }
 {
     let at = cell_at(round, member);
     let count = wide(state[at + WEAK_COUNT]);

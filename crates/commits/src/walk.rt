@@ -4,12 +4,11 @@ ghost use mathlib.Core.Bool.{true};
 ghost use Prim.Native.Nat.{_<_, _≤_};
 ghost use lib.ListN.{length};
 ghost use Rattle.record.specs.Below.{select};
-ghost use Rattle.record.specs.Members.{leader, has};
-ghost use Rattle.protocol.specs.Dag.{held};
+ghost use Rattle.record.specs.Members.{has};
 ghost use Rattle.protocol.specs.Chain.{chain};
 ghost use Rattle.protocol.specs.Masks.{parents};
 ghost use Rattle.replica.specs.State.{memberCount, vertices};
-ghost use Rattle.commits.specs.Standing.{Standing};
+ghost use Rattle.commits.specs.Standing.{Standing, LeaderHeld};
 use record::layout::STRONG;
 use record::members::Members;
 use record::members::leader_of;
@@ -37,7 +36,7 @@ fn parents_of(state: &[u32], n: u32, round: u32, mask: u32) -> u32
 // The rounds above low whose leaders committing round q takes: bit r for round r. Going down, `reached` has the members that
 // strong paths reach, in the round above t, from the leader's vertex that was taken last.
 pub fn taken_rounds(state: &[u32], n: u32, low: u32, q: u32) -> u32
-    requires { ⌜ Standing (now state) × (n ≡ memberCount (now state)) × (low < q) × (q ≤ 31) × (held (vertices (now state)) q (leader n q) ≡ true) ⌝ }
+    requires { ⌜ Standing (now state) × (n ≡ memberCount (now state)) × (low < q) × (q ≤ 31) × LeaderHeld (now state) n q ⌝ }
     ensures { λ r. ⌜ select 32 (has r) ≡ chain n (vertices (now (state .entry))) low q ⌝ }
 {
     let mut taken: u32 = power(q);

@@ -10,10 +10,11 @@ use Rattle.record.specs.Members.{has, add}
 use Rattle.record.specs.Refusals.{Question, firstNo}
 use Rattle.record.specs.Layout.{bodySize, roundOf, sourceOf, bodyOf}
 use Rattle.record.specs.Questions.{roundOk, recordQuestions}
+use Rattle.record.specs.declared.refusal.Refusal.{Refusal}
 use Rattle.record.specs.declared.refusal.Refusal.the-variants.{Round, Source, Duplicate, Conflict, MissingParent}
 use Rattle.protocol.specs.Dag.{votes}
 use Rattle.protocol.specs.Journal.{idLimit}
-use Rattle.replica.specs.Layout.{heldAt, heardAt, votesAt, timeoutsAt, noVotesAt, cellAt}
+use Rattle.replica.specs.Layout.{masksAt, heldAt, heardAt, votesAt, timeoutsAt, noVotesAt, cellAt}
 use Rattle.replica.specs.State.{memberCount, heldMask, heardMask, timeoutsMask, noVotesMask, cell}
 use Rattle.replica.specs.WellFormed.{missing, parentsHeld}
 use Rattle.replica.specs.Outcome.{Outcome, outcome}
@@ -41,6 +42,10 @@ placeQuestions l r p body =
 abbrev pub vertexQuestions : List ℕ → ℕ → ℕ → List ℕ → List Question
 vertexQuestions l r p body = stateQuestions l ++ (recordQuestions (memberCount l) r p body ++ placeQuestions l r p body)
 
+-- the first question that a record fails as a vertex
+abbrev pub vertexRefusal : List ℕ → List ℕ → Refusal
+vertexRefusal l rec = firstNo (vertexQuestions l (roundOf rec) (sourceOf rec) (bodyOf rec))
+
 -- the vertex is written to its cell and marked held
 unfoldable pub putVertex : List ℕ → ℕ → ℕ → List ℕ → List ℕ
 putVertex l r p body = paste (addMember l (heldAt r) p) (cellAt r p) body bodySize
@@ -55,6 +60,9 @@ takeVertex l rec = takeBody l (roundOf rec) (sourceOf rec) (bodyOf rec)
 
 abbrev pub firstQuestions : List ℕ → ℕ → ℕ → List ℕ → List Question
 firstQuestions l r p body = stateQuestions l ++ (recordQuestions (memberCount l) r p body ++ ((not (has (heardMask l r) p), Duplicate) ∷ []))
+
+abbrev pub firstRefusal : List ℕ → List ℕ → Refusal
+firstRefusal l rec = firstNo (firstQuestions l (roundOf rec) (sourceOf rec) (bodyOf rec))
 
 -- the source is heard, and in votes if the record votes for the previous round's leader
 unfoldable pub hear : List ℕ → ℕ → ℕ → List ℕ → List ℕ
@@ -71,6 +79,10 @@ takeFirstMessage l rec = takeFirstBody l (roundOf rec) (sourceOf rec) (bodyOf re
 -- of a round and a signer, with the mask that the signer would join
 abbrev pub noteQuestions : List ℕ → ℕ → ℕ → ℕ → List Question
 noteQuestions l r p mask = stateQuestions l ++ ((roundOk r, Round) ∷ (ltb p (memberCount l), Source) ∷ (not (has mask p), Duplicate) ∷ [])
+
+-- of the mask of that kind among its round's six
+abbrev pub noteRefusal : List ℕ → ℕ → ℕ → ℕ → Refusal
+noteRefusal l r p kind = firstNo (noteQuestions l r p (getD l (masksAt r + kind) 0))
 
 unfoldable pub takeTimeout : List ℕ → ℕ → ℕ → Outcome
 takeTimeout l r p = outcome (firstNo (noteQuestions l r p (timeoutsMask l r))) l (raiseRound (addMember l (timeoutsAt r) p))

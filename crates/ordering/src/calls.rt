@@ -7,14 +7,15 @@ ghost use lib.ListN.{length, getD, drop};
 ghost use Rattle.record.specs.Below.{least};
 ghost use Rattle.record.specs.Members.{legal};
 ghost use Rattle.record.specs.Refusals.{numberOf, firstNo};
-ghost use Rattle.record.specs.Layout.{roundOf, sourceOf, bodyOf};
 ghost use Rattle.record.specs.Questions.{bodyRefusal};
 ghost use Rattle.protocol.specs.Journal.{idLimit};
-ghost use Rattle.replica.specs.Layout.{stateSize, masksAt, cellAt};
+ghost use Rattle.replica.specs.Layout.{stateSize, cellAt};
 ghost use Rattle.replica.specs.State.{memberCount, heldMask};
 ghost use Rattle.replica.specs.WellFormed.{missing, wellFormed};
 ghost use Rattle.replica.specs.Outcome.{told, admitted};
-ghost use Rattle.ordering.specs.Calls.{addMember, sameBody, placeQuestions, vertexQuestions, putVertex, takeVertex, firstQuestions, hear, takeFirstMessage, noteQuestions, takeTimeout, takeNoVote};
+ghost use Rattle.ordering.specs.Calls.{addMember, sameBody, placeQuestions, vertexRefusal, putVertex, takeVertex, firstRefusal, hear, takeFirstMessage};
+ghost use Rattle.ordering.specs.Calls.{noteRefusal, takeTimeout, takeNoVote};
+ghost use Rattle.ordering.specs.Inner.{Hearing};
 ghost use Rattle.commits.specs.Commit.{commitAll};
 ghost use Rattle.ordering.specs.Search.{parentAt, groupSize};
 use commits::commit::commit_all;
@@ -181,7 +182,7 @@ fn check_place(state: &[u32], n: u32, round: u32, source: u32, body: &[u32]) -> 
 
 // All questions of a vertex.
 fn check_vertex(state: &[u32], rec: &[u32]) -> Refusal
-    ensures { λ r. ⌜ r ≡ firstNo (vertexQuestions (now (state .entry)) (roundOf (now (rec .entry))) (sourceOf (now (rec .entry))) (bodyOf (now (rec .entry)))) ⌝ }
+    ensures { λ r. ⌜ r ≡ vertexRefusal (now (state .entry)) (now (rec .entry)) ⌝ }
 {
     let why = check_state(state);
     if number(why) != 0 {
@@ -197,7 +198,7 @@ fn check_vertex(state: &[u32], rec: &[u32]) -> Refusal
 
 // All questions of a first message.
 fn check_first(state: &[u32], rec: &[u32]) -> Refusal
-    ensures { λ r. ⌜ r ≡ firstNo (firstQuestions (now (state .entry)) (roundOf (now (rec .entry))) (sourceOf (now (rec .entry))) (bodyOf (now (rec .entry)))) ⌝ }
+    ensures { λ r. ⌜ r ≡ firstRefusal (now (state .entry)) (now (rec .entry)) ⌝ }
 {
     let why = check_state(state);
     if number(why) != 0 {
@@ -221,7 +222,7 @@ fn check_first(state: &[u32], rec: &[u32]) -> Refusal
 // All questions of a timeout or a no-vote, whose mask is the given one of its round's six.
 fn check_note(state: &[u32], round: u32, signer: u32, kind: usize) -> Refusal
     requires { ⌜ kind < 6 ⌝ }
-    ensures { λ r. ⌜ r ≡ firstNo (noteQuestions (now (state .entry)) round signer (getD (now (state .entry)) (masksAt round + kind) 0)) ⌝ }
+    ensures { λ r. ⌜ r ≡ noteRefusal (now (state .entry)) round signer kind ⌝ }
 {
     let why = check_state(state);
     if number(why) != 0 {
@@ -276,7 +277,7 @@ pub fn take_vertex(state: &mut [u32], rec: &[u32]) -> Answer
 
 // The source is heard, and in votes if the record votes for the previous round's leader.
 fn hear_record(state: &mut [u32], n: u32, round: u32, source: u32, strong: u32)
-    requires { ⌜ (length (now state) ≡ stateSize) × (n ≡ memberCount (now state)) × (0 < n) × (n ≤ 16) × (1 ≤ round) × (round ≤ 32) × (source < 16) × (round ≡ 1 → strong ≡ 0) ⌝ }
+    requires { ⌜ Hearing (now state) n round source strong ⌝ }
     ensures { λ _. ⌜ now (state .exit) ≡ hear (now (state .entry)) round source (strong ∷ []) ⌝ }
 {
     let at = masks_at(round);

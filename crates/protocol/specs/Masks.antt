@@ -25,9 +25,13 @@ unfoldable pub joinWeak : List ℕ → List ℕ → ℕ → List ℕ
 joinWeak h body zero = h
 joinWeak h body (suc k) = join (joinWeak h body k) (idRound (weakOf body k)) (2 ^ idMember (weakOf body k))
 
--- all parents of the vertex of round r and member p added
+-- all weak parents of the vertex of round r and member p added
+abbrev pub joinWeakParents : Records → List ℕ → ℕ → ℕ → List ℕ
+joinWeakParents v h r p = joinWeak h (v r p) (weakCountOf (v r p))
+
+-- and its strong parents too
 unfoldable pub joinParents : Records → List ℕ → ℕ → ℕ → List ℕ
-joinParents v h r p = joinWeak (join h (r - 1) (strongOf (v r p))) (v r p) (weakCountOf (v r p))
+joinParents v h r p = joinWeakParents v (join h (r - 1) (strongOf (v r p))) r p
 
 -- the parents of those vertices of round r, of members below k, that the masks have
 unfoldable pub joinRound : Records → List ℕ → ℕ → ℕ → List ℕ

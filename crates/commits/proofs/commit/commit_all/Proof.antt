@@ -19,7 +19,7 @@ known : (c : tie.In-loop Inv-loop μ-loop) → let s : tie.Start Inv-loop μ-loo
 known c =
     let s : tie.Start Inv-loop μ-loop = search in
     let a : tie.At-loop Inv-loop μ-loop = search in
-    soon _ _ _ _ (s .pre .2) (a .loop .inv .1) (a .loop .inv .0) (c .loop-test .taken)
+    soon _ _ _ _ (s .pre .1) (a .loop .inv .1) (a .loop .inv .0) (c .loop-test .taken)
 
 later : (c : tie.After-commit-round Inv-loop μ-loop) → let s : tie.Start Inv-loop μ-loop = search in let a : tie.At-loop Inv-loop μ-loop = search in
     Later (s .args .n) (s .args .state .now) (a .loop .q) (c .commit-round .last .0)
@@ -28,7 +28,7 @@ later c = known (search) .next _ (c .commit-round .ensures)
 loop-holds : tie.Need-loop-holds Inv-loop μ-loop
 loop-holds c =
     let s : tie.Start Inv-loop μ-loop = search in
-    (c .lowest-committable .ensures, onward-start _ (record { standing = s .pre .0; room = s .pre .1; few = s .pre .3; high = s .pre .4 }))
+    (c .lowest-committable .ensures, onward-start _ (s .pre .0))
 
 returns : tie.Need-returns Inv-loop μ-loop
 returns c = let a : tie.At-loop Inv-loop μ-loop = search in onward-end _ _ (a .loop .inv .1) (omega arith)

@@ -9,7 +9,7 @@ use Rattle.commits.proofs.commit.commit_round.Tie as tie
 known : (c : tie.After-taken-rounds) → let s : tie.Start = search in Taken (s .args .state .now) (s .args .n) (s .args .q) (c .taken-rounds .result)
 known c =
     let p = (let s : tie.Start = search in s .pre) in
-    taken _ _ (p .0) (p .1) (p .2) (p .3) _ (p .4) (p .5) (p .6) _ (c .taken-rounds .ensures)
+    taken _ _ (p .0 .standing) (p .0 .room) (p .1) (p .0 .few) _ (p .2) (p .3) (p .4) _ (c .taken-rounds .ensures)
 
 append-leaders-requires : tie.Need-append-leaders-requires
 append-leaders-requires c κs =

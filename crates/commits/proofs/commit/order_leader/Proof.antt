@@ -15,12 +15,12 @@ abbrev μ-loop : tie.MeasureT-loop
 μ-loop state₀ n round masks r₀ state r = round - r
 
 known : (c : tie.Start Inv-loop μ-loop) → Growth (c .args .n) (c .args .state .now) (c .args .round)
-known c = growth _ _ _ (c .pre .0) (c .pre .1) (c .pre .2) (c .pre .4) (c .pre .5)
+known c = let p = c .pre in growth _ _ _ (p .standing) (p .room) (p .members) (p .high) (p .there)
 
 small : (c : tie.After-leader-of Inv-loop μ-loop) → c .leader-of .result < 16
 small c =
     let s : tie.Start Inv-loop μ-loop = search in
-    omega (arith, leader-lt (s .args .n) (s .args .round) (omega (arith, s .pre .0 .low)), s .pre .0 .high)
+    omega (arith, leader-lt (s .args .n) (s .args .round) (omega (arith, s .pre .standing .low)), s .pre .standing .high)
 
 roomy : (c : tie.At-loop Inv-loop μ-loop) → Roomy (c .loop .state)
 roomy c = known (search) .kept _ _ (c .loop .inv .1)
@@ -61,5 +61,5 @@ order-leader-spec =
     (λ c. search needs)
     (λ c. search needs)
     loop-again
-    (λ c. let s : tie.Start Inv-loop μ-loop = search in roomy (search) .0 ∙ sym (s .pre .0 .size))
+    (λ c. let s : tie.Start Inv-loop μ-loop = search in roomy (search) .0 ∙ sym (s .pre .standing .size))
     returns)

@@ -17,7 +17,7 @@ abbrev μ-loop : tie.MeasureT-loop
 loop-holds : tie.Need-loop-holds Inv-loop μ-loop
 loop-holds c =
     let p = (let s : tie.Start Inv-loop μ-loop = search in s .pre) in
-    (omega arith, omega arith, ordering-start _ _ _ (record { standing = p .0; room = p .1; members = p .2; there = p .4 }) (p .3))
+    (omega arith, omega arith, ordering-start _ _ _ (p .0) (p .1))
 
 order-leader-requires : tie.Need-order-leader-requires Inv-loop μ-loop
 order-leader-requires c κs =

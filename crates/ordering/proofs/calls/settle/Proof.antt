@@ -9,7 +9,8 @@ use Rattle.ordering.proofs.calls.settle.Tie as tie
 commit-all-requires : tie.Need-commit-all-requires
 commit-all-requires c κs =
     let s : tie.Start = search in
-    let S = sound _ (s .pre .0) (s .pre .1) in (standing _ S, room _ S, s .pre .2, leaders-few _ S, S .leaders .committed-high)
+    let S = sound _ (s .pre .0) (s .pre .1) in
+    (record { standing = standing _ S; room = room _ S; few = leaders-few _ S; high = S .leaders .committed-high }, s .pre .2)
 
 known : (c : tie.After-commit-all) → let s : tie.Start = search in Settled (s .args .state .now) (c .commit-all .last .0)
 known c = let s : tie.Start = search in settled _ _ (sound _ (s .pre .0) (s .pre .1)) (c .commit-all .ensures)

@@ -12,8 +12,8 @@ yardbook_answer reference_take_first_message(u32*, std::size_t, const u32*, std:
 yardbook_answer reference_take_timeout(u32*, std::size_t, u32, u32);
 yardbook_answer reference_take_no_vote(u32*, std::size_t, u32, u32);
 yardbook_state_status reference_status(const u32*, std::size_t);
-u32 reference_ask_leaders(const u32*, std::size_t, u32);
-u32 reference_ask_journal(const u32*, std::size_t, u32);
+yardbook_answer reference_ask_leaders(const u32*, std::size_t, u32);
+yardbook_answer reference_ask_journal(const u32*, std::size_t, u32);
 yardbook_part reference_hand_leaders(const u32*, std::size_t, u32);
 yardbook_part reference_hand_journal(const u32*, std::size_t, u32);
 }
@@ -26,15 +26,14 @@ namespace {
 [[gnu::noipa]] yardbook_answer nothing_take_timeout(u32*, std::size_t, u32, u32) { return {}; }
 [[gnu::noipa]] yardbook_answer nothing_take_no_vote(u32*, std::size_t, u32, u32) { return {}; }
 [[gnu::noipa]] yardbook_state_status nothing_status(const u32*, std::size_t) { return {}; }
-[[gnu::noipa]] u32 nothing_ask_leaders(const u32*, std::size_t, u32) { return 0; }
-[[gnu::noipa]] u32 nothing_ask_journal(const u32*, std::size_t, u32) { return 0; }
+[[gnu::noipa]] yardbook_answer nothing_ask_leaders(const u32*, std::size_t, u32) { return {}; }
+[[gnu::noipa]] yardbook_answer nothing_ask_journal(const u32*, std::size_t, u32) { return {}; }
 [[gnu::noipa]] yardbook_part nothing_hand_leaders(const u32*, std::size_t, u32) { return {}; }
 [[gnu::noipa]] yardbook_part nothing_hand_journal(const u32*, std::size_t, u32) { return {}; }
 
 Said said(yardbook_answer a) { return {a.number, a.id, a.leaders, a.journal, 0}; }
 Said said(yardbook_state_status s) { return {s.number, s.current_round, s.committed_round, s.leader_count, s.journal_count}; }
 Said said(yardbook_part p) { return {p.number, p.start, p.length, 0, 0}; }
-Said said(u32 number) { return {number, 0, 0, 0, 0}; }
 
 #define CALLS(prefix)                                                                                                     \
     switch (call.kind) {                                                                                                  \

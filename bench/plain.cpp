@@ -321,7 +321,7 @@ yardbook_state_status plain_status(const u32* state, std::size_t words) {
     return {0, state[1], state[2], state[3], state[4]};
 }
 
-u32 plain_ask_leaders(const u32* state, std::size_t words, u32 k) { return ask(state, words, k, 3); }
-u32 plain_ask_journal(const u32* state, std::size_t words, u32 k) { return ask(state, words, k, 4); }
+yardbook_answer plain_ask_leaders(const u32* state, std::size_t words, u32 k) { return refused(ask(state, words, k, 3)); }
+yardbook_answer plain_ask_journal(const u32* state, std::size_t words, u32 k) { return refused(ask(state, words, k, 4)); }
 yardbook_part plain_hand_leaders(const u32* state, std::size_t words, u32 k) { return hand(state, words, k, 3, leaders_at); }
 yardbook_part plain_hand_journal(const u32* state, std::size_t words, u32 k) { return hand(state, words, k, 4, journal_at); }

@@ -113,11 +113,11 @@ yardbook_answer yardbook_take_no_vote(uint32_t *state, size_t state_words, uint3
 /* The rounds and the counts. Asks 1 and 3. Changes no word. */
 yardbook_state_status yardbook_status(const uint32_t *state, size_t state_words);
 
-/* Whether the leader list, or the journal, can be had from entry k on: the number. Asks 1, 3 and 15. Changes no word. */
-uint32_t yardbook_ask_leaders(const uint32_t *state, size_t state_words, uint32_t k);
-uint32_t yardbook_ask_journal(const uint32_t *state, size_t state_words, uint32_t k);
+/* Whether the leader list, or the journal, can be had from entry k on. Asks 1, 3 and 15. Changes no word, and adds nothing. */
+yardbook_answer yardbook_ask_leaders(const uint32_t *state, size_t state_words, uint32_t k);
+yardbook_answer yardbook_ask_journal(const uint32_t *state, size_t state_words, uint32_t k);
 
-/* Entries k up to the count, as ids, where they stand in the lent words; no entries where asking does not answer 0. */
+/* Entries k up to the count, as ids, where they stand in the lent words, with the number of asking; no entries where that is not 0. */
 yardbook_part yardbook_hand_leaders(const uint32_t *state, size_t state_words, uint32_t k);
 yardbook_part yardbook_hand_journal(const uint32_t *state, size_t state_words, uint32_t k);
 

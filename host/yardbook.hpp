@@ -99,12 +99,12 @@ namespace detail {
     return {static_cast<Number>(s.number), s.current_round, s.committed_round, s.leader_count, s.journal_count};
 }
 
-[[nodiscard]] inline Number ask_leaders(std::span<const std::uint32_t> state, std::uint32_t k) noexcept {
-    return static_cast<Number>(yardbook_ask_leaders(state.data(), state.size(), k));
+[[nodiscard]] inline Answer ask_leaders(std::span<const std::uint32_t> state, std::uint32_t k) noexcept {
+    return detail::answer(yardbook_ask_leaders(state.data(), state.size(), k));
 }
 
-[[nodiscard]] inline Number ask_journal(std::span<const std::uint32_t> state, std::uint32_t k) noexcept {
-    return static_cast<Number>(yardbook_ask_journal(state.data(), state.size(), k));
+[[nodiscard]] inline Answer ask_journal(std::span<const std::uint32_t> state, std::uint32_t k) noexcept {
+    return detail::answer(yardbook_ask_journal(state.data(), state.size(), k));
 }
 
 [[nodiscard]] inline List hand_leaders(std::span<const std::uint32_t> state, std::uint32_t k) noexcept {

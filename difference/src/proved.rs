@@ -37,8 +37,8 @@ extern "C" {
     fn yardbook_take_timeout(state: *mut u32, words: usize, round: u32, signer: u32) -> Answer;
     fn yardbook_take_no_vote(state: *mut u32, words: usize, round: u32, signer: u32) -> Answer;
     fn yardbook_status(state: *const u32, words: usize) -> Status;
-    fn yardbook_ask_leaders(state: *const u32, words: usize, k: u32) -> u32;
-    fn yardbook_ask_journal(state: *const u32, words: usize, k: u32) -> u32;
+    fn yardbook_ask_leaders(state: *const u32, words: usize, k: u32) -> Answer;
+    fn yardbook_ask_journal(state: *const u32, words: usize, k: u32) -> Answer;
     fn yardbook_hand_leaders(state: *const u32, words: usize, k: u32) -> Part;
     fn yardbook_hand_journal(state: *const u32, words: usize, k: u32) -> Part;
 }
@@ -54,8 +54,8 @@ impl Engine for Proved {
             match op {
                 Op::Change(call) => change(state, call),
                 Op::Status => status(yardbook_status(words, size)),
-                Op::AskLeaders(k) => [yardbook_ask_leaders(words, size, *k), 0, 0, 0, 0],
-                Op::AskJournal(k) => [yardbook_ask_journal(words, size, *k), 0, 0, 0, 0],
+                Op::AskLeaders(k) => answer(yardbook_ask_leaders(words, size, *k)),
+                Op::AskJournal(k) => answer(yardbook_ask_journal(words, size, *k)),
                 Op::HandLeaders(k) => part(yardbook_hand_leaders(words, size, *k)),
                 Op::HandJournal(k) => part(yardbook_hand_journal(words, size, *k)),
             }
@@ -67,7 +67,7 @@ fn change(state: &mut [u32], call: &Call) -> Reply {
     let (words, size) = (state.as_mut_ptr(), state.len());
     // SAFETY: `words` has `size` words that nobody else uses during the call, and no record
     // overlaps them.
-    let answer = unsafe {
+    answer(unsafe {
         match call {
             Call::Open(n) => yardbook_open(words, size, *n),
             Call::Vertex(record) => {
@@ -79,7 +79,10 @@ fn change(state: &mut [u32], call: &Call) -> Reply {
             Call::Timeout(round, signer) => yardbook_take_timeout(words, size, *round, *signer),
             Call::NoVote(round, signer) => yardbook_take_no_vote(words, size, *round, *signer),
         }
-    };
+    })
+}
+
+fn answer(answer: Answer) -> Reply {
     [answer.number, answer.id, answer.leaders, answer.journal, 0]
 }
 

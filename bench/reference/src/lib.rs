@@ -15,6 +15,10 @@ fn answer(a: reference::Answer) -> Answer {
     Answer([a.number, a.id, a.leaders, a.journal])
 }
 
+fn asked(number: u32) -> Answer {
+    Answer([number, 0, 0, 0])
+}
+
 fn part(state: &[u32], list: (u32, &[u32])) -> Part {
     if list.0 != 0 {
         return Part([list.0, 0, 0]);
@@ -110,15 +114,15 @@ pub unsafe extern "C" fn reference_status(state: *const u32, words: usize) -> St
 /// # Safety
 /// As above.
 #[no_mangle]
-pub unsafe extern "C" fn reference_ask_leaders(state: *const u32, words: usize, k: u32) -> u32 {
-    reference::ask_leaders(words!(state, words), k)
+pub unsafe extern "C" fn reference_ask_leaders(state: *const u32, words: usize, k: u32) -> Answer {
+    asked(reference::ask_leaders(words!(state, words), k))
 }
 
 /// # Safety
 /// As above.
 #[no_mangle]
-pub unsafe extern "C" fn reference_ask_journal(state: *const u32, words: usize, k: u32) -> u32 {
-    reference::ask_journal(words!(state, words), k)
+pub unsafe extern "C" fn reference_ask_journal(state: *const u32, words: usize, k: u32) -> Answer {
+    asked(reference::ask_journal(words!(state, words), k))
 }
 
 /// # Safety

@@ -15,12 +15,16 @@ use Rattle.record.specs.declared.refusal.Refusal.{Refusal}
 use Rattle.record.proofs.Booleans.{which, never, cond-true, cond-false}
 use Rattle.record.proofs.Turn.{next, done, both-yes}
 use Rattle.replica.specs.State.{memberCount, leaderCount, journalCount, heldMask, heardMask, leaderList, journalList}
-use Rattle.replica.specs.WellFormed.{wellFormed, parentsHeld}
+use Rattle.replica.specs.Parents.{parentsHeld}
+use Rattle.replica.specs.WellFormed.{wellFormed}
 use Rattle.replica.specs.Outcome.{Outcome, outcome}
-use Rattle.replica.specs.Lists.{opened, openQuestions, openState, askLeaders, askJournal, handLeaders, handJournal}
-use Rattle.replica.proofs.Calls.{leaders-some, journal-some}
+use Rattle.replica.specs.Opening.{opened, openQuestions, openState}
+use Rattle.replica.specs.Place.{Span}
+use Rattle.replica.specs.Lists.{askList, handList}
+use Rattle.replica.proofs.ListLaws.{span-some, hand-over}
 use Rattle.ordering.specs.Calls.{placeQuestions, vertexQuestions, firstQuestions}
 use Rattle.ordering.proofs.Turns.{record-passed, parents-passed}
+use Rattle.agreement.specs.Claim.{leadersIn, journalIn}
 
 -- ---- an outcome
 
@@ -94,18 +98,15 @@ open-no l n e = words-no (firstNo (openQuestions l n)) l (opened n) (λ d. never
 -- ---- handing over from entry 0
 
 module _ (l : List ℕ) (size : length l ≡ 5864) (formed : wellFormed l ≡ true) where
+  -- the number is 0
+  from-start : (first count : ℕ) → handList l 0 first count .number ≡ 0
+  from-start first count = ap (λ (s : Span). s .number) (span-some (askList l 0 count .number) first 0 count
+      (ap numberOf (sym (next _ _ (eq-eqb (length l) 5864 size) (next _ _ formed (next _ _ (le-leb 0 count (omega arith)) done))))))
+
   -- the leader list
-  pub hand-leaders : handLeaders l 0 ≡ leaderList l
-  hand-leaders = leaders-some l 0 asked
-    where
-      asked : numberOf (askLeaders l 0) ≡ 0
-      asked = unfold askLeaders in ap numberOf
-          (sym (next _ _ (eq-eqb (length l) 5864 size) (next _ _ formed (next _ _ (le-leb 0 (leaderCount l) (omega arith)) done))))
+  pub hand-leaders : leadersIn l ≡ leaderList l
+  hand-leaders = hand-over l 0 .0 .given (from-start 200 (leaderCount l))
 
   -- the journal
-  pub hand-journal : handJournal l 0 ≡ journalList l
-  hand-journal = journal-some l 0 asked
-    where
-      asked : numberOf (askJournal l 0) ≡ 0
-      asked = unfold askJournal in ap numberOf
-          (sym (next _ _ (eq-eqb (length l) 5864 size) (next _ _ formed (next _ _ (le-leb 0 (journalCount l) (omega arith)) done))))
+  pub hand-journal : journalIn l ≡ journalList l
+  hand-journal = hand-over l 0 .1 .given (from-start 232 (journalCount l))

@@ -17,7 +17,7 @@ use Rattle.protocol.proofs.Agreement.{agreement}
 use Rattle.replica.specs.Layout.{timeoutsAt, noVotesAt}
 use Rattle.replica.specs.State.{committedRound, timeoutsMask, noVotesMask, leaderList, journalList, vertices, firsts, dag}
 use Rattle.replica.specs.Outcome.{outcome}
-use Rattle.replica.specs.Lists.{opened, openState}
+use Rattle.replica.specs.Opening.{opened, openState}
 use Rattle.replica.proofs.Sound.{well-formed}
 use Rattle.protocol.specs.Chain.{leaders}
 use Rattle.protocol.specs.Journal.{journal}

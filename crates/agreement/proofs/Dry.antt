@@ -19,8 +19,8 @@ use Rattle.record.proofs.Below.{all-elim}
 use Rattle.record.proofs.Turn.{next, done, both-yes, admitted}
 use Rattle.protocol.specs.Dag.{Records, recordsOf, present, held}
 use Rattle.replica.specs.State.{memberCount, heldMask, heardMask, vertices, firsts}
-use Rattle.replica.specs.WellFormed.{isParent, parentsHeld}
-use Rattle.replica.specs.Lists.{stateQuestions}
+use Rattle.replica.specs.Parents.{isParent, parentsHeld}
+use Rattle.replica.specs.Status.{stateQuestions}
 use Rattle.replica.proofs.Sound.{Sound, well-formed}
 use Rattle.replica.proofs.Dags.{held-vertex, held-id}
 use Rattle.replica.proofs.Parents.{round-in, parent-cases, parents-intro, weak-five}

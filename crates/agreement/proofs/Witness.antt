@@ -19,7 +19,7 @@ use Rattle.protocol.specs.Journal.{journal}
 use Rattle.protocol.specs.Witness.{early, late, vertexOf, firstOf, dag, honest}
 use Rattle.protocol.proofs.Laws.{records-ext}
 use Rattle.protocol.proofs.Witness as protocol
-use Rattle.replica.specs.Lists.{opened, openState}
+use Rattle.replica.specs.Opening.{opened, openState}
 use Rattle.replica.proofs.Opened.{opened-size}
 use Rattle.agreement.specs.Call.{run}
 use Rattle.agreement.specs.Model.{Model, empty, dagOf}

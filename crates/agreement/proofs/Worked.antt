@@ -11,7 +11,7 @@ use lib.ListN.{length, getD, set, take, drop, length-replicate}
 use borrow.Author.Tests.{eq-eqb, ltb-true}
 use Rattle.record.specs.Below.{all, any, count, select, least}
 use Rattle.record.specs.Members.{legal, leader, has, within, meets}
-use Rattle.record.specs.Refusals.{Question, firstNo}
+use Rattle.record.specs.Refusals.{numberOf, Question, firstNo}
 use Rattle.record.specs.Layout.{roundOf, sourceOf, bodyOf, strongOf, timeoutsOf, noVotesOf, weakCountOf, weakOf}
 use Rattle.record.specs.Questions.{roundOk, masksOk, strongOk, lacksLeader, quorumIf, timeoutsOk, noVotesOk, weakIdOk, rises, slotOk, weakOk, recordQuestions}
 use Rattle.record.specs.declared.refusal.Refusal.{Refusal}
@@ -25,9 +25,14 @@ use Rattle.protocol.proofs.Laws.{records-ext}
 use Rattle.replica.specs.Layout.{stateSize, timeoutsAt, noVotesAt}
 use Rattle.replica.specs.State.{memberCount, currentRound, committedRound, leaderCount, journalCount, heardMask, timeoutsMask, noVotesMask}
 use Rattle.replica.specs.State.{leaderList, journalList, vertices, firsts}
-use Rattle.replica.specs.WellFormed.{isParent, missing, parentsHeld, wellFormed}
-use Rattle.replica.specs.Outcome.{Outcome, outcome}
-use Rattle.replica.specs.Lists.{opened, openState, stateQuestions, askLeaders, askJournal, handLeaders, handJournal}
+use Rattle.replica.specs.Parents.{isParent, missing, parentsHeld}
+use Rattle.replica.specs.WellFormed.{wellFormed}
+use Rattle.replica.specs.Outcome.{Outcome, unchanged, outcome}
+use Rattle.replica.specs.Opening.{opened, openState}
+use Rattle.replica.specs.Status.{stateQuestions, headIf, statusOf}
+use Rattle.replica.specs.Place.{Span, wordsIn}
+use Rattle.replica.specs.Lists.{spanIf, handList}
+use Rattle.replica.specs.declared.answer.Status.{Status}
 use Rattle.replica.proofs.Sound.{Sound, sound, well-formed}
 use Rattle.replica.proofs.Opened.{opened-sound}
 use Rattle.commits.specs.Commit.{passable, highestPassable, raiseRound, appendLeader, appendLeaders, enter, enterAll, orderLeader, orderLeaders}
@@ -35,7 +40,7 @@ use Rattle.commits.specs.Commit.{commit, committable, lowest, commitUpTo}
 use Rattle.ordering.specs.Calls.{addMember, sameBody, placeQuestions, putVertex, takeBody, hear, takeFirstBody, takeTimeout, takeNoVote}
 use Rattle.ordering.proofs.Kept.{keeps}
 use Rattle.agreement.specs.Call.{Call, opening, vertex, firstMessage, timeout, noVote, status, askLeaderList, askJournalList, handLeaderList}
-use Rattle.agreement.specs.Call.{handJournalList, reading, outcomeOf, run}
+use Rattle.agreement.specs.Call.{handJournalList, reading, outcomeOf, Given, nothing, head, part, givenOf, run}
 use Rattle.agreement.specs.Worked.{Seen, seen, Row, zeros, allAdmitted, ending, Passes, rows, Worked}
 use Rattle.agreement.proofs.Asked.{open-yes, open-no, open-taken, hand-leaders, hand-journal}
 use Rattle.agreement.proofs.Dry.{past-state}
@@ -113,6 +118,10 @@ shortNote l r p mask = firstNo ((roundOk r, Round) ∷ (ltb p (memberCount l), S
 shortList : ℕ → ℕ → Refusal
 shortList k size = firstNo ((leb k size, PastEnd) ∷ [])
 
+-- the span of handing those over
+shortSpan : ℕ → ℕ → ℕ → Span
+shortSpan first k size = spanIf (numberOf (shortList k size)) first k size
+
 -- the outcomes
 shortOf : Call → List ℕ → Outcome
 shortOf (opening n) l = outcome (firstNo ((legal n, MemberCount) ∷ [])) l (opened n)
@@ -120,34 +129,73 @@ shortOf (vertex rec) l = outcome (shortVertex l rec) l (shortCommits (raiseRound
 shortOf (firstMessage rec) l = outcome (shortFirst l rec) l (shortCommits (hear l (roundOf rec) (sourceOf rec) (bodyOf rec)) 31)
 shortOf (timeout r p) l = outcome (shortNote l r p (timeoutsMask l r)) l (raiseRound (addMember l (timeoutsAt r) p))
 shortOf (noVote r p) l = outcome (shortNote l r p (noVotesMask l r)) l (addMember l (noVotesAt r) p)
-shortOf status l = reading (firstNo []) l
-shortOf (askLeaderList k) l = reading (shortList k (leaderCount l)) l
-shortOf (askJournalList k) l = reading (shortList k (journalCount l)) l
-shortOf (handLeaderList k) l = reading (shortList k (leaderCount l)) l
-shortOf (handJournalList k) l = reading (shortList k (journalCount l)) l
+shortOf status l = reading 0 l
+shortOf (askLeaderList k) l = unchanged (shortList k (leaderCount l)) l
+shortOf (askJournalList k) l = unchanged (shortList k (journalCount l)) l
+shortOf (handLeaderList k) l = reading (shortSpan 200 k (leaderCount l) .number) l
+shortOf (handJournalList k) l = reading (shortSpan 232 k (journalCount l) .number) l
+
+-- and what is given beside them
+shortGiven : Call → List ℕ → Given
+shortGiven (opening n) l = nothing
+shortGiven (vertex rec) l = nothing
+shortGiven (firstMessage rec) l = nothing
+shortGiven (timeout r p) l = nothing
+shortGiven (noVote r p) l = nothing
+shortGiven status l = head (statusOf l)
+shortGiven (askLeaderList k) l = nothing
+shortGiven (askJournalList k) l = nothing
+shortGiven (handLeaderList k) l = part (shortSpan 200 k (leaderCount l)) (wordsIn l (shortSpan 200 k (leaderCount l)))
+shortGiven (handJournalList k) l = part (shortSpan 232 k (journalCount l)) (wordsIn l (shortSpan 232 k (journalCount l)))
+
+-- the number of a status is that of the questions of the state
+status-number : (why : Refusal) (l : List ℕ) → numberOf (headIf why l .refusal) ≡ numberOf why
+unfolding headIf
+status-number why l =
+    ⊎-elim (λ e. ap (λ (s : Status). numberOf (s .refusal)) (cond-true _ _ e)) (λ e. ap (λ (s : Status). numberOf (s .refusal)) (cond-false _ _ e))
+    (which (eqb (numberOf why) 0))
 
 module _ (l : List ℕ) (S : Sound l) where
   -- the questions of the state are passed over
   past : (rest : List Question) (after : List ℕ) → outcome (firstNo (stateQuestions l ++ rest)) l after ≡ outcome (firstNo rest) l after
   past rest after = ap (λ (why : Refusal). outcome why l after) (sym (past-state l rest S))
 
-  -- so by a call that only reads
-  past-reading : (rest : List Question) → reading (firstNo (stateQuestions l ++ rest)) l ≡ reading (firstNo rest) l
-  past-reading rest = ap (λ (why : Refusal). reading why l) (sym (past-state l rest S))
+  -- so by asking
+  past-asking : (rest : List Question) → unchanged (firstNo (stateQuestions l ++ rest)) l ≡ unchanged (firstNo rest) l
+  past-asking rest = ap (λ (why : Refusal). unchanged why l) (sym (past-state l rest S))
+
+  -- and by handing over
+  past-handing : (first k size : ℕ) → handList l k first size ≡ shortSpan first k size
+  unfolding shortSpan shortList
+  past-handing first k size = ap (λ (x : ℕ). spanIf x first k size) (ap numberOf (sym (past-state l _ S)))
 
   -- the outcomes are those of the calls
   short-is : (c : Call) → outcomeOf c l ≡ shortOf c l
-  unfolding shortOf shortVertex shortFirst shortNote shortList openState takeBody takeFirstBody takeTimeout takeNoVote askLeaders askJournal
+  unfolding shortOf shortVertex shortFirst shortNote shortList openState takeBody takeFirstBody takeTimeout takeNoVote
   short-is (opening n) = ap (λ (why : Refusal). outcome why l (opened n)) (sym (next _ _ (eq-eqb (length l) 5864 (S .size)) refl))
   short-is (vertex rec) = past _ _ ∙ ap (outcome (shortVertex l rec) l) (commits-are 31 _)
   short-is (firstMessage rec) = past _ _ ∙ ap (outcome (shortFirst l rec) l) (commits-are 31 _)
   short-is (timeout r p) = past _ _
   short-is (noVote r p) = past _ _
-  short-is status = past-reading []
-  short-is (askLeaderList k) = past-reading _
-  short-is (askJournalList k) = past-reading _
-  short-is (handLeaderList k) = past-reading _
-  short-is (handJournalList k) = past-reading _
+  short-is status = ap (λ (x : ℕ). reading x l) (status-number (firstNo (stateQuestions l)) l ∙ ap numberOf (sym (past-state l [] S) ∙ sym done))
+  short-is (askLeaderList k) = past-asking _
+  short-is (askJournalList k) = past-asking _
+  short-is (handLeaderList k) = ap (λ (s : Span). reading (s .number) l) (past-handing 200 k (leaderCount l))
+  short-is (handJournalList k) = ap (λ (s : Span). reading (s .number) l) (past-handing 232 k (journalCount l))
+
+  -- and what is given
+  given-is : (c : Call) → givenOf c l ≡ shortGiven c l
+  unfolding shortGiven
+  given-is (opening n) = refl
+  given-is (vertex rec) = refl
+  given-is (firstMessage rec) = refl
+  given-is (timeout r p) = refl
+  given-is (noVote r p) = refl
+  given-is status = refl
+  given-is (askLeaderList k) = refl
+  given-is (askJournalList k) = refl
+  given-is (handLeaderList k) = ap (λ (s : Span). part s (wordsIn l s)) (past-handing 200 k (leaderCount l))
+  given-is (handJournalList k) = ap (λ (s : Span). part s (wordsIn l s)) (past-handing 232 k (journalCount l))
 
   -- a state that a call leaves well formed
   sound-kept : (k : List ℕ) → (length k ≡ stateSize) × (wellFormed k ≡ true) → Sound k
@@ -198,10 +246,11 @@ admitted-is (c ∷ calls) l S =
     ∙ ap (λ (o : Outcome). eqb (o .number) 0 && shortAdmitted (o .words) calls) (short-is l S c)
 
 -- what is seen, without asking for the lists
-shortSeen : Outcome → Seen
-shortSeen o = record {
+shortSeen : Outcome → Given → Seen
+shortSeen o given = record {
   number = o .number;
   id = o .id;
+  given = given;
   round = currentRound (o .words);
   committed = committedRound (o .words);
   leaders = leaderList (o .words);
@@ -209,11 +258,12 @@ shortSeen o = record {
 }
 
 -- it is the same
-seen-is : (o : Outcome) → Sound (o .words) → seen o ≡ shortSeen o
+seen-is : (o : Outcome) (given : Given) → Sound (o .words) → seen o given ≡ shortSeen o given
 unfolding shortSeen
-seen-is o S =
+seen-is o given S =
     let l = o .words in
-    ap₂ (λ (x y : List ℕ). record { number = o .number; id = o .id; round = currentRound l; committed = committedRound l; leaders = x; journal = y })
+    ap₂ (λ (x y : List ℕ).
+    record { number = o .number; id = o .id; given = given; round = currentRound l; committed = committedRound l; leaders = x; journal = y })
     (hand-leaders l (S .size) (well-formed l S)) (hand-journal l (S .size) (well-formed l S))
 
 -- ---- the rows
@@ -228,7 +278,7 @@ opens n e = open-yes zeros n (open-taken zeros n zeros-size e) .1
 
 -- what a row's calls end in where they start with opening 4
 shortEnd : Row → Seen
-shortEnd x = shortSeen (shortOf (x .last) (shortRun (opened 4) (drop 1 (x .calls))))
+shortEnd x = shortSeen (shortOf (x .last) (shortRun (opened 4) (drop 1 (x .calls)))) (shortGiven (x .last) (shortRun (opened 4) (drop 1 (x .calls))))
 
 -- four members
 four : legal 4 ≡ true
@@ -242,9 +292,10 @@ end-is x e =
     let before = drop 1 (x .calls) in
     let start : run zeros (x .calls) ≡ run (opened 4) before = ap (run zeros) e ∙ ap (λ (l : List ℕ). run l before) (opens 4 four) in
     let w = run-is before (opened 4) (opened-sound 4 four) in
-    ap (λ (l : List ℕ). seen (outcomeOf (x .last) l)) start
-    ∙ seen-is (outcomeOf (x .last) (run (opened 4) before)) (sound-after (run (opened 4) before) (w .1) (x .last))
-    ∙ ap shortSeen (short-is (run (opened 4) before) (w .1) (x .last) ∙ ap (shortOf (x .last)) (w .0))
+    let l : List ℕ = run (opened 4) before in
+    ap (λ (m : List ℕ). seen (outcomeOf (x .last) m) (givenOf (x .last) m)) start
+    ∙ seen-is (outcomeOf (x .last) l) (givenOf (x .last) l) (sound-after l (w .1) (x .last))
+    ∙ ap₂ shortSeen (short-is l (w .1) (x .last) ∙ ap (shortOf (x .last)) (w .0)) (given-is l (w .1) (x .last) ∙ ap (shortGiven (x .last)) (w .0))
 
 -- its calls before the last are admitted where the test says so of those after the opening
 calls-admitted : (x : Row) → x .calls ≡ opening 4 ∷ drop 1 (x .calls) → shortAdmitted (opened 4) (drop 1 (x .calls)) ≡ true
@@ -281,7 +332,8 @@ computed : Row → Bool × Seen
 computed x = (shortAdmitted (opened 4) (drop 1 (x .calls)), shortEnd x)
 
 ends : map computed later ≡ map (λ (x : Row). (true, x .end)) later
-unfolding later rows computed shortAdmitted shortEnd shortSeen shortOf shortVertex shortFirst shortNote shortList shortRun opened outcome legal leader
+unfolding later rows computed shortAdmitted shortEnd shortSeen shortOf shortGiven shortSpan spanIf shortVertex shortFirst shortNote shortList
+    shortRun opened outcome legal leader
     has within meets
     firstNo strongOf timeoutsOf noVotesOf weakCountOf weakOf roundOk masksOk strongOk lacksLeader quorumIf timeoutsOk noVotesOk weakIdOk rises
     slotOk weakOk all any count select least committed path historyUpTo chain walk vertices firsts isParent missing parentsHeld passable
@@ -290,15 +342,18 @@ unfolding later rows computed shortAdmitted shortEnd shortSeen shortOf shortVert
 ends = refl
 
 -- what is seen after an opening with answer 0
-opened-seen : (n : ℕ) → legal n ≡ true → seen (openState zeros n) ≡ record { number = 0; id = 0; round = 1; committed = 0; leaders = []; journal = [] }
-opened-seen n e = ap seen same ∙ seen-is (outcome None zeros (opened n)) (unfold outcome in opened-sound n e) ∙ unfold outcome shortSeen opened in refl
+opened-seen : (n : ℕ) → legal n ≡ true
+    → seen (openState zeros n) nothing ≡ record { number = 0; id = 0; given = nothing; round = 1; committed = 0; leaders = []; journal = [] }
+opened-seen n e = ap (λ (o : Outcome). seen o nothing) same
+    ∙ seen-is (outcome None zeros (opened n)) nothing (unfold outcome in opened-sound n e) ∙ unfold outcome shortSeen opened in refl
   where
     same : openState zeros n ≡ outcome None zeros (opened n)
     same = unfold openState in ap (λ (why : Refusal). outcome why zeros (opened n)) (sym (next _ _ (eq-eqb _ _ zeros-size) (next _ _ e done)))
 
 -- and after one with another member count
-refused-seen : (n : ℕ) → legal n ≡ false → seen (openState zeros n) ≡ record { number = 2; id = 0; round = 0; committed = 0; leaders = []; journal = [] }
-refused-seen n e = ap seen same ∙ unfold outcome handLeaders handJournal askLeaders askJournal firstNo wellFormed legal in refl
+refused-seen : (n : ℕ) → legal n ≡ false
+    → seen (openState zeros n) nothing ≡ record { number = 2; id = 0; given = nothing; round = 0; committed = 0; leaders = []; journal = [] }
+refused-seen n e = ap (λ (o : Outcome). seen o nothing) same ∙ unfold outcome spanIf firstNo wellFormed legal in refl
   where
     same : openState zeros n ≡ outcome MemberCount zeros (opened n)
     same = unfold openState in ap (λ (why : Refusal). outcome why zeros (opened n)) (sym (next _ _ (eq-eqb _ _ zeros-size) (stop _ _ e)))

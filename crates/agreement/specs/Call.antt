@@ -1,12 +1,15 @@
--- Lists of calls on a replica state, by the very definitions that the calls' contracts cite.
+-- Lists of calls on a replica state. What a call ends in and gives is said by the definitions that its contract cites, and by no others.
 use mathlib.Core.Bool.{Bool, true, not, _&&_}
 use mathlib.Core.List.{List, [], _∷_}
 use Prim.Native.Nat.{ℕ}
 use Rattle.record.specs.Members.{legal}
-use Rattle.record.specs.Refusals.{firstNo}
-use Rattle.record.specs.declared.refusal.Refusal.{Refusal}
-use Rattle.replica.specs.Outcome.{Outcome, refused}
-use Rattle.replica.specs.Lists.{openState, stateQuestions, askLeaders, askJournal}
+use Rattle.record.specs.Refusals.{numberOf}
+use Rattle.replica.specs.Outcome.{Outcome}
+use Rattle.replica.specs.Opening.{openState}
+use Rattle.replica.specs.Status.{statusOf}
+use Rattle.replica.specs.Place.{Span, wordsIn}
+use Rattle.replica.specs.Lists.{askLeaders, askJournal, handLeaders, handJournal}
+use Rattle.replica.specs.declared.answer.Status.{Status}
 use Rattle.ordering.specs.Calls.{takeVertex, takeFirstMessage, takeTimeout, takeNoVote}
 
 -- the calls that document 01 names, with any arguments
@@ -22,22 +25,40 @@ pub data Call : Type 0 where
   handLeaderList : ℕ → Call
   handJournalList : ℕ → Call
 
--- a call that only reads: its number, and the words as they were
-abbrev pub reading : Refusal → List ℕ → Outcome
-reading why l = refused why l
+-- status and handing over have no id, add nothing and leave the words
+abbrev pub reading : ℕ → List ℕ → Outcome
+reading number l = record { number = number; id = 0; leaders = 0; journal = 0; words = l }
 
--- what a call on the words l ends in; handing over a list has the number of asking for it
+-- what a call on the words l ends in
 abbrev pub outcomeOf : Call → List ℕ → Outcome
 outcomeOf (opening n) l = openState l n
 outcomeOf (vertex rec) l = takeVertex l rec
 outcomeOf (firstMessage rec) l = takeFirstMessage l rec
 outcomeOf (timeout r p) l = takeTimeout l r p
 outcomeOf (noVote r p) l = takeNoVote l r p
-outcomeOf status l = reading (firstNo (stateQuestions l)) l
-outcomeOf (askLeaderList k) l = reading (askLeaders l k) l
-outcomeOf (askJournalList k) l = reading (askJournal l k) l
-outcomeOf (handLeaderList k) l = reading (askLeaders l k) l
-outcomeOf (handJournalList k) l = reading (askJournal l k) l
+outcomeOf status l = reading (numberOf (statusOf l .refusal)) l
+outcomeOf (askLeaderList k) l = askLeaders l k
+outcomeOf (askJournalList k) l = askJournal l k
+outcomeOf (handLeaderList k) l = reading (handLeaders l k .number) l
+outcomeOf (handJournalList k) l = reading (handJournal l k .number) l
+
+-- what it gives beside its outcome: status the struct, and handing over a part of the words l, as its span and its words
+pub data Given : Type 0 where
+  nothing : Given
+  head : Status → Given
+  part : Span → List ℕ → Given
+
+abbrev pub givenOf : Call → List ℕ → Given
+givenOf (opening n) l = nothing
+givenOf (vertex rec) l = nothing
+givenOf (firstMessage rec) l = nothing
+givenOf (timeout r p) l = nothing
+givenOf (noVote r p) l = nothing
+givenOf status l = head (statusOf l)
+givenOf (askLeaderList k) l = nothing
+givenOf (askJournalList k) l = nothing
+givenOf (handLeaderList k) l = part (handLeaders l k) (wordsIn l (handLeaders l k))
+givenOf (handJournalList k) l = part (handJournal l k) (wordsIn l (handJournal l k))
 
 -- each call gets the words as the one before left them
 unfoldable pub run : List ℕ → List Call → List ℕ

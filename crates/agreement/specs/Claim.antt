@@ -11,7 +11,9 @@ use Rattle.protocol.specs.Dag.{votes}
 use Rattle.protocol.specs.Chain.{leaders}
 use Rattle.protocol.specs.Journal.{journal}
 use Rattle.protocol.specs.Claims.{Prefix}
-use Rattle.replica.specs.Lists.{openState, handLeaders, handJournal}
+use Rattle.replica.specs.Opening.{openState}
+use Rattle.replica.specs.Place.{wordsIn}
+use Rattle.replica.specs.Lists.{handLeaders, handJournal}
 use Rattle.agreement.specs.Call.{Call, run, allAllowed}
 use Rattle.agreement.specs.Model.{Model, modelOf, dagOf}
 
@@ -44,15 +46,22 @@ module _ (n : ℕ) (a b : Model) (honest : ℕ → Bool) where
     pub no-both : (x y : List ℕ) → Vertex x ⊎ First x → Vertex y → roundOf x ≡ roundOf y → honest (sourceOf x) ≡ true
         → votes n (roundOf x - 1) (bodyOf x) ≡ true → has (noVotesOf (bodyOf y)) (sourceOf x) ≡ true → ⊥
 
+-- leader list and journal of a state: the words of the parts that handing over from entry 0 gives
+abbrev pub leadersIn : List ℕ → List ℕ
+leadersIn l = wordsIn l (handLeaders l 0)
+
+abbrev pub journalIn : List ℕ → List ℕ
+journalIn l = wordsIn l (handJournal l 0)
+
 -- both lists of the state l are prefixes of those of the state k
 pub record Behind (l k : List ℕ) : Type 0 where
-  pub leader-list : Prefix (handLeaders l 0) (handLeaders k 0)
-  pub journal-list : Prefix (handJournal l 0) (handJournal k 0)
+  pub leader-list : Prefix (leadersIn l) (leadersIn k)
+  pub journal-list : Prefix (journalIn l) (journalIn k)
 
--- the lists that handing over from entry 0 gives of a state are those of the model
+-- the lists of a state are those of the model
 pub record Matches (l : List ℕ) (m : Model) : Type 0 where
-  pub leader-list : handLeaders l 0 ≡ leaders (m .n) (dagOf m)
-  pub journal-list : handJournal l 0 ≡ journal (m .n) (dagOf m)
+  pub leader-list : leadersIn l ≡ leaders (m .n) (dagOf m)
+  pub journal-list : journalIn l ≡ journal (m .n) (dagOf m)
 
 -- The states l and k after two lists of calls: each has exactly its model's lists, and leader list and journal of the one are prefixes of the other's.
 pub record Agreed (l k : List ℕ) (a b : Model) : Type 0 where

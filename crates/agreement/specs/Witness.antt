@@ -4,10 +4,10 @@ use mathlib.Core.Bool.{Bool, true, false}
 use mathlib.Core.List.{List, [], _∷_, _++_, map}
 use Prim.Native.Nat.{ℕ}
 use Rattle.protocol.specs.Witness.{vertexOf, firstOf, dag, honest}
-use Rattle.replica.specs.Lists.{opened, openState, handLeaders, handJournal}
+use Rattle.replica.specs.Opening.{opened, openState}
 use Rattle.agreement.specs.Call.{Call, opening, vertex, firstMessage, timeout, noVote, status, askLeaderList, handJournalList, run, allAllowed}
 use Rattle.agreement.specs.Model.{Model, modelOf, dagOf}
-use Rattle.agreement.specs.Claim.{Premises, Agreed}
+use Rattle.agreement.specs.Claim.{Premises, leadersIn, journalIn, Agreed}
 
 -- both states: opened with 4
 abbrev pub start : List ℕ
@@ -34,7 +34,7 @@ pub record Witness : Type 0 where
   pub same-dag : (i : Bool) → dagOf (modelFor i) ≡ dag i
   -- what the claim gives, and that it is not about empty lists
   pub agreed : Agreed (run start (callsOf true)) (run start (callsOf false)) (modelFor true) (modelFor false)
-  pub leaders-first : handLeaders (run start (callsOf true)) 0 ≡ 50 ∷ 67 ∷ []
-  pub leaders-second : handLeaders (run start (callsOf false)) 0 ≡ 50 ∷ []
-  pub journal-first : handJournal (run start (callsOf true)) 0 ≡ 16 ∷ 17 ∷ 18 ∷ 19 ∷ 32 ∷ 34 ∷ 35 ∷ 50 ∷ 33 ∷ 48 ∷ 49 ∷ 51 ∷ 67 ∷ []
-  pub journal-second : handJournal (run start (callsOf false)) 0 ≡ 16 ∷ 17 ∷ 18 ∷ 19 ∷ 32 ∷ 34 ∷ 35 ∷ 50 ∷ []
+  pub leaders-first : leadersIn (run start (callsOf true)) ≡ 50 ∷ 67 ∷ []
+  pub leaders-second : leadersIn (run start (callsOf false)) ≡ 50 ∷ []
+  pub journal-first : journalIn (run start (callsOf true)) ≡ 16 ∷ 17 ∷ 18 ∷ 19 ∷ 32 ∷ 34 ∷ 35 ∷ 50 ∷ 33 ∷ 48 ∷ 49 ∷ 51 ∷ 67 ∷ []
+  pub journal-second : journalIn (run start (callsOf false)) ≡ 16 ∷ 17 ∷ 18 ∷ 19 ∷ 32 ∷ 34 ∷ 35 ∷ 50 ∷ []

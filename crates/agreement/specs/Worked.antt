@@ -8,26 +8,30 @@ use lib.ListN.{replicate}
 use Rattle.replica.specs.Layout.{stateSize}
 use Rattle.replica.specs.State.{currentRound, committedRound}
 use Rattle.replica.specs.Outcome.{Outcome}
-use Rattle.replica.specs.Lists.{handLeaders, handJournal}
-use Rattle.agreement.specs.Call.{Call, opening, vertex, firstMessage, timeout, askJournalList, handJournalList, outcomeOf, run}
+use Rattle.replica.specs.Place.{Span}
+use Rattle.agreement.specs.Call.{Call, opening, vertex, firstMessage, timeout, askJournalList, handJournalList}
+use Rattle.agreement.specs.Call.{outcomeOf, Given, nothing, part, givenOf, run}
+use Rattle.agreement.specs.Claim.{leadersIn, journalIn}
 
--- what is seen after a call: its number and id, the rounds, and the two lists as handing over from entry 0 gives them
+-- what is seen after a call: its number and id, what it gives beside them, the rounds, and the two lists
 pub record Seen : Type 0 where
   pub number : ℕ
   pub id : ℕ
+  pub given : Given
   pub round : ℕ
   pub committed : ℕ
   pub leaders : List ℕ
   pub journal : List ℕ
 
-abbrev pub seen : Outcome → Seen
-seen o = record {
+abbrev pub seen : Outcome → Given → Seen
+seen o given = record {
   number = o .number;
   id = o .id;
+  given = given;
   round = currentRound (o .words);
   committed = committedRound (o .words);
-  leaders = handLeaders (o .words) 0;
-  journal = handJournal (o .words) 0;
+  leaders = leadersIn (o .words);
+  journal = journalIn (o .words);
 }
 
 -- a row: calls on 5,864 zero words, which are all admitted; a last call; and what must be seen then
@@ -46,7 +50,7 @@ allAdmitted l (c ∷ calls) = eqb (outcomeOf c l .number) 0 && allAdmitted (outc
 
 -- what is seen after the last call
 abbrev pub ending : Row → Seen
-ending x = seen (outcomeOf (x .last) (run zeros (x .calls)))
+ending x = seen (outcomeOf (x .last) (run zeros (x .calls))) (givenOf (x .last) (run zeros (x .calls)))
 
 pub record Passes (x : Row) : Type 0 where
   pub admitted : allAdmitted zeros (x .calls) ≡ true
@@ -76,10 +80,21 @@ vtn r p strong timeouts noVotes = vertex (rec r p strong timeouts noVotes 0)
 abbrev pub v1 : ℕ → ℕ → Call
 v1 p tag = vertex (rec 1 p 0 0 0 tag)
 
--- the calls before the last one, the last one, and then: number, id, current round, committed round, leader list, journal
+-- the calls before the last one, the last one, and then: number, id, what the last call gives, current round, committed round, leader list, journal
+abbrev pub giving : List Call → Call → ℕ → ℕ → Given → ℕ → ℕ → List ℕ → List ℕ → Row
+giving calls last number id given round committed leaders journal = record {
+  calls = calls;
+  last = last;
+  end = record { number = number; id = id; given = given; round = round; committed = committed; leaders = leaders; journal = journal };
+}
+
+-- so where the last call gives nothing beside its number and id
 abbrev pub row : List Call → Call → ℕ → ℕ → ℕ → ℕ → List ℕ → List ℕ → Row
-row calls last number id round committed leaders journal =
-    record { calls = calls; last = last; end = record { number = number; id = id; round = round; committed = committed; leaders = leaders; journal = journal } }
+row calls last number id round committed leaders journal = giving calls last number id nothing round committed leaders journal
+
+-- a span: its number, its first word, and how many words it has
+abbrev pub span : ℕ → ℕ → ℕ → Span
+span number start length = record { number = number; start = start; length = length }
 
 -- a state opened with 4, and after it S
 abbrev pub fresh : List Call
@@ -127,9 +142,9 @@ rows =
     ∷ row (s ++ v1 3 13 ∷ vt 2 0 14 7 ∷ vt 2 2 14 7 ∷ vtn 2 1 14 7 14 ∷ f 3 0 7 ∷ f 3 1 7 ∷ []) (f 3 2 7) 0 0 3 2 (33 ∷ []) (17 ∷ 18 ∷ 19 ∷ 33 ∷ [])
     -- Fresh state, journal from 0: 0 and an empty part. From 1: 15.
     ∷ row fresh (askJournalList 0) 0 0 1 0 [] []
-    ∷ row fresh (handJournalList 0) 0 0 1 0 [] []
+    ∷ giving fresh (handJournalList 0) 0 0 (part (span 0 232 0) []) 1 0 [] []
     ∷ row fresh (askJournalList 1) 15 0 1 0 [] []
-    ∷ row fresh (handJournalList 1) 15 0 1 0 [] []
+    ∷ giving fresh (handJournalList 1) 15 0 (part (span 15 0 0) []) 1 0 [] []
     ∷ []
 
 -- THE CLAIM: every row of the table passes.

@@ -15,8 +15,8 @@ use replica::lists::ask_journal;
 use replica::lists::ask_leaders;
 use replica::lists::hand_journal;
 use replica::lists::hand_leaders;
-use replica::lists::open;
-use replica::lists::status;
+use replica::opening::open;
+use replica::status::status;
 
 // The number, the id, and the two counts.
 fn put_answer(answer: Answer) {
@@ -25,6 +25,12 @@ fn put_answer(answer: Answer) {
     put(missing_id(why));
     put(answer.leaders);
     put(answer.journal);
+}
+
+// The number alone: asking has no id, and adds nothing.
+fn put_number(answer: Answer) {
+    let why = answer.refusal;
+    put(number(why));
 }
 
 // The number, and the four words.
@@ -41,8 +47,8 @@ fn put_status(status: Status) {
 fn read(state: &[u32], op: u32, a: u32) {
     match op {
         4 => put_status(status(state)),
-        5 => put(number(ask_leaders(state, a))),
-        6 => put(number(ask_journal(state, a))),
+        5 => put_number(ask_leaders(state, a)),
+        6 => put_number(ask_journal(state, a)),
         7 => put_list(hand_leaders(state, a)),
         8 => put_list(hand_journal(state, a)),
         _ => (),

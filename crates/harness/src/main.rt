@@ -17,7 +17,7 @@
 //   12 a b takes a no-vote of round a and signer b
 //   13 a   the record has a words from now on, all zero, at most 20
 //   14 a b word a of the record becomes b, if the record has it
-// A call prints a line: the operation, the numbers of the answer, and the checksum.
+// A call prints a line: the operation, the numbers of the answer (of asking, the number alone), and the checksum.
 mod calls;
 mod input;
 mod output;

@@ -19,7 +19,7 @@ use Rattle.record.proofs.Turn.{round-range, admitted}
 use Rattle.protocol.specs.Dag.{votes}
 use Rattle.replica.specs.Layout.{masksAt, heldAt, heardAt, votesAt, timeoutsAt, noVotesAt, cellAt}
 use Rattle.replica.specs.State.{memberCount, currentRound, heldMask, heardMask, votesMask, cell, heldId}
-use Rattle.replica.specs.WellFormed.{parentsHeld}
+use Rattle.replica.specs.Parents.{parentsHeld}
 use Rattle.replica.proofs.Sound.{Masks, Cells, Sound}
 use Rattle.replica.proofs.Keeping.{Keeps, keeps-set, keeps-part, parents-more, front-kept, masks-kept, cells-kept, held-kept, held-id-kept}
 use Rattle.replica.proofs.Keeping.{leaders-kept, journal-kept}

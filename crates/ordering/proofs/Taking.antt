@@ -13,7 +13,8 @@ use Rattle.record.specs.Admitted.{Admitted}
 use Rattle.record.specs.declared.refusal.Refusal.{Refusal}
 use Rattle.replica.specs.Layout.{stateSize, masksAt}
 use Rattle.replica.specs.State.{memberCount, leaderCount, journalCount, timeoutsMask, noVotesMask}
-use Rattle.replica.specs.WellFormed.{wellFormed, parentsHeld}
+use Rattle.replica.specs.Parents.{parentsHeld}
+use Rattle.replica.specs.WellFormed.{wellFormed}
 use Rattle.replica.specs.Outcome.{Outcome, told, refusedBy, admitted, outcome}
 use Rattle.replica.specs.declared.answer.Answer.{Answer}
 use Rattle.replica.proofs.Sound.{Sound, well-formed}

@@ -23,48 +23,20 @@ use Rattle.record.proofs.Turn as turn
 use Rattle.protocol.specs.Journal.{idLimit}
 use Rattle.replica.specs.Layout.{stateSize}
 use Rattle.replica.specs.State.{memberCount, heldMask, heardMask, leaderCount, journalCount}
-use Rattle.replica.specs.WellFormed.{wellFormed, missing, parentsHeld}
-use Rattle.replica.specs.Outcome.{Outcome, told, refusedBy, refused, admitted, outcome}
-use Rattle.replica.specs.Lists.{stateQuestions}
-use Rattle.replica.proofs.Calls.{state-ok}
+use Rattle.replica.specs.Parents.{missing, parentsHeld}
+use Rattle.replica.specs.WellFormed.{wellFormed}
+use Rattle.replica.specs.Outcome.{Outcome, told, refusedBy, admitted, outcome}
+use Rattle.replica.specs.Status.{stateQuestions}
+use Rattle.replica.proofs.StatusLaws.{numbered, front-no, front-yes, both-fronts, state-numbered, state-ok}
 use Rattle.replica.proofs.Sound.{Sound, sound}
 use Rattle.replica.proofs.Parents.{round-in}
 use Rattle.record.specs.Admitted.{Admitted}
 use Rattle.ordering.specs.Calls.{sameBody, placeQuestions, noteQuestions}
 
--- ---- the first no of two lists
-
--- every question has a refusal with a number
-pub numbered : List Question → Bool
-numbered [] = true
-numbered (q ∷ rest) = not (eqb (numberOf (q .1)) 0) && numbered rest
-
-pub front-no : (xs ys : List Question) → (numberOf (firstNo xs) ≡ 0 → ⊥) → firstNo xs ≡ firstNo (xs ++ ys)
-unfolding firstNo
-front-no [] ys h = absurd (h refl)
-front-no ((true, why) ∷ xs) ys h = front-no xs ys h
-front-no ((false, why) ∷ xs) ys h = refl
-
-pub front-yes : (xs ys : List Question) → numbered xs ≡ true → numberOf (firstNo xs) ≡ 0 → firstNo ys ≡ firstNo (xs ++ ys)
-unfolding firstNo numbered
-front-yes [] ys n h = refl
-front-yes ((true, why) ∷ xs) ys n h = front-yes xs ys (and-right (not (eqb (numberOf why) 0)) _ n) h
-front-yes ((false, why) ∷ xs) ys n h = never (and-left (not (eqb (numberOf why) 0)) _ n) (ap not (eq-eqb (numberOf why) 0 h))
-
-pub state-numbered : (l : List ℕ) → numbered (stateQuestions l) ≡ true
-unfolding numbered
-state-numbered l = refl
-
+-- every question of a record has a refusal with a number
 pub record-numbered : (n r p : ℕ) (body : List ℕ) → numbered (recordQuestions n r p body) ≡ true
 unfolding numbered
 record-numbered n r p body = refl
-
--- if all are answered yes, so are those of both lists
-pub both-fronts : (xs ys : List Question) → numbered xs ≡ true → numberOf (firstNo (xs ++ ys)) ≡ 0 → (numberOf (firstNo xs) ≡ 0) × (numberOf (firstNo ys) ≡ 0)
-unfolding firstNo numbered
-both-fronts [] ys n h = (refl, h)
-both-fronts ((true, why) ∷ xs) ys n h = both-fronts xs ys (and-right (not (eqb (numberOf why) 0)) _ n) h
-both-fronts ((false, why) ∷ xs) ys n h = never (and-left (not (eqb (numberOf why) 0)) _ n) (ap not (eq-eqb (numberOf why) 0 h))
 
 -- ---- the answers of a call with a record, whose last questions are rest
 

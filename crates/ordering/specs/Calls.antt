@@ -16,9 +16,9 @@ use Rattle.protocol.specs.Dag.{votes}
 use Rattle.protocol.specs.Journal.{idLimit}
 use Rattle.replica.specs.Layout.{masksAt, heldAt, heardAt, votesAt, timeoutsAt, noVotesAt, cellAt}
 use Rattle.replica.specs.State.{memberCount, heldMask, heardMask, timeoutsMask, noVotesMask, cell}
-use Rattle.replica.specs.WellFormed.{missing, parentsHeld}
+use Rattle.replica.specs.Parents.{missing, parentsHeld}
 use Rattle.replica.specs.Outcome.{Outcome, outcome}
-use Rattle.replica.specs.Lists.{stateQuestions}
+use Rattle.replica.specs.Status.{stateQuestions}
 use Rattle.commits.specs.Commit.{raiseRound, commitAll}
 
 -- member p is added to the mask in the word at

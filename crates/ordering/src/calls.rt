@@ -11,7 +11,8 @@ ghost use Rattle.record.specs.Questions.{bodyRefusal};
 ghost use Rattle.protocol.specs.Journal.{idLimit};
 ghost use Rattle.replica.specs.Layout.{stateSize, cellAt};
 ghost use Rattle.replica.specs.State.{memberCount, heldMask};
-ghost use Rattle.replica.specs.WellFormed.{missing, wellFormed};
+ghost use Rattle.replica.specs.Parents.{missing};
+ghost use Rattle.replica.specs.WellFormed.{wellFormed};
 ghost use Rattle.replica.specs.Outcome.{told, admitted};
 ghost use Rattle.ordering.specs.Calls.{addMember, sameBody, placeQuestions, vertexRefusal, putVertex, takeVertex, firstRefusal, hear, takeFirstMessage};
 ghost use Rattle.ordering.specs.Calls.{noteRefusal, takeTimeout, takeNoVote};
@@ -49,7 +50,7 @@ use replica::layout::held_mask;
 use replica::layout::is_held;
 use replica::layout::masks_at;
 use replica::layout::wide;
-use replica::lists::check_state;
+use replica::status::check_state;
 
 // Member p is added to the mask in the word.
 fn add_member(state: &mut [u32], n: u32, at: usize, p: u32)

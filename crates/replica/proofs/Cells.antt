@@ -17,7 +17,8 @@ use Rattle.record.proofs.Below.{all-none, all-cong, all-join}
 use Rattle.record.proofs.Masks.{has-zero, has-bound, legal-range}
 use Rattle.replica.specs.Layout.{cellAt}
 use Rattle.replica.specs.State.{memberCount, heldMask, cell}
-use Rattle.replica.specs.WellFormed.{eachRound, masksWithin, parentsHeld, cellOk}
+use Rattle.replica.specs.Parents.{parentsHeld}
+use Rattle.replica.specs.WellFormed.{eachRound, masksWithin, cellOk}
 use Rattle.replica.proofs.Laws.{blank, part-zero}
 use Rattle.replica.proofs.Parents.{recordPasses}
 use Rattle.replica.proofs.Words.{masks-small, round-elim}

@@ -26,7 +26,7 @@ use Rattle.protocol.proofs.Paths.{parent-present, weak-present}
 use Rattle.protocol.proofs.History.{id-round, id-member}
 use Rattle.replica.specs.Layout.{stateSize, cellAt}
 use Rattle.replica.specs.State.{memberCount, heldMask, heardMask, votesMask, cell, vertices, firsts, heldId}
-use Rattle.replica.specs.WellFormed.{isParent, missing, parentsHeld}
+use Rattle.replica.specs.Parents.{isParent, missing, parentsHeld}
 use Rattle.replica.proofs.Sound.{Sound, length-part}
 
 -- a round from 1 to 32

@@ -2,7 +2,9 @@ pub mod Laws
 pub mod Clauses
 pub mod Parents
 pub mod Cells
-pub mod Calls
+pub mod OpeningLaws
+pub mod StatusLaws
+pub mod ListLaws
 pub mod Words
 pub mod Weak
 pub mod Marks

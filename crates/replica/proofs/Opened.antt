@@ -17,7 +17,7 @@ use Rattle.protocol.proofs.Lists.{among-none, once, once-none}
 use Rattle.replica.specs.Layout.{stateSize, masksAt, cellAt}
 use Rattle.replica.specs.State.{memberCount, currentRound, leaderList, journalList, vertices, firsts}
 use Rattle.replica.specs.WellFormed.{wellFormed}
-use Rattle.replica.specs.Lists.{opened}
+use Rattle.replica.specs.Opening.{opened}
 use Rattle.replica.proofs.Sound.{Sound, Led, well-formed}
 
 -- every word of a run of zeros, and beyond it

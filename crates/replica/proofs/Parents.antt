@@ -24,7 +24,8 @@ use Rattle.record.proofs.Turn.{admitted}
 use Rattle.record.proofs.Parts.{admitted-parts}
 use Rattle.protocol.specs.Journal.{idLimit}
 use Rattle.replica.specs.State.{memberCount, heldMask, heldId}
-use Rattle.replica.specs.WellFormed.{subset, isParent, missing, parentsHeld}
+use Rattle.replica.specs.Parents.{isParent, missing, parentsHeld}
+use Rattle.replica.specs.WellFormed.{subset}
 use Rattle.replica.proofs.Laws.{subset-has, has-subset}
 
 pub round-in : (r : ℕ) → 1 ≤ r → r ≤ 32 → roundOk r ≡ true

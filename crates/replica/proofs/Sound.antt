@@ -25,7 +25,8 @@ use Rattle.replica.specs.Layout.{stateSize, cellAt}
 use Rattle.replica.specs.State.{memberCount, currentRound, committedRound, leaderCount, journalCount, heldMask, heardMask, votesMask}
 use Rattle.replica.specs.State.{timeoutsMask, noVotesMask, orderedMask, leaderWord, journalWord, leaderList, journalList, cell, heldId}
 use Rattle.replica.specs.State.{orderedId}
-use Rattle.replica.specs.WellFormed.{subset, masksWithin, parentsHeld, cellOk, leaderOk, lastLeaderRound, leadersOk, entryOk, journalOk}
+use Rattle.replica.specs.Parents.{parentsHeld}
+use Rattle.replica.specs.WellFormed.{subset, masksWithin, cellOk, leaderOk, lastLeaderRound, leadersOk, entryOk, journalOk}
 use Rattle.replica.specs.WellFormed.{restZero, wellFormed}
 
 -- ---- the facts

@@ -1,5 +1,9 @@
 pub mod Layout
 pub mod State
+pub mod Parents
 pub mod WellFormed
 pub mod Outcome
+pub mod Opening
+pub mod Status
+pub mod Place
 pub mod Lists

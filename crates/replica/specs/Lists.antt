@@ -1,73 +1,58 @@
--- Opening, status (01: read the head), and the list calls.
-use mathlib.Core.Bool.{Bool, cond}
-use mathlib.Core.List.{List, [], _∷_}
-use Prim.Native.Nat.{ℕ}
+-- Asking for and handing over a list: the leader list, or the journal.
+use mathlib.Core.Path.{_≡_}
+use mathlib.Core.Bool.{cond}
+use mathlib.Core.List.{List, [], _∷_, _++_}
+use Prim.Native.Nat.{ℕ, _+_, _-_, _≤_}
 use lib.Dec.{eqb, leb}
-use lib.ListN.{length, drop, replicate}
-use Rattle.record.specs.Members.{legal}
-use Rattle.record.specs.Refusals.{numberOf, Question, firstNo}
-use Rattle.record.specs.declared.refusal.Refusal.{Refusal}
-use Rattle.record.specs.declared.refusal.Refusal.the-variants.{StateSize, MemberCount, Malformed, PastEnd}
-use Rattle.replica.specs.Layout.{stateSize}
-use Rattle.replica.specs.State.{currentRound, committedRound, leaderCount, journalCount, leaderList, journalList}
-use Rattle.replica.specs.WellFormed.{wellFormed}
-use Rattle.replica.specs.Outcome.{Outcome, outcome}
-use Rattle.replica.specs.declared.answer.Status.{Status}
+use lib.ListN.{length, drop}
+use Rattle.record.specs.Refusals.{Question, firstNo}
+use Rattle.record.specs.declared.refusal.Refusal.the-variants.{PastEnd}
+use Rattle.replica.specs.Layout.{leadersAt, journalAt}
+use Rattle.replica.specs.State.{leaderCount, journalCount, leaderList, journalList}
+use Rattle.replica.specs.Outcome.{Outcome, unchanged}
+use Rattle.replica.specs.Status.{stateQuestions}
+use Rattle.replica.specs.Place.{Span, wordsIn}
 
--- ---- opening
+-- ---- asking
 
-abbrev pub openQuestions : List ℕ → ℕ → List Question
-openQuestions l n = (eqb (length l) stateSize, StateSize) ∷ (legal n, MemberCount) ∷ []
-
--- n, current round 1, all others 0
-unfoldable pub opened : ℕ → List ℕ
-opened n = n ∷ 1 ∷ replicate 5862 0
-
-unfoldable pub openState : List ℕ → ℕ → Outcome
-openState l n = outcome (firstNo (openQuestions l n)) l (opened n)
-
--- ---- status
-
--- questions 1 and 3, which every call but opening asks first
-abbrev pub stateQuestions : List ℕ → List Question
-stateQuestions l = (eqb (length l) stateSize, StateSize) ∷ (wellFormed l, Malformed) ∷ []
-
--- the number and words 1 to 4
-pub record Head : Type 0 where
-  pub number : ℕ
-  pub currentRound : ℕ
-  pub committedRound : ℕ
-  pub leaderCount : ℕ
-  pub journalCount : ℕ
-
-abbrev pub headOf : Status → Head
-headOf s = record { number = numberOf (s .refusal); currentRound = s .«current_round»; committedRound = s .«committed_round»; leaderCount = s .«leader_count»; journalCount = s .«journal_count» }
-
--- words 1 to 4 with the number 0, and zeros with any other
-unfoldable pub headIf : Refusal → List ℕ → Head
-headIf why l =
-    cond (eqb (numberOf why) 0)
-    (record { number = 0; currentRound = currentRound l; committedRound = committedRound l; leaderCount = leaderCount l; journalCount = journalCount l })
-    (record { number = numberOf why; currentRound = 0; committedRound = 0; leaderCount = 0; journalCount = 0 })
-
-abbrev pub statusOf : List ℕ → Head
-statusOf l = headIf (firstNo (stateQuestions l)) l
-
--- ---- lists
-
--- asking for entries k and on of a list of so many
+-- for entries k and on of a list of so many
 abbrev pub listQuestions : List ℕ → ℕ → ℕ → List Question
-listQuestions l k count = (eqb (length l) stateSize, StateSize) ∷ (wellFormed l, Malformed) ∷ (leb k count, PastEnd) ∷ []
+listQuestions l k count = stateQuestions l ++ ((leb k count, PastEnd) ∷ [])
 
-unfoldable pub askLeaders : List ℕ → ℕ → Refusal
-askLeaders l k = firstNo (listQuestions l k (leaderCount l))
+abbrev pub askList : List ℕ → ℕ → ℕ → Outcome
+askList l k count = unchanged (firstNo (listQuestions l k count)) l
 
-unfoldable pub askJournal : List ℕ → ℕ → Refusal
-askJournal l k = firstNo (listQuestions l k (journalCount l))
+abbrev pub askLeaders : List ℕ → ℕ → Outcome
+askLeaders l k = askList l k (leaderCount l)
 
--- handing over: entries k up to the count, and nothing where the asking call does not answer 0
-unfoldable pub handLeaders : List ℕ → ℕ → List ℕ
-handLeaders l k = cond (eqb (numberOf (askLeaders l k)) 0) (drop k (leaderList l)) []
+abbrev pub askJournal : List ℕ → ℕ → Outcome
+askJournal l k = askList l k (journalCount l)
 
-unfoldable pub handJournal : List ℕ → ℕ → List ℕ
-handJournal l k = cond (eqb (numberOf (askJournal l k)) 0) (drop k (journalList l)) []
+-- ---- handing over
+
+-- with the number 0 the entries k up to the count of a list that begins at word `first`, and no words with any other
+unfoldable pub spanIf : ℕ → ℕ → ℕ → ℕ → Span
+spanIf number first k count =
+    cond (eqb number 0) (record { number = 0; start = first + k; length = count - k }) (record { number = number; start = 0; length = 0 })
+
+-- the number is the asking call's
+abbrev pub handList : List ℕ → ℕ → ℕ → ℕ → Span
+handList l k first count = spanIf (askList l k count .number) first k count
+
+abbrev pub handLeaders : List ℕ → ℕ → Span
+handLeaders l k = handList l k leadersAt (leaderCount l)
+
+abbrev pub handJournal : List ℕ → ℕ → Span
+handJournal l k = handList l k journalAt (journalCount l)
+
+-- ---- what that gives
+
+-- a part lies within the words; with the number 0 it is the list from entry k on, and with any other it has no words
+pub record Handed (l : List ℕ) (k : ℕ) (list : List ℕ) (s : Span) : Type 0 where
+  pub within : s .start + s .length ≤ length l
+  pub given : s .number ≡ 0 → wordsIn l s ≡ drop k list
+  pub refused : (s .number ≡ 0 → ⊥) → s .length ≡ 0
+
+-- THE LAW: so are both hand-overs, of any words
+abbrev pub HandOverLaw : Type 0
+HandOverLaw = (l : List ℕ) (k : ℕ) → Handed l k (leaderList l) (handLeaders l k) × Handed l k (journalList l) (handJournal l k)

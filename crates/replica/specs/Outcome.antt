@@ -20,13 +20,13 @@ pub record Outcome : Type 0 where
 abbrev pub told : Answer → List ℕ → Outcome
 told a l = record { number = numberOf (a .refusal); id = idIn (a .refusal); leaders = a .leaders; journal = a .journal; words = l }
 
--- the answer of a refused call
+-- the answer that adds nothing
 abbrev pub refusedBy : Refusal → Answer
 refusedBy why = record { refusal = why; leaders = 0; journal = 0 }
 
--- refused: nothing is added, and the words stay
-abbrev pub refused : Refusal → List ℕ → Outcome
-refused why l = told (refusedBy why) l
+-- nothing is added, and the words stay: a refused call, and one that only reads
+abbrev pub unchanged : Refusal → List ℕ → Outcome
+unchanged why l = told (refusedBy why) l
 
 -- admitted: what was added is the growth of the lists
 abbrev pub admitted : List ℕ → List ℕ → Outcome
@@ -34,4 +34,4 @@ admitted l after = record { number = 0; id = 0; leaders = leaderCount after - le
 
 -- the outcome of a call on the words l with this refusal, which would leave the words `after`
 unfoldable pub outcome : Refusal → List ℕ → List ℕ → Outcome
-outcome why l after = cond (eqb (numberOf why) 0) (admitted l after) (refused why l)
+outcome why l after = cond (eqb (numberOf why) 0) (admitted l after) (unchanged why l)

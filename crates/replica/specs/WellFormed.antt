@@ -5,14 +5,15 @@ use Prim.Native.Nat.{ℕ, _+_, _-_}
 use lib.Bits.{bitAnd}
 use lib.Dec.{eqb, leb, ltb}
 use lib.ListN.{getD, take}
-use Rattle.record.specs.Below.{all, any}
+use Rattle.record.specs.Below.{all}
 use Rattle.record.specs.Members.{legal, leader, has, within, idRound, idMember}
 use Rattle.record.specs.Refusals.{numberOf}
-use Rattle.record.specs.Layout.{bodySize, strongOf, weakCountOf, weakOf}
+use Rattle.record.specs.Layout.{bodySize}
 use Rattle.record.specs.Questions.{bodyRefusal}
 use Rattle.protocol.specs.Journal.{idLimit, among}
 use Rattle.replica.specs.Layout.{rounds, slots, zerosAt, zerosSize, leadersSize, journalSize, cellAt}
 use Rattle.replica.specs.State.{memberCount, currentRound, committedRound, leaderCount, journalCount, heldMask, heardMask, votesMask, timeoutsMask, noVotesMask, orderedMask, leaderWord, journalWord, journalList, cell, heldId, orderedId}
+use Rattle.replica.specs.Parents.{parentsHeld}
 
 -- every round from 1 to 32 satisfies t
 abbrev pub eachRound : (ℕ → Bool) → Bool
@@ -31,18 +32,6 @@ masksWithin l r =
     && (within (memberCount l) (timeoutsMask l r)
     && (within (memberCount l) (noVotesMask l r)
     && within (memberCount l) (orderedMask l r)))))
-
--- y is the id of a strong or weak parent of a body of round r
-unfoldable pub isParent : ℕ → List ℕ → ℕ → Bool
-isParent r body y = (eqb (idRound y + 1) r && has (strongOf body) (idMember y)) || any (weakCountOf body) (λ i. eqb (weakOf body i) y)
-
--- y is the id of a parent that is not held
-unfoldable pub missing : List ℕ → ℕ → List ℕ → ℕ → Bool
-missing l r body y = isParent r body y && not (heldId l y)
-
--- question 14: all strong and weak parents are held
-unfoldable pub parentsHeld : List ℕ → ℕ → List ℕ → Bool
-parentsHeld l r body = not (any idLimit (missing l r body))
 
 -- a held record passes questions 5 to 11 and 14, and a cell not held is zero
 unfoldable pub cellOk : List ℕ → ℕ → ℕ → Bool

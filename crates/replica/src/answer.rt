@@ -18,7 +18,7 @@ pub struct Status {
     pub journal_count: u32,
 }
 
-// Refused: nothing was added.
+// Nothing was added.
 pub fn refuse(why: Refusal) -> Answer
     ensures { λ r. ⌜ r ≡ refusedBy why ⌝ }
 {

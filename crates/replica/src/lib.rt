@@ -2,4 +2,6 @@
 pub mod answer;
 pub mod layout;
 pub mod lists;
+pub mod opening;
+pub mod status;
 pub mod wellformed;

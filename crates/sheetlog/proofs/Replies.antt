@@ -6,7 +6,7 @@ use Prim.Native.Nat.{ℕ}
 use Rattle.record.specs.Refusals.{numberOf}
 use Rattle.record.specs.declared.refusal.Refusal.the-variants.{None}
 use Rattle.replica.specs.Outcome.{Outcome, told, refusedBy}
-use Rattle.replica.specs.Lists.{Head, headOf, statusOf}
+use Rattle.replica.specs.Status.{statusOf}
 use Rattle.replica.specs.declared.answer.Answer.{Answer}
 use Rattle.replica.specs.declared.answer.Status.{Status}
 use Rattle.transcript.specs.Text.{answerText, otherText, Starts}
@@ -35,15 +35,15 @@ other-reply command parsed state {bytes} {len} p e h =
 
 pub call-reply : (command parsed : Command) (state after : List ℕ) (a : Answer) (s : Status) (n : ℕ) {bytes : List ℕ} {len : ℕ} → parsed ≡ command
     → isOther (parsed .kind) ≡ false
-    → told a after ≡ callFor (parsed .kind) (parsed .words) state → n ≡ numberOf (a .refusal) → headOf s ≡ statusOf after
-    → Starts (answerText n (statusWords (headOf s))) bytes len → Starts (replyText command state) bytes len × (after ≡ outcomeOf command state .words)
+    → told a after ≡ callFor (parsed .kind) (parsed .words) state → n ≡ numberOf (a .refusal) → s ≡ statusOf after
+    → Starts (answerText n (statusWords s)) bytes len → Starts (replyText command state) bytes len × (after ≡ outcomeOf command state .words)
 unfolding replyText
 call-reply command parsed state after a s n {bytes} {len} p e t d g h =
     let o : isOther (command .kind) ≡ false = ap (λ (c : Command). isOther (c .kind)) (sym p) ∙ e in
     let out : told a after ≡ outcomeOf command state = t ∙ ap (λ (c : Command). outcomeOf c state) p in
     let w : after ≡ outcomeOf command state .words = ap (λ (x : Outcome). x .words) out in
-    let text : answerText n (statusWords (headOf s)) ≡ answerText (outcomeOf command state .number) (statusWords (statusOf (outcomeOf command state .words))) =
-    ap₂ (λ (k : ℕ) (x : Head). answerText k (statusWords x)) (d ∙ ap (λ (x : Outcome). x .number) out) (g ∙ ap statusOf w)
+    let text : answerText n (statusWords s) ≡ answerText (outcomeOf command state .number) (statusWords (statusOf (outcomeOf command state .words))) =
+    ap₂ (λ (k : ℕ) (x : Status). answerText k (statusWords x)) (d ∙ ap (λ (x : Outcome). x .number) out) (g ∙ ap statusOf w)
     in
     (rw o (rw text at h), w)
 

@@ -4,8 +4,10 @@ use mathlib.Core.List.{List, [], _∷_}
 use Prim.Native.Nat.{ℕ}
 use lib.ListN.{getD}
 use Rattle.record.specs.declared.refusal.Refusal.the-variants.{None}
-use Rattle.replica.specs.Outcome.{Outcome, refused}
-use Rattle.replica.specs.Lists.{Head, openState, statusOf}
+use Rattle.replica.specs.Outcome.{Outcome, unchanged}
+use Rattle.replica.specs.Opening.{openState}
+use Rattle.replica.specs.Status.{statusOf}
+use Rattle.replica.specs.declared.answer.Status.{Status}
 use Rattle.ordering.specs.Calls.{takeVertex, takeFirstMessage, takeTimeout, takeNoVote}
 use Rattle.transcript.specs.Text.{answerText, otherText}
 use Rattle.transcript.specs.declared.command.Kind.{Kind}
@@ -23,7 +25,7 @@ isOther NoVote = false
 
 -- the call on a state, with the line's words; none leaves the state as it is
 abbrev pub callFor : Kind → List ℕ → List ℕ → Outcome
-callFor Other words state = refused None state
+callFor Other words state = unchanged None state
 callFor Open words state = openState state (getD words 0 0)
 callFor Vertex words state = takeVertex state words
 callFor First words state = takeFirstMessage state words
@@ -34,8 +36,8 @@ abbrev pub outcomeOf : Command → List ℕ → Outcome
 outcomeOf command state = callFor (command .kind) (command .words) state
 
 -- the four numbers of the status
-abbrev pub statusWords : Head → List ℕ
-statusWords h = h .currentRound ∷ h .committedRound ∷ h .leaderCount ∷ h .journalCount ∷ []
+abbrev pub statusWords : Status → List ℕ
+statusWords s = s .«current_round» ∷ s .«committed_round» ∷ s .«leader_count» ∷ s .«journal_count» ∷ []
 
 -- the line that is printed
 unfoldable pub replyText : Command → List ℕ → List ℕ

@@ -1,11 +1,13 @@
 // The exported calls.
 ghost use mathlib.Core.Path.{_≡_};
-ghost use Prim.Native.Nat.{_+_, _≤_};
-ghost use lib.ListN.{length};
-ghost use Rattle.record.specs.Refusals.{numberOf};
-ghost use Rattle.replica.specs.Lists.{openState, statusOf, askLeaders, askJournal, handLeaders, handJournal};
+ghost use Prim.Native.Nat.{_≤_};
+ghost use lib.ListN.{getD};
+ghost use Rattle.replica.specs.Layout.{leaderCountAt, journalCountAt, journalAt};
+ghost use Rattle.replica.specs.Opening.{openState};
+ghost use Rattle.replica.specs.Status.{statusOf};
+ghost use Rattle.replica.specs.Lists.{askList, askLeaders, askJournal, handList, handLeaders, handJournal};
 ghost use Rattle.ordering.specs.Calls.{takeVertex, takeFirstMessage, takeTimeout, takeNoVote};
-ghost use Rattle.yardbook.specs.Plain.{plain, plainHead, leadersPart, journalPart, partOf};
+ghost use Rattle.yardbook.specs.Plain.{plain, statusPlain, spanOf};
 use super::answer::Answer;
 use super::answer::Part;
 use super::answer::Status;
@@ -15,15 +17,14 @@ use ordering::calls::take_first_message;
 use ordering::calls::take_no_vote;
 use ordering::calls::take_timeout;
 use ordering::calls::take_vertex;
-use record::refusal::number;
 use replica::layout::JOURNAL;
 use replica::layout::JOURNAL_COUNT;
 use replica::layout::LEADER_COUNT;
 use replica::layout::LEADERS;
 use replica::lists::ask_journal;
 use replica::lists::ask_leaders;
-use replica::lists::open;
-use replica::lists::status;
+use replica::opening::open;
+use replica::status::status;
 
 #[no_mangle]
 pub extern "C" fn yardbook_open(state: &mut [u32], n: u32) -> Answer
@@ -62,59 +63,58 @@ pub extern "C" fn yardbook_take_no_vote(state: &mut [u32], round: u32, signer: u
 
 #[no_mangle]
 pub extern "C" fn yardbook_status(state: &[u32]) -> Status
-    ensures { λ r. ⌜ plainHead r ≡ statusOf (now (state .entry)) ⌝ }
+    ensures { λ r. ⌜ r ≡ statusPlain (statusOf (now (state .entry))) ⌝ }
 {
     plain_status(status(state))
 }
 
 #[no_mangle]
-pub extern "C" fn yardbook_ask_leaders(state: &[u32], k: u32) -> u32
-    ensures { λ r. ⌜ r ≡ numberOf (askLeaders (now (state .entry)) k) ⌝ }
+pub extern "C" fn yardbook_ask_leaders(state: &[u32], k: u32) -> Answer
+    ensures { λ r. ⌜ plain r (now (state .entry)) ≡ askLeaders (now (state .entry)) k ⌝ }
 {
-    number(ask_leaders(state, k))
+    plain_answer(ask_leaders(state, k))
 }
 
 #[no_mangle]
-pub extern "C" fn yardbook_ask_journal(state: &[u32], k: u32) -> u32
-    ensures { λ r. ⌜ r ≡ numberOf (askJournal (now (state .entry)) k) ⌝ }
+pub extern "C" fn yardbook_ask_journal(state: &[u32], k: u32) -> Answer
+    ensures { λ r. ⌜ plain r (now (state .entry)) ≡ askJournal (now (state .entry)) k ⌝ }
 {
-    number(ask_journal(state, k))
+    plain_answer(ask_journal(state, k))
+}
+
+// The part of a list from entry k on, where asking for it answers the number. The list begins at the word `first`, and its count is the
+// word `count`.
+fn hand_part(state: &[u32], k: u32, number: u32, first: u32, count: usize) -> Part
+    requires { ⌜ number ≡ askList (now state) k (getD (now state) count 0) .number ⌝ }
+    requires { ⌜ (first ≤ journalAt) × (leaderCountAt ≤ count) × (count ≤ journalCountAt) ⌝ }
+    ensures { λ r. ⌜ spanOf r ≡ handList (now (state .entry)) k first (getD (now (state .entry)) count 0) ⌝ }
+{
+    if number != 0 {
+        return Part {
+            number,
+            start: 0,
+            length: 0,
+        };
+    }
+    Part {
+        number: 0,
+        start: first + k,
+        length: state[count] - k,
+    }
 }
 
 #[no_mangle]
 pub extern "C" fn yardbook_hand_leaders(state: &[u32], k: u32) -> Part
-    ensures { λ r. ⌜ (r ≡ leadersPart (now (state .entry)) k) × (partOf (now (state .entry)) r ≡ handLeaders (now (state .entry)) k) × (r .start + r .length ≤ length (now (state .entry))) ⌝ }
+    ensures { λ r. ⌜ spanOf r ≡ handLeaders (now (state .entry)) k ⌝ }
 {
-    let why = number(ask_leaders(state, k));
-    if why != 0 {
-        return Part {
-            number: why,
-            start: 0,
-            length: 0,
-        };
-    }
-    Part {
-        number: 0,
-        start: LEADERS as u32 + k,
-        length: state[LEADER_COUNT] - k,
-    }
+    let asked = plain_answer(ask_leaders(state, k));
+    hand_part(state, k, asked.number, LEADERS as u32, LEADER_COUNT)
 }
 
 #[no_mangle]
 pub extern "C" fn yardbook_hand_journal(state: &[u32], k: u32) -> Part
-    ensures { λ r. ⌜ (r ≡ journalPart (now (state .entry)) k) × (partOf (now (state .entry)) r ≡ handJournal (now (state .entry)) k) × (r .start + r .length ≤ length (now (state .entry))) ⌝ }
+    ensures { λ r. ⌜ spanOf r ≡ handJournal (now (state .entry)) k ⌝ }
 {
-    let why = number(ask_journal(state, k));
-    if why != 0 {
-        return Part {
-            number: why,
-            start: 0,
-            length: 0,
-        };
-    }
-    Part {
-        number: 0,
-        start: JOURNAL as u32 + k,
-        length: state[JOURNAL_COUNT] - k,
-    }
+    let asked = plain_answer(ask_journal(state, k));
+    hand_part(state, k, asked.number, JOURNAL as u32, JOURNAL_COUNT)
 }

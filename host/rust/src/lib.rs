@@ -94,8 +94,8 @@ mod c {
             signer: u32,
         ) -> Answer;
         pub fn yardbook_status(state: *const u32, words: usize) -> Status;
-        pub fn yardbook_ask_leaders(state: *const u32, words: usize, k: u32) -> u32;
-        pub fn yardbook_ask_journal(state: *const u32, words: usize, k: u32) -> u32;
+        pub fn yardbook_ask_leaders(state: *const u32, words: usize, k: u32) -> Answer;
+        pub fn yardbook_ask_journal(state: *const u32, words: usize, k: u32) -> Answer;
         pub fn yardbook_hand_leaders(state: *const u32, words: usize, k: u32) -> Part;
         pub fn yardbook_hand_journal(state: *const u32, words: usize, k: u32) -> Part;
     }
@@ -149,15 +149,15 @@ pub fn status(state: &[u32]) -> Status {
     unsafe { c::yardbook_status(state.as_ptr(), state.len()) }
 }
 
-/// The number of asking for the leader list from entry k on.
+/// Asks for the leader list from entry k on.
 #[must_use]
-pub fn ask_leaders(state: &[u32], k: u32) -> u32 {
+pub fn ask_leaders(state: &[u32], k: u32) -> Answer {
     unsafe { c::yardbook_ask_leaders(state.as_ptr(), state.len(), k) }
 }
 
-/// The number of asking for the journal from entry k on.
+/// Asks for the journal from entry k on.
 #[must_use]
-pub fn ask_journal(state: &[u32], k: u32) -> u32 {
+pub fn ask_journal(state: &[u32], k: u32) -> Answer {
     unsafe { c::yardbook_ask_journal(state.as_ptr(), state.len(), k) }
 }
 

@@ -1,25 +1,20 @@
--- `yardbook_hand_journal` meets its contract. Assumes nothing.
-use Rattle.yardbook.proofs.Laws.{journal-refused, JournalKnown, journal-known}
+use Rattle.yardbook.proofs.Laws.{numbered}
 use borrow.Author.Needs.{needs}
 use Rattle.yardbook.proofs.calls.yardbook_hand_journal.Statement.{statement}
 use Rattle.yardbook.proofs.calls.yardbook_hand_journal.Tie as tie
 
--- the list is handed over
-known : (c : tie.Else1) → let s : tie.Start = search in JournalKnown (s .args .state .now) (s .args .k)
-known c = journal-known _ _ (cc)
-
-returns : tie.Need-returns
-returns c = let s : tie.Start = search in journal-refused (s .args .state .now) _ _ (cc) (c .if1 .taken)
+-- the number is that of asking
+hand-part-requires : tie.Need-hand-part-requires
+hand-part-requires c κs =
+    let asked : tie.After-ask-journal = search in
+    let plain : tie.After-plain-answer = search in
+    let e = numbered (asked .ask-journal .result) _ _ _ (plain .plain-answer .ensures) (asked .ask-journal .ensures) in
+    search needs
 
 pub yardbook-hand-journal-spec : {M : Type 1} → statement M
-yardbook-hand-journal-spec =
-    tie.close
-    (tie.spec
+yardbook-hand-journal-spec = tie.close (tie.spec
     (λ c κs. search needs)
     (λ c κs. search needs)
-    returns
     (λ c. search needs)
-    (λ c. let k = known (search) in search needs)
-    (λ c. let k = known (search) in search needs)
-    (λ c. let k = known (search) in search needs)
-    (λ c. known (search) .given))
+    hand-part-requires
+    (λ c. search needs))

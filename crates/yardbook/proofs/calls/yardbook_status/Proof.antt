@@ -1,5 +1,5 @@
 use mathlib.Core.Path.{_∙_, ap}
-use Rattle.yardbook.specs.Plain.{plainHead}
+use Rattle.yardbook.specs.Plain.{statusPlain}
 use borrow.Author.Needs.{needs}
 use Rattle.yardbook.proofs.calls.yardbook_status.Statement.{statement}
 use Rattle.yardbook.proofs.calls.yardbook_status.Tie as tie
@@ -7,7 +7,7 @@ use Rattle.yardbook.proofs.calls.yardbook_status.Tie as tie
 returns : tie.Need-returns
 returns c =
     let after-status : tie.After-status = search in
-    ap plainHead (c .plain-status .ensures) ∙ after-status .status .ensures
+    c .plain-status .ensures ∙ ap statusPlain (after-status .status .ensures)
 
 pub yardbook-status-spec : {M : Type 1} → statement M
 yardbook-status-spec = tie.close (tie.spec

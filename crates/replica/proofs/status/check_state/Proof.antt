@@ -3,8 +3,8 @@ use borrow.Author.Tests.{eq-eqb, ne-eqb}
 use borrow.Author.Needs.{needs}
 use Rattle.record.proofs.Booleans.{passed, failed}
 use Rattle.record.proofs.Turn.{next, stop, done}
-use Rattle.replica.proofs.lists.check_state.Statement.{statement}
-use Rattle.replica.proofs.lists.check_state.Tie as tie
+use Rattle.replica.proofs.status.check_state.Statement.{statement}
+use Rattle.replica.proofs.status.check_state.Tie as tie
 
 returns : tie.Need-returns
 returns c = stop _ _ (ne-eqb _ _ (c .if1 .taken))

@@ -4,9 +4,9 @@ use mathlib.Core.List.{List}
 use Prim.Native.Nat.{ℕ}
 use lib.ListN.{length}
 use borrow.Author.Needs.{needs}
-use Rattle.replica.proofs.Calls.{state-ok, head-refused, head-done}
-use Rattle.replica.proofs.lists.status.Statement.{statement}
-use Rattle.replica.proofs.lists.status.Tie as tie
+use Rattle.replica.proofs.StatusLaws.{state-ok, head-refused, head-done}
+use Rattle.replica.proofs.status.status.Statement.{statement}
+use Rattle.replica.proofs.status.status.Tie as tie
 
 abbrev words : tie.Start → List ℕ
 words s = s .args .state .now

@@ -1,8 +1,8 @@
--- The questions in turn, and the words of an opened state: `open-size`, `open-group` and `open-all` of `Calls`.
+-- The questions in turn, and the words of an opened state: `open-size`, `open-group` and `open-all` of `OpeningLaws`.
 use borrow.Author.Needs.{needs}
-use Rattle.replica.proofs.Calls.{open-size, open-group, open-all}
-use Rattle.replica.proofs.lists.open.Statement.{statement}
-use Rattle.replica.proofs.lists.open.Tie as tie
+use Rattle.replica.proofs.OpeningLaws.{open-size, open-group, open-all}
+use Rattle.replica.proofs.opening.open.Statement.{statement}
+use Rattle.replica.proofs.opening.open.Tie as tie
 
 pub open-spec : {M : Type 1} → statement M
 open-spec =

@@ -7,8 +7,8 @@ use lib.ListN.{set, length, drop, replicate}
 use lib.Seq.{drop-length}
 use borrow.Author.Fill.{fill-none, fill-more}
 use borrow.Author.Needs.{needs}
-use Rattle.replica.proofs.lists.clear.Statement.{statement}
-use Rattle.replica.proofs.lists.clear.Tie as tie
+use Rattle.replica.proofs.opening.clear.Statement.{statement}
+use Rattle.replica.proofs.opening.clear.Tie as tie
 
 abbrev Inv-loop : tie.InvT-loop
 Inv-loop state₀ i₀ state i = (i ≤ length state₀) × (length state ≡ length state₀) × (state ≡ replicate i 0 ++ drop i state₀)

@@ -60,8 +60,8 @@ done
 { head -c 3000000 /dev/zero | tr '\0' 1; echo; echo "O 4"; head -c 300000 /dev/zero | tr '\0' ' '; } >"$work/input"
 compare "long lines" "$work/input"
 
-# Lines that a block's end cuts at every place: 65,536 bytes are read at a time.
-for length in 65533 65534 65535 65536 65537 65538; do
+# Lines that a block's end cuts at every place: 8,192 bytes are read at a time.
+for length in 8189 8190 8191 8192 8193 8194; do
     { head -c "$length" /dev/zero | tr '\0' '\n'; echo "O 4"; echo "T 1 0"; } >"$work/input"
     compare "block $length" "$work/input"
 done

@@ -1,92 +1,181 @@
 -- Laws of bytes that are fed, and of a line of which only the start is kept. Assumes nothing.
-use mathlib.Core.Path.{_≡_, refl, sym, ap, _∙_}
-use mathlib.Core.List.{List, [], _∷_, _++_}
-use Prim.Native.Nat.{ℕ, _+_, _≤_, _<_}
+use mathlib.Core.Path.{_≡_, refl, sym, ap, ap₂, _∙_}
+use mathlib.Core.Bool.{true, false}
+use mathlib.Core.Logic.{_⊎_, inl, inr, ⊎-elim}
+use mathlib.Core.List.{List, [], _∷_, _++_, append-assoc}
+use Prim.Native.Nat.{ℕ, _+_, _*_, _≤_, _<_}
 use native.Mathlib.Numerals.{add-one}
 use native.Mathlib.Omega.{arith}
-use lib.ListN.{length, length-append, length-set, length-take, getD, take, set}
+use lib.Dec.{eqb, leb}
+use lib.ListN.{length, length-append, length-take, length-replicate, getD, take, set, replicate}
 use lib.Seq.{take-all, take-suc, take-suc-set, take-append-le}
-use borrow.Author.Tests.{eq-eqb, ne-eqb}
+use borrow.Author.Tests.{eq-eqb, ne-eqb, leb-true, leb-false}
+use Rattle.transcript.specs.Text.{Appended}
 use Rattle.transcript.specs.Commands.{commandOf}
 use Rattle.transcript.specs.declared.command.Command.{Command}
+use Rattle.transcript.proofs.Booleans.{which}
 use Rattle.transcript.proofs.Claims.{kept-lines}
-use Rattle.sheetlog.specs.Reply.{outcomeOf}
-use Rattle.sheetlog.specs.Feed.{Reading, feedByte, feed, keptSize, Keeps, Follows}
+use Rattle.transcript.proofs.Digits.{appended-fits}
+use Rattle.sheetlog.specs.Reply.{outcomeOf, replyText}
+use Rattle.sheetlog.specs.Output.{Reading, feedByte, feed}
+use Rattle.sheetlog.specs.Blocks.{keptSize, cut, block, held, Holds, Room}
+use Rattle.sheetlog.specs.declared.buffers.Fill.{Fill}
+use Rattle.sheetlog.proofs.Replies.{reply-few}
 
--- ---- a byte joins the line
+-- ---- a line of which only the first bytes are kept
 
--- while there is room, the whole line is kept
-whole : {buffer line : List ℕ} {kept : ℕ} → Keeps buffer kept line → kept < keptSize → length line ≡ kept
-whole {buffer} {line} {kept} k l = omega (arith, k .fits, ap length (k .held), length-take kept buffer, length-take keptSize line)
+cut-again : (line : List ℕ) → take keptSize (take keptSize line) ≡ take keptSize line
+cut-again line = take-all keptSize (take keptSize line) (omega (arith, length-take keptSize line))
 
-pub keeps-more : {buffer : List ℕ} {kept : ℕ} (line : List ℕ) (b : ℕ) → length buffer ≡ keptSize → kept < length buffer → Keeps buffer kept line
-    → Keeps (set buffer kept b) (kept + 1) (line ++ b ∷ [])
-keeps-more {buffer} {kept} line b e l k =
-    let w : length line ≡ kept = whole k (omega arith) in
-    record {
-      fits = rw (length-set buffer kept b) (omega arith);
-      held =
-          rw (add-one kept) (take-suc-set buffer kept b l)
-          ∙ ap (λ (s : List ℕ). s ++ b ∷ []) (k .held ∙ take-all keptSize line (omega arith))
-          ∙ sym (take-all keptSize (line ++ b ∷ []) (omega (arith, length-append line (b ∷ []))));
-    }
+cut-more : (line : List ℕ) (b : ℕ) → take keptSize (take keptSize line ++ b ∷ []) ≡ take keptSize (line ++ b ∷ [])
+cut-more line b =
+    ⊎-elim (λ (h : leb (length line) keptSize ≡ true). ap (λ (s : List ℕ). take keptSize (s ++ b ∷ [])) (take-all keptSize line (leb-true _ _ h)))
+    (λ h.
+    let l : keptSize < length line = leb-false (length line) keptSize h in
+    take-append-le keptSize (take keptSize line) (b ∷ []) (omega (arith, length-take keptSize line))
+    ∙ cut-again line
+    ∙ sym (take-append-le keptSize line (b ∷ []) (omega arith)))
+    (which (leb (length line) keptSize))
 
-pub keeps-full : {buffer : List ℕ} {kept : ℕ} (line : List ℕ) (b : ℕ) → length buffer ≡ keptSize → length buffer ≤ kept → Keeps buffer kept line
-    → Keeps buffer kept (line ++ b ∷ [])
-keeps-full {buffer} {kept} line b e l k =
-    let long : keptSize ≤ length line = omega (arith, k .fits, ap length (k .held), length-take kept buffer, length-take keptSize line) in
-    record { fits = k .fits; held = k .held ∙ sym (take-append-le keptSize line (b ∷ []) long) }
+pub keeps-more : (line : List ℕ) (kept b : ℕ) → length line ≡ keptSize → kept < length line
+    → take (kept + 1) (set line kept b) ≡ take keptSize (take kept line ++ b ∷ [])
+keeps-more line kept b e l =
+    rw (add-one kept) (take-suc-set line kept b l)
+    ∙ sym (take-all keptSize (take kept line ++ b ∷ []) (omega (arith, length-append (take kept line) (b ∷ []), length-take kept line)))
 
-pub keeps-none : (buffer : List ℕ) → Keeps buffer 0 []
-keeps-none buffer = record { fits = omega arith; held = refl }
+pub keeps-full : (line : List ℕ) (kept b : ℕ) → length line ≡ keptSize → kept ≤ length line → length line ≤ kept
+    → take kept line ≡ take keptSize (take kept line ++ b ∷ [])
+keeps-full line kept b e h l =
+    sym (take-append-le keptSize (take kept line) (b ∷ []) (omega (arith, length-take kept line))
+    ∙ take-all keptSize (take kept line) (omega (arith, length-take kept line)))
 
--- ---- one byte
+-- ---- what is kept is enough
 
-pub byte-joins : {buffer buffer′ state : List ℕ} {kept kept′ : ℕ} (b : ℕ) → (b ≡ 10 → ⊥)
-    → ((line : List ℕ) → Keeps buffer kept line → Keeps buffer′ kept′ (line ++ b ∷ []))
-    → Follows buffer kept state buffer′ kept′ state (b ∷ [])
-unfolding feed feedByte
-byte-joins b h f = record { from = λ line k. rw (ne-eqb b 10 h) (f line k, refl) }
+cut-byte : (r : Reading) (b : ℕ) → cut (feedByte (cut r) b) ≡ cut (feedByte r b)
+unfolding feedByte
+cut-byte r b = go (which (eqb b 10))
+  where
+    go : (eqb b 10 ≡ true) ⊎ (eqb b 10 ≡ false) → cut (feedByte (cut r) b) ≡ cut (feedByte r b)
+    go (inl e) = rw e (ap (λ (c : Command). record {
+      printed = r .printed ++ replyText c (r .state);
+      line = [];
+      state = outcomeOf c (r .state) .words;
+    }) (kept-lines (r .line) keptSize (omega arith)))
+    go (inr e) = rw e (ap (λ (s : List ℕ). record { printed = r .printed; line = s; state = r .state }) (cut-more (r .line) b))
 
-pub byte-ends : {buffer state state′ : List ℕ} {kept : ℕ} (b : ℕ) → b ≡ 10 → state′ ≡ outcomeOf (commandOf (take kept buffer)) state .words
-    → Follows buffer kept state buffer 0 state′ (b ∷ [])
-unfolding feed feedByte
-byte-ends {buffer} {state} b e h =
-    record {
-      from = λ line k.
-          rw (eq-eqb b 10 e) (
-            keeps-none buffer,
-            h ∙ ap (λ (s : List ℕ). outcomeOf (commandOf s) state .words) (k .held)
-                ∙ ap (λ (c : Command). outcomeOf c state .words) (kept-lines line keptSize (omega arith)),
-          );
-    }
+pub cut-feed : (s : List ℕ) (r : Reading) → cut (feed (cut r) s) ≡ cut (feed r s)
+unfolding feed
+cut-feed [] r = ap (λ (s : List ℕ). record { printed = r .printed; line = s; state = r .state }) (cut-again (r .line))
+cut-feed (b ∷ s) r =
+    sym (cut-feed s (feedByte (cut r) b)) ∙ ap (λ (q : Reading). cut (feed q s)) (cut-byte r b) ∙ cut-feed s (feedByte r b)
 
 -- ---- bytes in turn
 
-feed-then : (s t : List ℕ) (r : Reading) → feed r (s ++ t) ≡ feed (feed r s) t
+pub feed-then : (s t : List ℕ) (r : Reading) → feed r (s ++ t) ≡ feed (feed r s) t
 unfolding feed
 feed-then [] t r = refl
 feed-then (b ∷ s) t r = feed-then s t (feedByte r b)
 
-pub follows-none : (buffer : List ℕ) (kept : ℕ) (state : List ℕ) → Follows buffer kept state buffer kept state []
-unfolding feed
-follows-none buffer kept state = record { from = λ line k. (k, refl) }
+-- the same after something else was printed
+abbrev pub after : List ℕ → Reading → Reading
+after p r = record { printed = p ++ r .printed; line = r .line; state = r .state }
 
-pub follows-then : {b c d x y z : List ℕ} {i j k : ℕ} (s t : List ℕ) → Follows b i x c j y s → Follows c j y d k z t → Follows b i x d k z (s ++ t)
-follows-then {x = x} {y = y} s t f g =
+after-byte : (p : List ℕ) (r : Reading) (b : ℕ) → feedByte (after p r) b ≡ after p (feedByte r b)
+unfolding feedByte
+after-byte p r b = go (which (eqb b 10))
+  where
+    go : (eqb b 10 ≡ true) ⊎ (eqb b 10 ≡ false) → feedByte (after p r) b ≡ after p (feedByte r b)
+    go (inl e) = rw e (ap (λ (t : List ℕ). record { printed = t; line = []; state = outcomeOf (commandOf (r .line)) (r .state) .words })
+        (append-assoc p (r .printed) (replyText (commandOf (r .line)) (r .state))))
+    go (inr e) = rw e refl
+
+pub feed-after : (s p : List ℕ) (r : Reading) → feed (after p r) s ≡ after p (feed r s)
+unfolding feed
+feed-after [] p r = refl
+feed-after (b ∷ s) p r = ap (λ (q : Reading). feed q s) (after-byte p r b) ∙ feed-after s p (feedByte r b)
+
+-- ---- one byte
+
+-- what `take_byte` ensures
+pub record Taken (b : ℕ) (line : List ℕ) (fill : Fill) (out state line′ : List ℕ) (fill′ : Fill) (out′ state′ : List ℕ) : Type 0 where
+  pub few : fill′ .filled ≤ fill .filled + 55
+  pub holds : Holds (cut (feedByte (held line fill out state) b)) line′ fill′ out′ state′
+
+pub byte-ends : (b : ℕ) (line : List ℕ) (fill : Fill) (out state : List ℕ) {out′ state′ : List ℕ} {end : ℕ} → b ≡ 10 → Room 1 line fill out
+    → Appended out (fill .filled) (replyText (commandOf (take (fill .kept) line)) state) out′ end
+    → state′ ≡ outcomeOf (commandOf (take (fill .kept) line)) state .words
+    → Taken b line fill out state line (record { kept = 0; filled = end }) out′ state′
+unfolding feedByte
+byte-ends b line fill out state e room a w =
     record {
-      from = λ line h.
-          let p = f .from line h in
-          let r : Reading = feed (record { line = line; state = x }) s in
-          let q = g .from (r .line) (p .0) in
-          rw (feed-then s t (record { line = line; state = x })) (rw (p .1) at q);
+      few = omega (arith, a .last, reply-few (commandOf (take (fill .kept) line)) state);
+      holds = record {
+        kept = omega arith;
+        filled = appended-fits a (omega (arith, room .replies));
+        equal = rw (eq-eqb b 10 e) (ap₂ (λ (p s : List ℕ). record { printed = p; line = []; state = s }) (a .held) w);
+      };
     }
 
--- a turn of the loop of `answer_block`
-pub follows-turn : {b c d x y z : List ℕ} {m j k : ℕ} (s : List ℕ) (i : ℕ) → i < length s → Follows b m x c j y (take i s)
-    → Follows c j y d k z (getD s i 0 ∷ []) → Follows b m x d k z (take (i + 1) s)
-follows-turn s i l f g = let one : take (i + 1) s ≡ take i s ++ getD s i 0
-    ∷ [] = rw (add-one i) (take-suc s i 0 l) in rw one (follows-then (take i s) (getD s i 0 ∷ []) f g)
+pub byte-joins : (b : ℕ) (line : List ℕ) (fill : Fill) (out state : List ℕ) {line′ : List ℕ} {kept : ℕ} → (b ≡ 10 → ⊥) → Room 1 line fill out
+    → kept ≤ length line′ → take kept line′ ≡ take keptSize (take (fill .kept) line ++ b ∷ [])
+    → Taken b line fill out state line′ (record { kept = kept; filled = fill .filled }) out state
+unfolding feedByte
+byte-joins b line fill out state h room l k =
+    record {
+      few = omega arith;
+      holds = record {
+        kept = l;
+        filled = omega (arith, room .replies);
+        equal = rw (ne-eqb b 10 h) (ap (λ (s : List ℕ). record { printed = take (fill .filled) out; line = s; state = state }) k);
+      };
+    }
 
-pub follows-all : {b c x y : List ℕ} {m j : ℕ} (s : List ℕ) (i : ℕ) → length s ≤ i → Follows b m x c j y (take i s) → Follows b m x c j y s
-follows-all s i l f = rw (take-all i s l) at f
+-- ---- a block
+
+pub holds-none : (line : List ℕ) (kept : ℕ) (out state : List ℕ) → length line ≡ keptSize → kept ≤ length line
+    → Holds (block (take kept line) state []) line (record { kept = kept; filled = 0 }) out state
+unfolding block feed
+holds-none line kept out state e l =
+    record {
+      kept = l;
+      filled = omega arith;
+      equal = ap (λ (s : List ℕ). record { printed = []; line = s; state = state })
+          (sym (take-all keptSize (take kept line) (omega (arith, length-take kept line))));
+    }
+
+block-turn : (line state s : List ℕ) (i : ℕ) → i < length s
+    → cut (feedByte (block line state (take i s)) (getD s i 0)) ≡ block line state (take (i + 1) s)
+unfolding block feed
+block-turn line state s i l =
+    let r : Reading = record { printed = []; line = line; state = state } in
+    let one : take (i + 1) s ≡ take i s ++ getD s i 0 ∷ [] = rw (add-one i) (take-suc s i 0 l) in
+    cut-byte (feed r (take i s)) (getD s i 0) ∙ ap cut (sym (feed-then (take i s) (getD s i 0 ∷ []) r)) ∙ ap (λ (t : List ℕ). cut (feed r t)) (sym one)
+
+-- a turn of the loop of `answer_block`
+pub holds-turn : (first began s : List ℕ) (i : ℕ) {line out state line′ out′ state′ : List ℕ} {fill fill′ : Fill} → i < length s
+    → Holds (block first began (take i s)) line fill out state
+    → Holds (cut (feedByte (held line fill out state) (getD s i 0))) line′ fill′ out′ state′
+    → Holds (block first began (take (i + 1) s)) line′ fill′ out′ state′
+holds-turn first began s i l h t =
+    record {
+      kept = t .kept;
+      filled = t .filled;
+      equal = t .equal ∙ ap (λ (r : Reading). cut (feedByte r (getD s i 0))) (h .equal) ∙ block-turn first began s i l;
+    }
+
+pub holds-all : (first began s : List ℕ) (i : ℕ) {line out state : List ℕ} {fill : Fill} → length s ≤ i
+    → Holds (block first began (take i s)) line fill out state → Holds (block first began s) line fill out state
+holds-all first began s i l h = rw (take-all i s l) at h
+
+-- ---- room
+
+pub room-part : (n : ℕ) (s line out : List ℕ) (kept : ℕ) → length line ≡ keptSize → kept ≤ length line → 55 * length s ≤ length out
+    → Room (length (take n s)) line (record { kept = kept; filled = 0 }) out
+room-part n s line out kept e l h = record { line-size = e; kept = l; replies = omega (arith, length-take n s) }
+
+-- buffers of n and m bytes
+pub room-first : (n m : ℕ) → 55 * n ≤ m → 0 + 55 * length {A = ℕ} (replicate n 0) ≤ length {A = ℕ} (replicate m 0)
+room-first n m h = omega (arith, length-replicate {A = ℕ} n 0, length-replicate {A = ℕ} m 0)
+
+pub room-last : (state out : ℕ) → state ≡ 5864 → out ≡ 450560 → 22 * state + 6 ≤ out
+room-last state out e f = omega arith

@@ -1,2 +1,4 @@
 pub mod Replies
 pub mod Feeding
+pub mod Ending
+pub mod Claims

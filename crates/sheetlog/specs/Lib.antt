@@ -1,2 +1,4 @@
 pub mod Reply
-pub mod Feed
+pub mod Output
+pub mod Blocks
+pub mod Claims

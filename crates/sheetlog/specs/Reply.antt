@@ -42,4 +42,5 @@ statusWords s = s .«current_round» ∷ s .«committed_round» ∷ s .«leader_
 -- the line that is printed
 unfoldable pub replyText : Command → List ℕ → List ℕ
 replyText command state =
-    cond (isOther (command .kind)) otherText (answerText (outcomeOf command state .number) (statusWords (statusOf (outcomeOf command state .words))))
+    cond (isOther (command .kind)) otherText
+    (answerText (outcomeOf command state .number) (statusWords (statusOf (outcomeOf command state .words))))

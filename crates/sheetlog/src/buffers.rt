@@ -1,14 +1,18 @@
 // The line that is being read, and the output that is not yet written.
 ghost use mathlib.Core.Path.{_≡_};
-ghost use mathlib.Core.List.{List, [], _∷_, _++_};
-ghost use Prim.Native.Nat.{ℕ, _≤_};
-ghost use lib.ListN.{length};
-ghost use Rattle.transcript.specs.Commands.{commandOf};
-ghost use Rattle.sheetlog.specs.Reply.{outcomeOf};
-ghost use Rattle.sheetlog.specs.Feed.{keptSize, Keeps, Follows};
+ghost use mathlib.Core.List.{[], _∷_, _++_};
+ghost use Prim.Native.Nat.{_+_, _*_, _≤_};
+ghost use lib.ListN.{length, take};
+ghost use Rattle.transcript.specs.Text.{Appended};
+ghost use Rattle.transcript.specs.Claims.{longestAnswer};
+ghost use Rattle.sheetlog.specs.Output.{feedByte, restText, endText};
+ghost use Rattle.sheetlog.specs.Blocks.{keptSize, cut, block, held, Holds, Room};
 use super::reply::reply;
-use libc::STDOUT_FILENO;
-use transcript::text::put_bytes;
+use replica::lists::hand_journal;
+use replica::lists::hand_leaders;
+use transcript::text::ANSWER_SIZE;
+use transcript::text::put_list;
+use transcript::text::put_other;
 
 const LINE_FEED: u8 = 10;
 
@@ -16,23 +20,23 @@ const LINE_FEED: u8 = 10;
 // Of a longer line only these bytes are kept; they are of another form, as it is.
 pub const KEPT: usize = 134;
 
+// How many bytes are read at a time.
+pub const BLOCK: usize = 8192;
+
+// Room for an answer to each byte of a block: a line may be a line feed alone.
+pub const OUTPUT: usize = ANSWER_SIZE * BLOCK;
+
 // How much of the line is kept, and how much of the output buffer is filled.
 pub struct Fill {
     pub kept: usize,
     pub filled: usize,
 }
 
-// Writes the first bytes of a buffer.
-pub fn flush(out: &[u8], filled: usize)
-    requires { ⌜ filled ≤ length (now out) ⌝ }
-{
-    io::write_all(STDOUT_FILENO, &out[..filled]);
-}
-
 // Keeps one byte more of the line, if there is room.
 fn keep(line: &mut [u8], kept: usize, b: u8) -> usize
     requires { ⌜ (length (now line) ≡ keptSize) × (kept ≤ length (now line)) ⌝ }
-    ensures { λ r. ⌜ (r ≤ length (now (line .entry))) × ((whole : List ℕ) → Keeps (now (line .entry)) kept whole → Keeps (now (line .exit)) r (whole ++ b ∷ [])) ⌝ }
+    ensures { λ r. ⌜ r ≤ length (now (line .exit)) ⌝ }
+    ensures { λ r. ⌜ take r (now (line .exit)) ≡ take keptSize (take kept (now (line .entry)) ++ b ∷ []) ⌝ }
 {
     if kept < line.len() {
         line[kept] = b;
@@ -41,43 +45,22 @@ fn keep(line: &mut [u8], kept: usize, b: u8) -> usize
     kept
 }
 
-// Adds a text to the output, which is written first if there is no room. A text that no buffer holds is left out.
-fn put(out: &mut [u8], filled: usize, text: &[u8]) -> usize
-    requires { ⌜ filled ≤ length (now out) ⌝ }
-    ensures { λ r. ⌜ r ≤ length (now (out .entry)) ⌝ }
-{
-    if text.len() <= out.len() - filled {
-        return put_bytes(out, filled, text);
-    }
-    flush(out, filled);
-    if text.len() <= out.len() {
-        return put_bytes(out, 0, text);
-    }
-    0
-}
-
-// Answers the line that is kept.
-fn answer_kept(line: &[u8], out: &mut [u8], filled: usize, state: &mut [u32]) -> usize
-    requires { ⌜ filled ≤ length (now out) ⌝ }
-    ensures { λ r. ⌜ (r ≤ length (now (out .entry))) × (now (state .exit) ≡ outcomeOf (commandOf (now (line .entry))) (now (state .entry)) .words) ⌝ }
-{
-    let text = reply(state, line);
-    let bytes = text.bytes;
-    let len = text.len;
-    put(out, filled, &bytes[..len])
-}
-
 // Takes one byte of the input.
 fn take_byte(b: u8, line: &mut [u8], fill: Fill, out: &mut [u8], state: &mut [u32]) -> Fill
-    requires { ⌜ (length (now line) ≡ keptSize) × (fill .kept ≤ length (now line)) × (fill .filled ≤ length (now out)) ⌝ }
-    ensures { λ r. ⌜ (r .kept ≤ length (now (line .entry))) × (r .filled ≤ length (now (out .entry))) × Follows (now (line .entry)) (fill .kept) (now (state .entry)) (now (line .exit)) (r .kept) (now (state .exit)) (b ∷ []) ⌝ }
+    requires { ⌜ Room 1 (now line) fill (now out) ⌝ }
+    ensures { λ r. ⌜ r .filled ≤ fill .filled + longestAnswer ⌝ }
+    ensures { λ r. ⌜
+        Holds (cut (feedByte (held (now (line .entry)) fill (now (out .entry)) (now (state .entry))) b))
+        (now (line .exit)) r (now (out .exit)) (now (state .exit))
+        ⌝ }
 {
     let kept = fill.kept;
     let filled = fill.filled;
     if b == LINE_FEED {
+        let end = reply(state, &line[..kept], out, filled);
         return Fill {
             kept: 0,
-            filled: answer_kept(&line[..kept], out, filled, state),
+            filled: end,
         };
     }
     Fill {
@@ -86,16 +69,19 @@ fn take_byte(b: u8, line: &mut [u8], fill: Fill, out: &mut [u8], state: &mut [u3
     }
 }
 
-// Takes a block of the input, writes the answers, and gives the length of the line that is left.
+// Takes a block of the input, and puts the replies of the lines that it ends at the start of the output buffer.
 pub fn answer_block(
     input: &[u8],
     line: &mut [u8],
     kept: usize,
     out: &mut [u8],
     state: &mut [u32],
-) -> usize
-    requires { ⌜ (length (now line) ≡ keptSize) × (kept ≤ length (now line)) ⌝ }
-    ensures { λ r. ⌜ (r ≤ length (now (line .entry))) × Follows (now (line .entry)) kept (now (state .entry)) (now (line .exit)) r (now (state .exit)) (now (input .entry)) ⌝ }
+) -> Fill
+    requires { ⌜ Room (length (now input)) (now line) (record { kept = kept; filled = 0 }) (now out) ⌝ }
+    ensures { λ r. ⌜
+        Holds (block (take kept (now (line .entry))) (now (state .entry)) (now (input .entry)))
+        (now (line .exit)) r (now (out .exit)) (now (state .exit))
+        ⌝ }
 {
     let mut fill = Fill { kept, filled: 0 };
     let mut i: usize = 0;
@@ -104,6 +90,26 @@ pub fn answer_block(
         fill = next;
         i += 1;
     }
-    flush(out, fill.filled);
-    fill.kept
+    fill
+}
+
+// The bytes that no line feed ended count as a line of another form.
+fn answer_rest(rest: &[u8], out: &mut [u8]) -> usize
+    requires { ⌜ 2 ≤ length (now out) ⌝ }
+    ensures { λ r. ⌜ Appended (now (out .entry)) 0 (restText (now (rest .entry))) (now (out .exit)) r ⌝ }
+{
+    if rest.len() == 0 {
+        return 0;
+    }
+    put_other(out, 0)
+}
+
+// Puts what is printed at the end at the start of the output buffer, which has room for every word of the state twice.
+pub fn answer_end(rest: &[u8], state: &[u32], out: &mut [u8]) -> usize
+    requires { ⌜ 22 * length (now state) + 6 ≤ length (now out) ⌝ }
+    ensures { λ r. ⌜ Appended (now (out .entry)) 0 (endText (now (rest .entry)) (now (state .entry))) (now (out .exit)) r ⌝ }
+{
+    let first = answer_rest(rest, out);
+    let last = put_list(out, first, b'L', hand_leaders(state, 0));
+    put_list(out, last, b'J', hand_journal(state, 0))
 }

@@ -11,13 +11,13 @@ use lib.Seq.{take-all, length-take-le}
 use borrow.Author.Tests.{eqb-true, eqb-false, ne-eqb, le-leb, leb-true, leb-false, not-true}
 use Rattle.transcript.specs.Grammar.{isDigit, allDigits, valueFrom, valueOf, ledOk, numeralOk, numeralValue, largest, firstWord, afterWord, wordsOk}
 use Rattle.transcript.specs.Commands.{wordCount, kindOf, otherForm, commandFrom, commandOf}
-use Rattle.transcript.specs.Text.{digitsFrom, decimal}
-use Rattle.transcript.specs.Claims.{ReadBack, LongLines, KeptLines}
+use Rattle.transcript.specs.Text.{digitsFrom, decimal, items}
+use Rattle.transcript.specs.Claims.{AnswerSize, ReadBack, LongLines, KeptLines}
 use Rattle.transcript.specs.declared.command.Kind.{Kind}
 use Rattle.transcript.proofs.Booleans.{which, and-left, and-right, and-both, and-fails-right, cond-false}
 use Rattle.transcript.proofs.Numerals.{digit-low, value-grows, a-numeral}
 use Rattle.transcript.proofs.Words.{few-words}
-use Rattle.transcript.proofs.Digits.{digits-done, digits-next, decimal-more}
+use Rattle.transcript.proofs.Digits.{digits-done, digits-next, decimal-more, decimal-few, items-few}
 
 -- ---- v with k zeros after it
 
@@ -91,6 +91,12 @@ kept-lines line kept l =
     (omega (arith, leb-false (length line) kept h, length-take-le kept line (omega (arith, leb-false (length line) kept h))))
     ∙ sym (long-lines line (omega (arith, leb-false (length line) kept h))))
     (which (leb (length line) kept))
+
+-- ---- answers
+
+pub answer-size : AnswerSize
+answer-size n t e =
+    omega (arith, e, decimal-few n, items-few t, length-append (decimal n ++ items t) (10 ∷ []), length-append (decimal n) (items t))
 
 -- ---- digits that are printed
 

@@ -8,10 +8,10 @@ use native.Mathlib.Nat.{add-zero}
 use native.Mathlib.Numerals.{add-one}
 use native.Mathlib.Omega.{arith}
 use lib.Dec.{eqb}
-use lib.ListN.{length, length-append, length-drop, length-set, getD, drop, take, set}
-use lib.Seq.{drop-cons, drop-set-lt, getD-set-same, append-snoc, length-take-le, take-suc, take-suc-set, take-all}
-use borrow.Author.Tests.{eq-eqb, ne-eqb, lt-ltb, le-ltb}
-use Rattle.transcript.specs.Text.{digitsFrom, decimal, items, answerText, listText, listWithin, Appended, Starts}
+use lib.ListN.{length, length-append, length-drop, length-set, length-take, getD, drop, take, set}
+use lib.Seq.{drop-cons, drop-set-lt, getD-set-same, append-snoc, take-suc, take-suc-set, take-all}
+use borrow.Author.Tests.{eq-eqb, ne-eqb}
+use Rattle.transcript.specs.Text.{digitsFrom, decimal, items, Appended}
 use Rattle.transcript.proofs.Booleans.{which, cond-true, cond-false}
 
 -- ---- digits
@@ -102,11 +102,9 @@ appended-then {d} {e} {f} {s} {t} {a} {b} {c} p q = record {
 pub appended-byte : (d : List ℕ) (at b : ℕ) → at < length d → Appended d at (b ∷ []) (set d at b) (at + 1)
 appended-byte d at b l = record { size = length-set d at b; last = omega arith; held = rw (add-one at) (take-suc-set d at b l) }
 
--- from the start of a buffer
-pub starts : {d e s : List ℕ} {b : ℕ} → Appended d 0 s e b → length s ≤ length d → Starts s e b
-starts {d} {e} {s} {b} p l =
-    let fits : b ≤ length e = omega (arith, p .size, p .last) in
-    record { fits = fits; counted = sym (length-take-le b e fits); held = p .held }
+pub appended-fits : {d e s : List ℕ} {a b : ℕ} → Appended d a s e b → a ≤ length d → b ≤ length e
+appended-fits {d} {e} {s} {a} {b} p l =
+    omega (arith, p .last, ap length (p .held), length-append (take a d) s, length-take a d, length-take b e)
 
 -- a turn of the loop of `put_bytes`
 pub appended-start : (d : List ℕ) (at : ℕ) → Appended d at [] d (at + 0)
@@ -137,21 +135,3 @@ digits-part s start n e d = take-all (10 - start) (drop start s) (omega (arith, 
 
 pub items-all : {d e : List ℕ} (t : List ℕ) (at i b : ℕ) → length t ≤ i → Appended d at (items (take i t)) e b → Appended d at (items t) e b
 items-all t at i b l p = rw (take-all i t l) at p
-
--- the lines
-pub an-answer : {d e f g : List ℕ} (n : ℕ) (t : List ℕ) {a b c : ℕ} → length d ≡ 64 → length t ≡ 4 → Appended d 0 (decimal n) e a
-    → Appended e a (items t) f b → Appended f b (10 ∷ []) g c
-    → Starts (answerText n t) g c
-an-answer {d} n t k l p q r =
-    starts (appended-then (appended-then p q) r)
-    (omega (arith, k, l, decimal-few n, items-few t, length-append (decimal n ++ items t) (10 ∷ []), length-append (decimal n) (items t)))
-
-pub a-list : {d e f g : List ℕ} (letter : ℕ) (t : List ℕ) {a b c : ℕ} → length t < length d / 11 → Appended d 0 (letter ∷ []) e a
-    → Appended e a (items t) f b → Appended f b (10 ∷ []) g c
-    → Starts (listWithin (length d) letter t) g c
-a-list {d} letter t h p q r =
-    rw (cond-true (listText letter t) [] (lt-ltb _ _ h))
-    (starts (appended-then (appended-then p q) r) (omega (arith, h, items-few t, length-append (letter ∷ items t) (10 ∷ []))))
-
-pub no-list : (d : List ℕ) (letter : ℕ) (t : List ℕ) → length d / 11 ≤ length t → Starts (listWithin (length d) letter t) d 0
-no-list d letter t h = rw (cond-false (listText letter t) [] (le-ltb _ _ h)) (record { fits = omega arith; counted = refl; held = refl })

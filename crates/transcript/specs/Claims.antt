@@ -5,11 +5,18 @@ use Prim.Native.Nat.{ℕ, _≤_, _<_}
 use lib.ListN.{length, take}
 use Rattle.transcript.specs.Grammar.{largest, numeralValue}
 use Rattle.transcript.specs.Commands.{otherForm, commandOf}
-use Rattle.transcript.specs.Text.{decimal}
+use Rattle.transcript.specs.Text.{decimal, answerText}
 
 -- the longest line of the form: a letter, and 12 words of a space and ten digits
 abbrev pub longestLine : ℕ
 longestLine = 133
+
+-- the longest line of an answer: five numbers of ten digits, and a space or the line feed after each
+abbrev pub longestAnswer : ℕ
+longestAnswer = 55
+
+abbrev pub AnswerSize : Type 0
+AnswerSize = (number : ℕ) (status : List ℕ) → length status ≡ 4 → length (answerText number status) ≤ longestAnswer
 
 -- what is printed is a numeral, and is read back
 abbrev pub ReadBack : Type 0

@@ -2,8 +2,8 @@
 use mathlib.Core.Path.{_≡_}
 use mathlib.Core.Bool.{cond}
 use mathlib.Core.List.{List, [], _∷_, _++_}
-use Prim.Native.Nat.{ℕ, zero, suc, _+_, _/_, _%_, _≤_}
-use lib.Dec.{eqb, ltb}
+use Prim.Native.Nat.{ℕ, zero, suc, _+_, _/_, _%_}
+use lib.Dec.{eqb}
 use lib.ListN.{length, take}
 use Rattle.transcript.specs.Grammar.{space, zeroDigit}
 
@@ -36,18 +36,8 @@ otherText = 63 ∷ lineFeed ∷ []
 abbrev pub listText : ℕ → List ℕ → List ℕ
 listText letter ids = (letter ∷ items ids) ++ lineFeed ∷ []
 
--- the same where the buffer has room for 11 bytes an id and 11 more, and else nothing
-abbrev pub listWithin : ℕ → ℕ → List ℕ → List ℕ
-listWithin room letter ids = cond (ltb (length ids) (room / 11)) (listText letter ids) []
-
 -- `after` has `text` from index `at` up to `end`, and before it what `before` had there
 pub record Appended (before : List ℕ) (at : ℕ) (text : List ℕ) (after : List ℕ) (end : ℕ) : Type 0 where
   pub size : length after ≡ length before
   pub last : end ≡ at + length text
   pub held : take end after ≡ take at before ++ text
-
--- text stands at the start of a buffer, up to `end`
-pub record Starts (text buffer : List ℕ) (end : ℕ) : Type 0 where
-  pub fits : end ≤ length buffer
-  pub counted : end ≡ length (take end buffer)
-  pub held : take end buffer ≡ text

@@ -3,7 +3,7 @@ ghost use mathlib.Core.Path.{_≡_};
 ghost use mathlib.Core.List.{[], _∷_};
 ghost use Prim.Native.Nat.{_+_, _*_, _%_, _≤_, _<_};
 ghost use lib.ListN.{length, drop};
-ghost use Rattle.transcript.specs.Text.{decimal, items, answerText, otherText, listWithin, Appended, Starts};
+ghost use Rattle.transcript.specs.Text.{decimal, items, answerText, otherText, listText, Appended};
 use super::numeral::SPACE;
 use super::numeral::ZERO;
 
@@ -11,14 +11,8 @@ const LINE_FEED: u8 = 10;
 
 const QUESTION_MARK: u8 = 63;
 
-// The longest item: a space and ten digits.
-const ITEM_SIZE: usize = 11;
-
-// The first `len` bytes are the line, with its line feed.
-pub struct Line {
-    pub bytes: [u8; 64],
-    pub len: usize,
-}
+// The longest line of an answer: five numbers of ten digits, and a space or the line feed after each.
+pub const ANSWER_SIZE: usize = 55;
 
 // The digits stand from `start` on.
 pub struct Digits {
@@ -61,7 +55,7 @@ fn put_byte(out: &mut [u8], at: usize, b: u8) -> usize
 }
 
 // Copies a text into a buffer that has room for it.
-pub fn put_bytes(out: &mut [u8], at: usize, text: &[u8]) -> usize
+fn put_bytes(out: &mut [u8], at: usize, text: &[u8]) -> usize
     requires { ⌜ at + length (now text) ≤ length (now out) ⌝ }
     ensures { λ r. ⌜ Appended (now (out .entry)) at (now (text .entry)) (now (out .exit)) r ⌝ }
 {
@@ -98,36 +92,31 @@ fn put_items(out: &mut [u8], at: usize, numbers: &[u32]) -> usize
     end
 }
 
-// The line of an answer: its number, and the four numbers of the status.
-pub fn answer_line(number: u32, current: u32, committed: u32, leaders: u32, journal: u32) -> Line
-    ensures { λ r. ⌜ Starts (answerText number (current ∷ committed ∷ leaders ∷ journal ∷ [])) (r .bytes) (r .len) ⌝ }
+// The line of an answer: its number, and the numbers of the status.
+pub fn put_answer(out: &mut [u8], at: usize, number: u32, status: &[u32]) -> usize
+    requires { ⌜ at + 11 * (1 + length (now status)) ≤ length (now out) ⌝ }
+    ensures { λ r. ⌜ Appended (now (out .entry)) at (answerText number (now (status .entry))) (now (out .exit)) r ⌝ }
 {
-    let status = [current, committed, leaders, journal];
-    let mut bytes = [0u8; 64];
-    let first = put_number(&mut bytes, 0, number);
-    let last = put_items(&mut bytes, first, &status);
-    let len = put_byte(&mut bytes, last, LINE_FEED);
-    Line { bytes, len }
+    let first = put_number(out, at, number);
+    let last = put_items(out, first, status);
+    put_byte(out, last, LINE_FEED)
 }
 
 // The line of an input line of another form.
-pub fn other_line() -> Line
-    ensures { λ r. ⌜ Starts otherText (r .bytes) (r .len) ⌝ }
+pub fn put_other(out: &mut [u8], at: usize) -> usize
+    requires { ⌜ at + 2 ≤ length (now out) ⌝ }
+    ensures { λ r. ⌜ Appended (now (out .entry)) at otherText (now (out .exit)) r ⌝ }
 {
-    let mut bytes = [0u8; 64];
-    bytes[0] = QUESTION_MARK;
-    bytes[1] = LINE_FEED;
-    Line { bytes, len: 2 }
+    let last = put_byte(out, at, QUESTION_MARK);
+    put_byte(out, last, LINE_FEED)
 }
 
-// A list after its letter, at the start of a buffer, and how many bytes it has: none where the buffer has no room for it.
-pub fn list_line(letter: u8, ids: &[u32], out: &mut [u8]) -> usize
-    ensures { λ r. ⌜ Starts (listWithin (length (now (out .entry))) letter (now (ids .entry))) (now (out .exit)) r ⌝ }
+// A list after its letter.
+pub fn put_list(out: &mut [u8], at: usize, letter: u8, ids: &[u32]) -> usize
+    requires { ⌜ at + 11 * length (now ids) + 2 ≤ length (now out) ⌝ }
+    ensures { λ r. ⌜ Appended (now (out .entry)) at (listText letter (now (ids .entry))) (now (out .exit)) r ⌝ }
 {
-    if out.len() / ITEM_SIZE <= ids.len() {
-        return 0;
-    }
-    let first = put_byte(out, 0, letter);
+    let first = put_byte(out, at, letter);
     let last = put_items(out, first, ids);
     put_byte(out, last, LINE_FEED)
 }

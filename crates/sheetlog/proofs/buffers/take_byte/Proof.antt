@@ -5,29 +5,31 @@ use borrow.Author.Needs.{needs}
 use Rattle.sheetlog.proofs.buffers.take_byte.Statement.{statement}
 use Rattle.sheetlog.proofs.buffers.take_byte.Tie as tie
 
-slice-aggregate-answer-kept : tie.Need-slice-aggregate-answer-kept
-slice-aggregate-answer-kept c =
-    let start : tie.Start = search in
-    sym (length-take-le _ _ (start .pre .1))
+slice-aggregate-reply : tie.Need-slice-aggregate-reply
+slice-aggregate-reply c = let s : tie.Start = search in sym (length-take-le _ _ (s .pre .kept))
 
 returns : tie.Need-returns
 returns c =
-    let after-answer-kept : tie.After-answer-kept = search in
-    let then1 : tie.Then1 = search in
-    (search needs, search needs, byte-ends _ (then1 .if1 .taken) (after-answer-kept .answer-kept .ensures .1))
+    let s : tie.Start = search in
+    let t : tie.Then1 = search in
+    let a : tie.After-reply = search in
+    let k = byte-ends _ _ (s .args .fill) _ _ (t .if1 .taken) (s .pre) (a .reply .ensures .0) (a .reply .ensures .1) in
+    (k .few, k .holds)
 
 returns-2 : tie.Need-returns-2
 returns-2 c =
-    let after-keep : tie.After-keep = search in
-    let else1 : tie.Else1 = search in
-    (search needs, search needs, byte-joins _ (else1 .if1 .left) (after-keep .keep .ensures .1))
+    let s : tie.Start = search in
+    let e : tie.Else1 = search in
+    let a : tie.After-keep = search in
+    let k = byte-joins _ _ (s .args .fill) _ _ (e .if1 .left) (s .pre) (a .keep .ensures .0) (a .keep .ensures .1) in
+    (k .few, k .holds)
 
 pub take-byte-spec : {M : Type 1} → statement M
 take-byte-spec =
     tie.close
     (tie.spec
     (λ c. search needs)
-    slice-aggregate-answer-kept
+    slice-aggregate-reply
     (λ c κs. search needs)
     (λ c. search needs)
     (λ c. search needs)

@@ -12,7 +12,11 @@ known : (c : tie.Else1) → let p : tie.After-parse = search in isOther (p .pars
 known c = cc
 
 returns : tie.Need-returns
-returns c = let p : tie.After-parse = search in other-reply _ _ _ (p .parse .ensures) (cc) (c .other-line .ensures)
+returns c =
+    let p : tie.After-parse = search in
+    let o : tie.After-put-other = search in
+    let r = other-reply _ _ _ (p .parse .ensures) (cc) (o .put-other .ensures) in
+    (r .text, r .words)
 
 returns-2 : tie.Need-returns-2
 returns-2 c =
@@ -20,8 +24,10 @@ returns-2 c =
     let k : tie.After-call = search in
     let s : tie.After-status = search in
     let n : tie.After-number = search in
-    call-reply _ _ _ _ (k .call .result) (s .status .result) _ (p .parse .ensures) (known (search)) (k .call .ensures) (n .number .ensures)
-    (s .status .ensures) (c .answer-line .ensures)
+    let a : tie.After-put-answer = search in
+    let r = call-reply _ _ _ _ (k .call .result) (s .status .result) _ (p .parse .ensures) (known (search)) (k .call .ensures)
+    (n .number .ensures) (s .status .ensures) (a .put-answer .ensures) in
+    (r .text, r .words)
 
 pub reply-spec : {M : Type 1} → statement M
 reply-spec =
@@ -30,10 +36,13 @@ reply-spec =
     (λ c κs. search needs)
     (λ c κs. search needs)
     (λ c κs. search needs)
+    (λ c. search needs)
     returns
     (λ c κs. search needs)
     (λ c κs. search needs)
     (λ c κs. search needs)
+    (λ c. search needs)
     (λ c κs. search needs)
+    (λ c. search needs)
     (λ c. search needs)
     returns-2)

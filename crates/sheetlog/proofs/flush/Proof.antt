@@ -1,8 +1,8 @@
 use lib.Seq.{length-take-le}
 use mathlib.Core.Path.{sym}
 use borrow.Author.Needs.{needs}
-use Rattle.sheetlog.proofs.buffers.flush.Statement.{statement}
-use Rattle.sheetlog.proofs.buffers.flush.Tie as tie
+use Rattle.sheetlog.proofs.flush.Statement.{statement}
+use Rattle.sheetlog.proofs.flush.Tie as tie
 
 slice-aggregate-write-all : tie.Need-slice-aggregate-write-all
 slice-aggregate-write-all c =

@@ -96,15 +96,15 @@ feed-after (b ∷ s) p r = ap (λ (q : Reading). feed q s) (after-byte p r b) �
 
 -- ---- one byte
 
--- what `take_byte` ensures
-pub record Taken (b : ℕ) (line : List ℕ) (fill : Fill) (out state line′ : List ℕ) (fill′ : Fill) (out′ state′ : List ℕ) : Type 0 where
-  pub few : fill′ .filled ≤ fill .filled + 55
-  pub holds : Holds (cut (feedByte (held line fill out state) b)) line′ fill′ out′ state′
+-- what a byte that ends a line does
+pub record Ended (b : ℕ) (line : List ℕ) (fill : Fill) (out state : List ℕ) (end : ℕ) (out′ state′ : List ℕ) : Type 0 where
+  pub few : end ≤ fill .filled + 55
+  pub holds : Holds (cut (feedByte (held line fill out state) b)) line (record { kept = 0; filled = end }) out′ state′
 
 pub byte-ends : (b : ℕ) (line : List ℕ) (fill : Fill) (out state : List ℕ) {out′ state′ : List ℕ} {end : ℕ} → b ≡ 10 → Room 1 line fill out
     → Appended out (fill .filled) (replyText (commandOf (take (fill .kept) line)) state) out′ end
     → state′ ≡ outcomeOf (commandOf (take (fill .kept) line)) state .words
-    → Taken b line fill out state line (record { kept = 0; filled = end }) out′ state′
+    → Ended b line fill out state end out′ state′
 unfolding feedByte
 byte-ends b line fill out state e room a w =
     record {
@@ -118,16 +118,13 @@ byte-ends b line fill out state e room a w =
 
 pub byte-joins : (b : ℕ) (line : List ℕ) (fill : Fill) (out state : List ℕ) {line′ : List ℕ} {kept : ℕ} → (b ≡ 10 → ⊥) → Room 1 line fill out
     → kept ≤ length line′ → take kept line′ ≡ take keptSize (take (fill .kept) line ++ b ∷ [])
-    → Taken b line fill out state line′ (record { kept = kept; filled = fill .filled }) out state
+    → Holds (cut (feedByte (held line fill out state) b)) line′ (record { kept = kept; filled = fill .filled }) out state
 unfolding feedByte
 byte-joins b line fill out state h room l k =
     record {
-      few = omega arith;
-      holds = record {
-        kept = l;
-        filled = omega (arith, room .replies);
-        equal = rw (ne-eqb b 10 h) (ap (λ (s : List ℕ). record { printed = take (fill .filled) out; line = s; state = state }) k);
-      };
+      kept = l;
+      filled = omega (arith, room .replies);
+      equal = rw (ne-eqb b 10 h) (ap (λ (s : List ℕ). record { printed = take (fill .filled) out; line = s; state = state }) k);
     }
 
 -- ---- a block

@@ -14,15 +14,14 @@ returns c =
     let t : tie.Then1 = search in
     let a : tie.After-reply = search in
     let k = byte-ends _ _ (s .args .fill) _ _ (t .if1 .taken) (s .pre) (a .reply .ensures .0) (a .reply .ensures .1) in
-    (k .few, k .holds)
+    (search needs, k .holds)
 
 returns-2 : tie.Need-returns-2
 returns-2 c =
     let s : tie.Start = search in
     let e : tie.Else1 = search in
     let a : tie.After-keep = search in
-    let k = byte-joins _ _ (s .args .fill) _ _ (e .if1 .left) (s .pre) (a .keep .ensures .0) (a .keep .ensures .1) in
-    (k .few, k .holds)
+    (search needs, byte-joins _ _ (s .args .fill) _ _ (e .if1 .left) (s .pre) (a .keep .ensures .0) (a .keep .ensures .1))
 
 pub take-byte-spec : {M : Type 1} → statement M
 take-byte-spec =

@@ -1,14 +1,12 @@
 -- Laws of what is printed at the end. Assumes nothing.
-use mathlib.Core.Path.{_≡_, refl}
-use mathlib.Core.Bool.{Bool, true, false, cond}
+use mathlib.Core.Path.{_≡_, refl, ap}
 use mathlib.Core.List.{List, [], _∷_}
 use Prim.Native.Nat.{ℕ, _+_, _*_, _≤_}
 use native.Mathlib.Omega.{arith}
-use lib.Dec.{eqb}
-use lib.ListN.{length, length-append, length-take, length-drop, take, drop}
-use Rattle.record.specs.Refusals.{numberOf}
-use Rattle.replica.specs.State.{leaderCount, journalCount}
-use Rattle.replica.specs.Lists.{askLeaders, askJournal, handLeaders, handJournal}
+use denote.Ref.{RefT}
+use lib.ListN.{length, length-append, length-take, length-drop, drop}
+use Rattle.replica.specs.Place.{Span, wordsIn, Part, partOf, cut}
+use Rattle.replica.specs.Lists.{handLeaders, handJournal}
 use Rattle.transcript.specs.Text.{items, otherText, listText, Appended}
 use Rattle.transcript.proofs.Digits.{appended-none, appended-then, items-few}
 use Rattle.sheetlog.specs.Output.{restText, endText}
@@ -26,28 +24,19 @@ pub rest-few : (rest : List ℕ) → length (restText rest) ≤ 2
 rest-few [] = omega arith
 rest-few (b ∷ s) = omega arith
 
-few-if : (t : Bool) (s : List ℕ) (n : ℕ) → length s ≤ n → length (cond t s []) ≤ n
-few-if true s n h = h
-few-if false s n h = omega arith
+-- a list is handed over as a part of the state
+pub part-words : (x r : RefT (List ℕ)) (s : Span) → partOf r ≡ cut x s → r .now ≡ wordsIn (x .now) s
+part-words x r s e = ap (λ (p : Part). p .words) e
 
--- a list is a part of the state
-pub leaders-few : (state part : List ℕ) → part ≡ handLeaders state 0 → length part ≤ length state
-unfolding handLeaders
-leaders-few state part e =
-    rw e (few-if (eqb (numberOf (askLeaders state 0)) 0) (take (leaderCount state) (drop 200 state)) (length state)
-    (omega (arith, length-take (leaderCount state) (drop 200 state), length-drop 200 state)))
-
-pub journal-few : (state part : List ℕ) → part ≡ handJournal state 0 → length part ≤ length state
-unfolding handJournal
-journal-few state part e =
-    rw e (few-if (eqb (numberOf (askJournal state 0)) 0) (take (journalCount state) (drop 232 state)) (length state)
-    (omega (arith, length-take (journalCount state) (drop 232 state), length-drop 232 state)))
+pub part-few : (x r : RefT (List ℕ)) (s : Span) → partOf r ≡ cut x s → length (r .now) ≤ length (x .now)
+part-few x r s e =
+    rw (part-words x r s e) (omega (arith, length-take (s .length) (drop (s .start) (x .now)), length-drop (s .start) (x .now)))
 
 pub list-few : (letter : ℕ) (ids : List ℕ) → length (listText letter ids) ≤ 11 * length ids + 2
 list-few letter ids = omega (arith, items-few ids, length-append (letter ∷ items ids) (10 ∷ []))
 
-pub an-end : (rest state : List ℕ) {d e f g : List ℕ} {a b c : ℕ} {leaders journal : List ℕ}
-    → Appended d 0 (restText rest) e a → leaders ≡ handLeaders state 0 → Appended e a (listText 76 leaders) f b
-    → journal ≡ handJournal state 0 → Appended f b (listText 74 journal) g c → Appended d 0 (endText rest state) g c
+pub an-end : (rest : List ℕ) (x l j : RefT (List ℕ)) {d e f g : List ℕ} {a b c : ℕ}
+    → Appended d 0 (restText rest) e a → partOf l ≡ cut x (handLeaders (x .now) 0) → Appended e a (listText 76 (l .now)) f b
+    → partOf j ≡ cut x (handJournal (x .now) 0) → Appended f b (listText 74 (j .now)) g c → Appended d 0 (endText rest (x .now)) g c
 unfolding endText
-an-end rest state p l q j r = appended-then (appended-then p (rw l at q)) (rw j at r)
+an-end rest x l j p m q n r = appended-then (appended-then p (rw (part-words x l (handLeaders (x .now) 0) m) at q)) (rw (part-words x j (handJournal (x .now) 0) n) at r)

@@ -5,6 +5,7 @@ use Prim.Native.Nat.{ℕ}
 use lib.Dec.{eqb}
 use lib.ListN.{replicate}
 use Rattle.replica.specs.Layout.{stateSize}
+use Rattle.replica.specs.Place.{wordsIn}
 use Rattle.replica.specs.Lists.{handLeaders, handJournal}
 use Rattle.transcript.specs.Text.{lineFeed, otherText, listText}
 use Rattle.transcript.specs.Commands.{commandOf}
@@ -40,7 +41,7 @@ restText (b ∷ s) = otherText
 
 -- what is printed at the end, with the line that no line feed ended: its reply, and the lists after the letters L and J
 unfoldable pub endText : List ℕ → List ℕ → List ℕ
-endText line state = restText line ++ listText 76 (handLeaders state 0) ++ listText 74 (handJournal state 0)
+endText line state = restText line ++ listText 76 (wordsIn state (handLeaders state 0)) ++ listText 74 (wordsIn state (handJournal state 0))
 
 -- what is printed if the input ends there
 abbrev pub whole : Reading → List ℕ

@@ -14,6 +14,7 @@ ghost use Rattle.commits.specs.Standing.{Standing, Room, LeaderRoom, Lea
 use super::history::history_of;
 use super::walk::taken_rounds;
 use record::layout::STRONG;
+use record::layout::wide;
 use record::members::Members;
 use record::members::leader_of;
 use record::members::power;
@@ -30,7 +31,6 @@ use replica::layout::is_ordered;
 use replica::layout::masks_at;
 use replica::layout::ordered_mask;
 use replica::layout::votes_mask;
-use replica::layout::wide;
 
 // The members whose vertices of round q + 1 vote for the leader of round q.
 fn vertex_voters(state: &[u32], n: u32, q: u32, voted: u32) -> Members

@@ -10,10 +10,10 @@ ghost use Rattle.commits.specs.Standing.{Standing};
 use record::layout::STRONG;
 use record::layout::WEAK;
 use record::layout::WEAK_COUNT;
+use record::layout::wide;
 use record::members::Members;
 use record::members::power;
 use replica::layout::cell_at;
-use replica::layout::wide;
 
 // Adds the vertex with the id x.
 fn join_id(masks: &mut [u32; 32], x: u32)

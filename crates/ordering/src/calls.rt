@@ -29,6 +29,7 @@ use record::layout::SOURCE;
 use record::layout::STRONG;
 use record::layout::WEAK;
 use record::layout::WEAK_COUNT;
+use record::layout::wide;
 use record::members::Members;
 use record::members::leader_of;
 use record::questions::check;
@@ -49,7 +50,6 @@ use replica::layout::heard_mask;
 use replica::layout::held_mask;
 use replica::layout::is_held;
 use replica::layout::masks_at;
-use replica::layout::wide;
 use replica::status::check_state;
 
 // Member p is added to the mask in the word.

@@ -1,4 +1,6 @@
 // The words of a record: round, source, and a body of ten words.
+ghost use mathlib.Core.Path.{_≡_};
+
 pub const RECORD_SIZE: usize = 12;
 
 pub const BODY_SIZE: usize = 10;
@@ -22,3 +24,10 @@ pub const NO_VOTES: usize = 2;
 pub const WEAK_COUNT: usize = 4;
 
 pub const WEAK: usize = 5;
+
+// A word as a place or a count.
+pub fn wide(x: u32) -> usize
+    ensures { λ r. ⌜ r ≡ x ⌝ }
+{
+    x as usize
+}

@@ -17,6 +17,7 @@ use super::layout::TIMEOUTS;
 use super::layout::WEAK;
 use super::layout::WEAK_COUNT;
 use super::layout::WEAK_SLOTS;
+use super::layout::wide;
 use super::members::Members;
 use super::members::faulty_of;
 use super::members::is_within;
@@ -134,12 +135,6 @@ fn rises_at(body: &[u32], i: usize) -> bool
         return true;
     }
     body[WEAK + (i - 1)] < body[WEAK + i]
-}
-
-fn wide(x: u32) -> usize
-    ensures { λ r. ⌜ r ≡ x ⌝ }
-{
-    x as usize
 }
 
 fn slot_ok(n: u32, round: u32, body: &[u32], i: usize) -> bool

@@ -6,6 +6,7 @@ ghost use Rattle.record.specs.Members.{idRound};
 ghost use Rattle.record.specs.Questions.{roundOk};
 ghost use Rattle.replica.specs.Layout.{stateSize, masksAt, cellAt};
 ghost use Rattle.replica.specs.State.{heldMask, heardMask, votesMask, timeoutsMask, orderedMask, heldId, orderedId};
+use record::layout::wide;
 use record::members::Members;
 
 pub const STATE_SIZE: usize = 5864;
@@ -53,12 +54,6 @@ pub const JOURNAL: usize = 232;
 pub const JOURNAL_SIZE: usize = 512;
 
 pub const CELLS: usize = 744;
-
-pub fn wide(x: u32) -> usize
-    ensures { λ r. ⌜ r ≡ x ⌝ }
-{
-    x as usize
-}
 
 pub fn masks_at(round: u32) -> usize
     requires { ⌜ (1 ≤ round) × (round ≤ 32) ⌝ }

@@ -12,8 +12,8 @@ use super::layout::JOURNAL;
 use super::layout::JOURNAL_COUNT;
 use super::layout::LEADER_COUNT;
 use super::layout::LEADERS;
-use super::layout::wide;
 use super::status::check_state;
+use record::layout::wide;
 use record::refusal::Refusal;
 use record::refusal::number;
 

@@ -29,7 +29,7 @@ use Rattle.ordering.proofs.Marks.{sound-raise, sound-timeout, sound-no-vote}
 use Rattle.agreement.specs.Call.{Call, opening, vertex, firstMessage, timeout, noVote, status, askLeaderList, askJournalList, handLeaderList}
 use Rattle.agreement.specs.Call.{handJournalList, outcomeOf, run, allowed, allAllowed}
 use Rattle.agreement.specs.Model.{Model, empty, admit, follow, modelOf, dagOf}
-use Rattle.agreement.specs.Claim.{Premises, Matches, Behind, Agreed, AgreementClaim}
+use Rattle.agreement.specs.Claim.{Premises, Matches, Agreed, AgreementClaim}
 use Rattle.agreement.proofs.Records.{records-none}
 use Rattle.agreement.proofs.Family.{Inside, inside-self, inside-then, Either, either-before, Part, partDag, family}
 use Rattle.agreement.proofs.Tracking.{at-open, at-leaders, at-journal}

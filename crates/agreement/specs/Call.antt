@@ -1,4 +1,4 @@
--- Lists of calls on a replica state. What a call ends in and gives is said by the definitions that its contract cites, and by no others.
+-- Lists of calls on a replica state. What a call answers, leaves and gives is said by the very definitions that its contract cites.
 use mathlib.Core.Bool.{Bool, true, not, _&&_}
 use mathlib.Core.List.{List, [], _∷_}
 use Prim.Native.Nat.{ℕ}
@@ -25,7 +25,7 @@ pub data Call : Type 0 where
   handLeaderList : ℕ → Call
   handJournalList : ℕ → Call
 
--- status and handing over have no id, add nothing and leave the words
+-- status and handing over answer a number and no id, add nothing, and are lent the words to read
 abbrev pub reading : ℕ → List ℕ → Outcome
 reading number l = record { number = number; id = 0; leaders = 0; journal = 0; words = l }
 

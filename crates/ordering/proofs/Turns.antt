@@ -1,31 +1,30 @@
 -- The questions of a call in turn: what stopped it, and what is known where nothing did. Assumes nothing.
 use mathlib.Core.Path.{_≡_, refl, sym, ap, _∙_}
-use mathlib.Core.Bool.{Bool, true, false, cond, not, _&&_}
+use mathlib.Core.Bool.{true, false, not}
 use mathlib.Core.List.{List, [], _∷_, _++_}
-use Prim.Native.Nat.{ℕ, _+_, _-_, _≤_, _<_}
+use Prim.Native.Nat.{ℕ, _+_, _≤_, _<_}
 use native.Mathlib.Omega.{arith}
-use lib.Dec.{eqb, leb, ltb}
-use lib.ListN.{length, take, drop, getD, length-drop}
+use lib.Dec.{leb, ltb}
+use lib.ListN.{length, take, drop, length-drop}
 use lib.Seq.{take-all}
 use borrow.Author.Tests.{eqb-false, eq-eqb, ne-eqb, lt-ltb, le-ltb, lt-leb, ltb-true}
-use Rattle.record.specs.Below.{any, least}
+use Rattle.record.specs.Below.{least}
 use Rattle.record.specs.Members.{legal, has}
 use Rattle.record.specs.Refusals.{numberOf, Question, firstNo}
 use Rattle.record.specs.Layout.{roundOf, sourceOf, bodyOf}
 use Rattle.record.specs.Questions.{roundOk, recordQuestions, bodyRefusal, recordRefusal}
 use Rattle.record.specs.declared.refusal.Refusal.{Refusal}
 use Rattle.record.specs.declared.refusal.Refusal.the-variants.{None, Round, Source, Duplicate, Conflict, MissingParent}
-use Rattle.record.proofs.Booleans.{never, and-left, and-right, and-both, and-fails-left, and-fails-right}
+use Rattle.record.proofs.Booleans.{and-both, and-fails-left, and-fails-right}
 use Rattle.record.proofs.Below.{any-intro, any-false, least-sat, least-off}
 use Rattle.record.proofs.Masks.{legal-range}
 use Rattle.record.proofs.Turn.{next, stop, done, both-yes, round-range}
 use Rattle.record.proofs.Turn as turn
 use Rattle.protocol.specs.Journal.{idLimit}
 use Rattle.replica.specs.Layout.{stateSize}
-use Rattle.replica.specs.State.{memberCount, heldMask, heardMask, leaderCount, journalCount}
+use Rattle.replica.specs.State.{memberCount, heldMask}
 use Rattle.replica.specs.Parents.{missing, parentsHeld}
-use Rattle.replica.specs.WellFormed.{wellFormed}
-use Rattle.replica.specs.Outcome.{Outcome, told, refusedBy, admitted, outcome}
+use Rattle.replica.specs.Outcome.{told, refusedBy, admitted, outcome}
 use Rattle.replica.specs.Status.{stateQuestions}
 use Rattle.replica.proofs.StatusLaws.{numbered, front-no, front-yes, both-fronts, state-numbered, state-ok}
 use Rattle.replica.proofs.Sound.{Sound, sound}

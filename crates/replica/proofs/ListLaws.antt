@@ -2,7 +2,7 @@
 use mathlib.Core.Path.{_≡_, refl, sym, ap, _∙_}
 use mathlib.Core.Bool.{true, false}
 use mathlib.Core.Logic.{_⊎_, inl, inr, ⊎-elim}
-use mathlib.Core.List.{List, [], _∷_}
+use mathlib.Core.List.{List, []}
 use Prim.Native.Nat.{ℕ, _+_, _-_, _*_, _≤_, _<_}
 use native.Mathlib.Nat.{eq-or-lt-of-le}
 use native.Mathlib.Omega.{arith}
@@ -16,12 +16,12 @@ use Rattle.record.specs.declared.refusal.Refusal.{Refusal}
 use Rattle.record.specs.declared.refusal.Refusal.the-variants.{None, PastEnd}
 use Rattle.record.proofs.Booleans.{which, cond-true, cond-false}
 use Rattle.record.proofs.Turn.{both-yes, next, stop, done}
-use Rattle.replica.specs.State.{leaderCount, journalCount, leaderList, journalList}
+use Rattle.replica.specs.State.{leaderCount, journalCount}
 use Rattle.replica.specs.WellFormed.{wellFormed}
 use Rattle.replica.specs.Outcome.{Outcome, told, refusedBy, unchanged}
 use Rattle.replica.specs.Status.{stateQuestions}
-use Rattle.replica.specs.Place.{Span, wordsIn, Part, cut}
-use Rattle.replica.specs.Lists.{listQuestions, askList, spanIf, handList, handLeaders, handJournal, Handed, HandOverLaw}
+use Rattle.replica.specs.Place.{Part, cut}
+use Rattle.replica.specs.Lists.{askList, spanIf, handList, Handed, HandOverLaw}
 use Rattle.replica.specs.declared.answer.Answer.{Answer}
 use Rattle.replica.proofs.Clauses.{counts}
 use Rattle.replica.proofs.StatusLaws.{front-no, front-yes, state-numbered, state-ok, both-fronts}

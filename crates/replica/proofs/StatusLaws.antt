@@ -13,7 +13,6 @@ use Rattle.record.proofs.Turn.{both-yes}
 use Rattle.replica.specs.State.{currentRound, committedRound, leaderCount, journalCount}
 use Rattle.replica.specs.WellFormed.{wellFormed}
 use Rattle.replica.specs.Status.{stateQuestions, head, headIf, statusOf}
-use Rattle.replica.specs.declared.answer.Status.{Status}
 
 -- ---- the first no of two lists
 

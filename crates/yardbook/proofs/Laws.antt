@@ -4,7 +4,6 @@ use mathlib.Core.List.{List}
 use Prim.Native.Nat.{ℕ, _+_, _-_, _≤_}
 use lib.ListN.{length, getD}
 use Rattle.replica.specs.Outcome.{Outcome, told}
-use Rattle.replica.specs.Place.{Span}
 use Rattle.replica.specs.Lists.{askList, handList}
 use Rattle.replica.proofs.ListLaws.{list-ok, counted, span-none, span-some}
 use Rattle.replica.specs.declared.answer.Answer as inner

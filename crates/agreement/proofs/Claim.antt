@@ -18,14 +18,14 @@ use Rattle.replica.specs.Layout.{timeoutsAt, noVotesAt}
 use Rattle.replica.specs.State.{committedRound, timeoutsMask, noVotesMask, leaderList, journalList, vertices, firsts, dag}
 use Rattle.replica.specs.Outcome.{outcome}
 use Rattle.replica.specs.Opening.{opened, openState}
-use Rattle.replica.proofs.Sound.{well-formed}
+use Rattle.replica.proofs.Formed.{well-formed}
 use Rattle.protocol.specs.Chain.{leaders}
 use Rattle.protocol.specs.Journal.{journal}
-use Rattle.replica.proofs.Opened.{opened-members, opened-word, opened-leaders, opened-journal, opened-vertices, opened-firsts, opened-sound}
+use Rattle.replica.proofs.Opened.{opened-members, opened-word, opened-leaders, opened-journal, opened-vertices, opened-firsts, opened-formed}
 use Rattle.commits.specs.Commit.{raiseRound, commitAll}
 use Rattle.ordering.specs.Calls.{addMember, putVertex, hear, vertexQuestions, firstQuestions, noteQuestions, takeBody, takeFirstBody, takeTimeout, takeNoVote}
 use Rattle.commits.proofs.Steps.{not-led}
-use Rattle.ordering.proofs.Marks.{sound-raise, sound-timeout, sound-no-vote}
+use Rattle.ordering.proofs.Marks.{formed-raise, formed-timeout, formed-no-vote}
 use Rattle.agreement.specs.Call.{Call, opening, vertex, firstMessage, timeout, noVote, status, askLeaderList, askJournalList, handLeaderList}
 use Rattle.agreement.specs.Call.{handJournalList, outcomeOf, run, allowed, allAllowed}
 use Rattle.agreement.specs.Model.{Model, empty, admit, follow, modelOf, dagOf}
@@ -79,12 +79,12 @@ follow-more (c ∷ calls) m l = inside-then (admit-more c (outcomeOf c l .number
 -- it follows the empty model
 pub opened-follows : (n : ℕ) → legal n ≡ true → Follows n (opened n) (empty n)
 opened-follows n g =
-    let S = opened-sound n g in
+    let S = opened-formed n g in
     let same : (r p : ℕ) → vertices (opened n) r p ≡ recordsOf [] r p = λ r p. opened-vertices n r p ∙ sym (records-none r p) in
     let none : (r p : ℕ) → firsts (opened n) r p ≡ recordsOf [] r p = λ r p. opened-firsts n r p ∙ sym (records-none r p) in
     record {
       holds = record {
-        sound = S;
+        formed = S;
         members = opened-members n;
         vertex = same;
         first = λ r p. ap present (none r p);
@@ -103,8 +103,8 @@ module _ (n : ℕ) (a b : Model) (honest : ℕ → Bool) (g : legal n ≡ true) 
   timeout-follows l m r p f e =
       let w = note-passed l r p (timeoutsMask l r) e in
       let k : List ℕ = addMember l (timeoutsAt r) p in
-      let S = sound-timeout l (f .holds .sound) r p (w .1) (w .2) (w .3) in
-      follows-alike n k (raiseRound k) m (raise-calm k) (sound-raise k S) (raise-alike k)
+      let S = formed-timeout l (f .holds .formed) r p (w .1) (w .2) (w .3) in
+      follows-alike n k (raiseRound k) m (raise-calm k) (formed-raise k S) (raise-alike k)
       (follows-alike n l k m (note-calm l r 3 p (w .1) (w .2) (omega arith)) S (note-alike l r 3 p (w .1) (w .2) (omega arith) (omega arith)) f)
 
   -- a no-vote
@@ -113,7 +113,7 @@ module _ (n : ℕ) (a b : Model) (honest : ℕ → Bool) (g : legal n ≡ true) 
   no-vote-follows l m r p f e =
       let w = note-passed l r p (noVotesMask l r) e in
       follows-alike n l (addMember l (noVotesAt r) p) m (note-calm l r 4 p (w .1) (w .2) (omega arith))
-      (sound-no-vote l (f .holds .sound) r p (w .1) (w .2) (w .3))
+      (formed-no-vote l (f .holds .formed) r p (w .1) (w .2) (w .3))
       (note-alike l r 4 p (w .1) (w .2) (omega arith) (omega arith)) f
 
   -- the model does not change
@@ -181,7 +181,7 @@ module _ (n : ℕ) (a b : Model) (honest : ℕ → Bool) (g : legal n ≡ true) 
     -- the lists are the model's
     matches : Matches l m
     matches =
-        let S = f .holds .sound in
+        let S = f .holds .formed in
         record {
           leader-list = hand-leaders l (S .size) (well-formed l S)
               ∙ at-leaders n (dagOf m) (committedRound l) (leaderList l) (journalList l) (f .holds .lists) (S .leaders .committed-high) over-model
@@ -196,8 +196,18 @@ module _ (n : ℕ) (a b : Model) (honest : ℕ → Bool) (g : legal n ≡ true) 
   agreed l k ca cb f h =
       let x = matches l a ca f in
       let y = matches k b cb h in
-      let i : Part n a b = record { model = a; inside = inl (inside-self a); formed = formed n l a (f .holds .sound) (f .holds .members) (f .holds .vertex) } in
-      let j : Part n a b = record { model = b; inside = inr (inside-self b); formed = formed n k b (h .holds .sound) (h .holds .members) (h .holds .vertex) } in
+      let i : Part n a b = record {
+        model = a;
+        inside = inl (inside-self a);
+        formed = formed n l a (f .holds .formed) (f .holds .members)
+            (f .holds .vertex);
+      } in
+      let j : Part n a b = record {
+        model = b;
+        inside = inr (inside-self b);
+        formed = formed n k b (h .holds .formed) (h .holds .members)
+            (h .holds .vertex);
+      } in
       let both = agreement n (partDag n a b) honest (family n a b honest g P) i j in
       record {
         first = x;

@@ -21,7 +21,7 @@ use Rattle.protocol.specs.Dag.{Records, recordsOf, present, held}
 use Rattle.replica.specs.State.{memberCount, heldMask, heardMask, vertices, firsts}
 use Rattle.replica.specs.Parents.{isParent, parentsHeld}
 use Rattle.replica.specs.Status.{stateQuestions}
-use Rattle.replica.proofs.Sound.{Sound, well-formed}
+use Rattle.replica.proofs.Formed.{WellFormed, well-formed}
 use Rattle.replica.proofs.Dags.{held-vertex, held-id}
 use Rattle.replica.proofs.Parents.{round-in, parent-cases, parents-intro, weak-five}
 use Rattle.ordering.specs.Calls.{sameBody, vertexQuestions, firstQuestions, takeBody, takeFirstBody}
@@ -95,8 +95,8 @@ past-record n r p body rest e =
     let q11 = both-yes _ _ _ (eqb-false 11 0 refl) (q10 .1) in
     next _ _ (q4 .0) (next _ _ (q5 .0) (next _ _ (q6 .0) (next _ _ (q7 .0) (next _ _ (q8 .0) (next _ _ (q9 .0) (next _ _ (q10 .0) (next _ _ (q11 .0) refl)))))))
 
--- and those of a sound state
-pub past-state : (l : List ℕ) (rest : List Question) → Sound l → firstNo rest ≡ firstNo (stateQuestions l ++ rest)
+-- and those of a formed state
+pub past-state : (l : List ℕ) (rest : List Question) → WellFormed l → firstNo rest ≡ firstNo (stateQuestions l ++ rest)
 past-state l rest S = next _ _ (eq-eqb (length l) 5864 (S .size)) (next _ _ (well-formed l S) refl)
 
 module _ (n : ℕ) (l : List ℕ) (m : Model) (h : Holds n l m) (r p : ℕ) (body : List ℕ) (ok : numberOf (bodyRefusal n r p body) ≡ 0) where
@@ -110,7 +110,7 @@ module _ (n : ℕ) (l : List ℕ) (m : Model) (h : Holds n l m) (r p : ℕ) (bod
 
   -- the questions of the state and the record are passed over
   in-record : (rest : List Question) → firstNo rest ≡ firstNo (stateQuestions l ++ (recordQuestions (memberCount l) r p body ++ rest))
-  in-record rest = past-record (memberCount l) r p body rest (rw (h .members) ok) ∙ past-state l _ (h .sound)
+  in-record rest = past-record (memberCount l) r p body rest (rw (h .members) ok) ∙ past-state l _ (h .formed)
 
   -- a parent is held in the model
   held-in : (y : ℕ) → parentsIn (recordsOf (m .vertices)) r body ≡ true → isParent r body y ≡ true
@@ -123,7 +123,7 @@ module _ (n : ℕ) (l : List ℕ) (m : Model) (h : Holds n l m) (r p : ℕ) (bod
       ∙ imp-elim (has (strongOf body) (idMember y)) _
       (all-elim 16 (λ q. not (has (strongOf body) q) || held v (r - 1) q) (and-left _ _ e) (idMember y) (omega arith)) (w .1))
       (λ w.
-      let k : w .0 < 5 = omega (arith, w .1, weak-five (memberCount l) r p l body (h .sound .front .members) A) in
+      let k : w .0 < 5 = omega (arith, w .1, weak-five (memberCount l) r p l body (h .formed .front .members) A) in
       ap (λ (t : ℕ). held v (idRound t) (idMember t)) (sym (w .2))
       ∙ imp-elim (ltb (w .0) (weakCountOf body)) _
       (all-elim 5 (λ i. not (ltb i (weakCountOf body)) || held v (idRound (weakOf body i)) (idMember (weakOf body i)))
@@ -134,11 +134,11 @@ module _ (n : ℕ) (l : List ℕ) (m : Model) (h : Holds n l m) (r p : ℕ) (bod
   vertex-passes : held (recordsOf (m .vertices)) r p ≡ false → parentsIn (recordsOf (m .vertices)) r body ≡ true
       → numberOf (firstNo (vertexQuestions l r p body)) ≡ 0
   vertex-passes new there =
-      let few : p < 16 = omega (arith, A .source-low, h .sound .front .high) in
-      let free : (roundOk r && has (heldMask l r) p) ≡ false = sym (held-vertex l (h .sound .size) r p few) ∙ ap present (h .vertex r p) ∙ new in
+      let few : p < 16 = omega (arith, A .source-low, h .formed .front .high) in
+      let free : (roundOk r && has (heldMask l r) p) ≡ false = sym (held-vertex l (h .formed .size) r p few) ∙ ap present (h .vertex r p) ∙ new in
       let off : has (heldMask l r) p ≡ false = rw (round-in r (A .round-low) (A .round-high)) at free in
       let parents : parentsHeld l r body ≡ true = parents-intro l r body
-      (λ y b d. held-id l (h .sound .size) y ∙ ap present (h .vertex (idRound y) (idMember y)) ∙ held-in y there d) in
+      (λ y b d. held-id l (h .formed .size) y ∙ ap present (h .vertex (idRound y) (idMember y)) ∙ held-in y there d) in
       ap numberOf (sym (next _ _ (ap not (and-fails-left (sameBody l r p body) off)) (next _ _ (ap not off) (next _ _ parents done)) ∙ in-record _))
 
   -- a first message has the number 0

@@ -8,8 +8,7 @@ use native.Mathlib.Omega.{arith}
 use Rattle.record.specs.Members.{legal, leader, has}
 use Rattle.record.specs.Layout.{roundOf, bodyOf, noVotesOf}
 use Rattle.protocol.specs.Dag.{Dag, recordsOf, votes}
-use Rattle.protocol.specs.Premises.{WellFormed}
-use Rattle.protocol.specs.Premises as protocol
+use Rattle.protocol.specs.Premises.{ValidVertices, DagPremises}
 use Rattle.protocol.proofs.Paths.{parent-present, no-vote-present}
 use Rattle.agreement.specs.Model.{Model, dagOf}
 use Rattle.agreement.specs.Claim.{In, Vertex, First, Premises}
@@ -41,7 +40,7 @@ either-before h i = ⊎-elim (λ x. inl (inside-then h x)) (λ x. inr (inside-th
 pub record Part (n : ℕ) (a b : Model) : Type 0 where
   pub model : Model
   pub inside : Either a b model
-  pub formed : WellFormed n (recordsOf (model .vertices))
+  pub formed : ValidVertices n (recordsOf (model .vertices))
 
 -- its DAG
 abbrev pub partDag : (n : ℕ) (a b : Model) → Part n a b → Dag
@@ -68,7 +67,7 @@ module _ (n : ℕ) (a b : Model) (honest : ℕ → Bool) where
         (ap₂ (λ (body : List ℕ) (s : ℕ). has (noVotesOf body) s) (sym (y .body)) (x .source) ∙ w)
 
     -- the premises of the safety theorem
-    pub family : protocol.Premises n (partDag n a b) honest
+    pub family : DagPremises n (partDag n a b) honest
     family = record {
       members = legal-n;
       well-formed = λ i. i .formed;

@@ -19,12 +19,12 @@ use Rattle.record.proofs.Turn.{admitted}
 use Rattle.protocol.specs.Dag.{Records, Dag, recordsOf, present, held, votes, committed}
 use Rattle.protocol.specs.Chain.{chain, leaderId}
 use Rattle.protocol.specs.Journal.{extend}
-use Rattle.protocol.specs.Premises.{WellFormed}
+use Rattle.protocol.specs.Premises.{ValidVertices}
 use Rattle.protocol.proofs.Laws.{records-ext}
 use Rattle.protocol.proofs.Commit.{committed-cong}
 use Rattle.replica.specs.State.{memberCount, committedRound, heldMask, heardMask, votesMask, leaderList, journalList, vertices, firsts, dag}
 use Rattle.replica.proofs.Words.{legal-pow}
-use Rattle.replica.proofs.Sound.{Sound}
+use Rattle.replica.proofs.Formed.{WellFormed}
 use Rattle.replica.proofs.Dags.{held-vertex, dag-well-formed}
 use Rattle.commits.specs.Commit.{commit, committable, lowest, commitUpTo, raiseRound}
 use Rattle.ordering.specs.Calls.{putVertex, hear, vertexQuestions, firstQuestions}
@@ -32,8 +32,8 @@ use Rattle.commits.proofs.Steps.{committable-at}
 use Rattle.commits.proofs.Frame.{Alike, vertices-same, firsts-same}
 use Rattle.commits.proofs.Frames.{lists-members}
 use Rattle.commits.proofs.Growing.{grown, commit-vertices, commit-firsts, commit-round, commit-leaders, commit-journal}
-use Rattle.ordering.proofs.Marks.{sound-raise, sound-put, sound-hear}
-use Rattle.ordering.proofs.Kept.{sound-commit, committable-round}
+use Rattle.ordering.proofs.Marks.{formed-raise, formed-put, formed-hear}
+use Rattle.ordering.proofs.Kept.{formed-commit, committable-round}
 use Rattle.agreement.specs.Model.{Model, dagOf}
 use Rattle.agreement.specs.Claim.{Premises}
 use Rattle.agreement.proofs.Records.{records-here, records-there, by-record, records-more}
@@ -45,7 +45,7 @@ use Rattle.ordering.proofs.Writing.{hear-other, hear-here, hear-vote, put-calm,
 
 -- the state l holds what the model m does
 pub record Holds (n : ℕ) (l : List ℕ) (m : Model) : Type 0 where
-  pub sound : Sound l
+  pub formed : WellFormed l
   pub members : memberCount l ≡ n
   pub vertex : (r p : ℕ) → vertices l r p ≡ recordsOf (m .vertices) r p
   pub first : (r p : ℕ) → present (firsts l r p) ≡ present (recordsOf (m .firsts) r p)
@@ -70,8 +70,8 @@ pub at-cast : {n : ℕ} {d : Dag} {c k : ℕ} {L M I J : List ℕ} → k ≡ c �
 at-cast e f g a = rw (e, f, g) a
 
 -- the vertices of the model are well formed
-pub formed : (n : ℕ) (l : List ℕ) (m : Model) → Sound l → memberCount l ≡ n → ((r p : ℕ) → vertices l r p ≡ recordsOf (m .vertices) r p)
-    → WellFormed n (recordsOf (m .vertices))
+pub formed : (n : ℕ) (l : List ℕ) (m : Model) → WellFormed l → memberCount l ≡ n → ((r p : ℕ) → vertices l r p ≡ recordsOf (m .vertices) r p)
+    → ValidVertices n (recordsOf (m .vertices))
 formed n l m S e same = rw (e, records-ext (vertices l) (recordsOf (m .vertices)) same) at (dag-well-formed l S)
 
 -- where a member was not heard there is no first message
@@ -81,21 +81,22 @@ first-none l r p e = ap present (cond-false _ _ (and-fails-right (roundOk r) e))
 
 -- ---- changes that leave all this
 
-module _ (n : ℕ) (l k : List ℕ) (m : Model) (C : Calm l k) (S : Sound k) where
+module _ (n : ℕ) (l k : List ℕ) (m : Model) (C : Calm l k) (S : WellFormed k) where
   -- the lists
-  calm-lists : Sound l → At n (dagOf m) (committedRound l) (leaderList l) (journalList l) → At n (dagOf m) (committedRound k) (leaderList k) (journalList k)
+  calm-lists : WellFormed l → At n (dagOf m) (committedRound l) (leaderList l) (journalList l)
+      → At n (dagOf m) (committedRound k) (leaderList k) (journalList k)
   calm-lists s a = at-cast (calm-committed C) (calm-leaders C (s .leaders .few)) (calm-journal C (s .journal .few)) a
 
   module _ (A : Alike l k) where
     -- and what is held
     pub holds-alike : Holds n l m → Holds n k m
     holds-alike h = record {
-      sound = S;
+      formed = S;
       members = calm-members C ∙ h .members;
       vertex = λ r p. ap (λ (v : Records). v r p) (vertices-same A) ∙ h .vertex r p;
       first = λ r p. ap (λ (v : Records). present (v r p)) (firsts-same A) ∙ h .first r p;
       vote = λ r p. ap (λ (v : Records). votes n (r - 1) (v r p)) (firsts-same A) ∙ h .vote r p;
-      lists = calm-lists (h .sound) (h .lists);
+      lists = calm-lists (h .formed) (h .lists);
     }
 
     -- and that no round is left
@@ -112,7 +113,7 @@ module _ (n : ℕ) (l k : List ℕ) (m : Model) (C : Calm l k) (S : Sound k) whe
 module _ (n : ℕ) (a b : Model) (honest : ℕ → Bool) (g : legal n ≡ true) (P : Premises n a b honest) where
   -- a model that a state holds is one of the family
   abbrev part : (l : List ℕ) (m : Model) → Either a b m → Holds n l m → Part n a b
-  part l m i h = record { model = m; inside = i; formed = formed n l m (h .sound) (h .members) (h .vertex) }
+  part l m i h = record { model = m; inside = i; formed = formed n l m (h .formed) (h .members) (h .vertex) }
 
   -- ---- a commit
 
@@ -121,11 +122,11 @@ module _ (n : ℕ) (a b : Model) (honest : ℕ → Bool) (g : legal n ≡ true) 
     commit-holds : Holds n (commit l q) m
     commit-holds =
         let w = committable-round l q c in
-        let S = h .sound in
+        let S = h .formed in
         let v = records-ext (vertices l) (recordsOf (m .vertices)) (h .vertex) in
         let there : committed n (dagOf m) q ≡ true = sym (committed-cong n (dag l) (dagOf m) (h .vertex) (alike h) q) ∙ (rw (h .members) at (w .2)) in
         record {
-          sound = sound-commit l S q (w .0) (w .1) (w .3);
+          formed = formed-commit l S q (w .0) (w .1) (w .3);
           members = lists-members l (commit l q) (grown l S q (w .0) (w .1) (w .3) .kept) ∙ h .members;
           vertex = λ r p. ap (λ (x : Records). x r p) (commit-vertices l S q (w .0) (w .1) (w .3)) ∙ h .vertex r p;
           first = λ r p. ap (λ (x : Records). present (x r p)) (commit-firsts l S q (w .0) (w .1) (w .3)) ∙ h .first r p;
@@ -141,7 +142,7 @@ module _ (n : ℕ) (a b : Model) (honest : ℕ → Bool) (g : legal n ≡ true) 
 
     -- the committed round rises
     raised : committedRound l < committedRound (commit l q)
-    raised = let w = committable-round l q c in rw (commit-round l (h .sound) q (w .0) (w .1) (w .3)) (w .0)
+    raised = let w = committable-round l q c in rw (commit-round l (h .formed) q (w .0) (w .1) (w .3)) (w .0)
 
   -- all commits: then no round is left
   pub commits : (k : ℕ) (l : List ℕ) (m : Model) → Either a b m → Holds n l m → 31 ≤ k + committedRound l → Follows n (commitUpTo l k) m
@@ -178,56 +179,56 @@ module _ (n : ℕ) (a b : Model) (honest : ℕ → Bool) (g : legal n ≡ true) 
 
     -- its source is a member
     few : sourceOf rec < 16
-    few = omega (arith, A .source-low, h .sound .front .high)
+    few = omega (arith, A .source-low, h .formed .front .high)
 
-    -- the state stays sound
-    put-sound : Sound put
-    put-sound = let w = vertex-yes l (roundOf rec) (sourceOf rec) (bodyOf rec) ok in sound-put l (h .sound) (roundOf rec) (sourceOf rec) (bodyOf rec)
+    -- the state stays formed
+    put-formed : WellFormed put
+    put-formed = let w = vertex-yes l (roundOf rec) (sourceOf rec) (bodyOf rec) ok in formed-put l (h .formed) (roundOf rec) (sourceOf rec) (bodyOf rec)
         (w .0) (w .2)
 
     -- the lists stay
     calm : Calm l put
-    calm = put-calm l (roundOf rec) (sourceOf rec) (bodyOf rec) (h .sound .size) (A .round-low) (A .round-high) few (A .size)
+    calm = put-calm l (roundOf rec) (sourceOf rec) (bodyOf rec) (h .formed .size) (A .round-low) (A .round-high) few (A .size)
 
     -- there was none of its round and source
     new : held (recordsOf (m .vertices)) (roundOf rec) (sourceOf rec) ≡ false
     new =
-        ap present (sym (h .vertex (roundOf rec) (sourceOf rec))) ∙ held-vertex l (h .sound .size) (roundOf rec) (sourceOf rec) few
+        ap present (sym (h .vertex (roundOf rec) (sourceOf rec))) ∙ held-vertex l (h .formed .size) (roundOf rec) (sourceOf rec) few
         ∙ and-fails-right (roundOk (roundOf rec)) (vertex-yes l (roundOf rec) (sourceOf rec) (bodyOf rec) ok .1)
 
     -- the vertices are those of the model
     put-vertex : (s q : ℕ) → vertices put s q ≡ recordsOf (rec ∷ m .vertices) s q
     put-vertex = by-record rec (λ s q. vertices put s q ≡ recordsOf (rec ∷ m .vertices) s q)
-        (put-here l (roundOf rec) (sourceOf rec) (bodyOf rec) (h .sound .size) (A .round-low) (A .round-high) few (A .size)
+        (put-here l (roundOf rec) (sourceOf rec) (bodyOf rec) (h .formed .size) (A .round-low) (A .round-high) few (A .size)
         ∙ sym (records-here rec (m .vertices)))
-        (λ s q e. put-other l (roundOf rec) (sourceOf rec) (bodyOf rec) (h .sound .size) (A .round-low) (A .round-high) few (A .size) small s q e
+        (λ s q e. put-other l (roundOf rec) (sourceOf rec) (bodyOf rec) (h .formed .size) (A .round-low) (A .round-high) few (A .size) small s q e
         ∙ h .vertex s q ∙ sym (records-there rec (m .vertices) s q e))
       where
         small : (t : ℕ) → 1 ≤ t → t ≤ 32 → heldMask l t < 2 ^ 16
-        small t x y = legal-pow (memberCount l) (heldMask l t) (h .sound .front .members) (h .sound .masks .held-low t x y)
+        small t x y = legal-pow (memberCount l) (heldMask l t) (h .formed .front .members) (h .formed .masks .held-low t x y)
 
     -- the state holds it then
     vertex-holds : Either a b m → Either a b more → Holds n put more
     vertex-holds i j =
-        let j′ : Part n a b = record { model = more; inside = j; formed = formed n put more put-sound (calm-members calm ∙ h .members) put-vertex } in
+        let j′ : Part n a b = record { model = more; inside = j; formed = formed n put more put-formed (calm-members calm ∙ h .members) put-vertex } in
         record {
-          sound = put-sound;
+          formed = put-formed;
           members = calm-members calm ∙ h .members;
           vertex = put-vertex;
           first = λ s q. ap present (stay s q) ∙ h .first s q;
           vote = λ s q. ap (votes n (s - 1)) (stay s q) ∙ h .vote s q;
-          lists = calm-lists n l put more calm put-sound (h .sound)
+          lists = calm-lists n l put more calm put-formed (h .formed)
               (at-grow n (partDag n a b) honest (family n a b honest g P) (part l m i h) j′ (committedRound l) (leaderList l) (journalList l)
               (record { vertices = records-more rec (m .vertices) new; firsts = λ s q e. refl }) (h .lists));
         }
       where
         stay : (s q : ℕ) → firsts put s q ≡ firsts l s q
-        stay = put-firsts l (roundOf rec) (sourceOf rec) (bodyOf rec) (h .sound .size) (A .round-low) (A .round-high) few (A .size)
+        stay = put-firsts l (roundOf rec) (sourceOf rec) (bodyOf rec) (h .formed .size) (A .round-low) (A .round-high) few (A .size)
 
     -- and follows the model after all commits
     pub vertex-follows : Either a b m → Either a b more → Follows n (commitUpTo (raiseRound put) 31) more
     vertex-follows i j = commits 31 (raiseRound put) more j
-        (holds-alike n put (raiseRound put) more (raise-calm put) (sound-raise put put-sound) (raise-alike put) (vertex-holds i j)) (omega arith)
+        (holds-alike n put (raiseRound put) more (raise-calm put) (formed-raise put put-formed) (raise-alike put) (vertex-holds i j)) (omega arith)
 
   -- ---- an admitted first message
 
@@ -245,13 +246,13 @@ module _ (n : ℕ) (a b : Model) (honest : ℕ → Bool) (g : legal n ≡ true) 
     B : Admitted (memberCount l) (roundOf rec) (sourceOf rec) (bodyOf rec)
     B = admitted (memberCount l) (roundOf rec) (sourceOf rec) (bodyOf rec) (first-yes l (roundOf rec) (sourceOf rec) (bodyOf rec) ok .0)
 
-    -- the state stays sound
-    heard-sound : Sound after
-    heard-sound = sound-hear l (h .sound) (roundOf rec) (sourceOf rec) (bodyOf rec) B
+    -- the state stays formed
+    heard-formed : WellFormed after
+    heard-formed = formed-hear l (h .formed) (roundOf rec) (sourceOf rec) (bodyOf rec) B
 
     -- the lists stay
     heard-calm : Calm l after
-    heard-calm = hear-calm l (roundOf rec) (sourceOf rec) (bodyOf rec) (h .sound .size) (B .round-low) (B .round-high)
+    heard-calm = hear-calm l (roundOf rec) (sourceOf rec) (bodyOf rec) (h .formed .size) (B .round-low) (B .round-high)
 
     -- there was none of its round and source, and no vote of it
     unheard : has (heardMask l (roundOf rec)) (sourceOf rec) ≡ false
@@ -263,17 +264,17 @@ module _ (n : ℕ) (a b : Model) (honest : ℕ → Bool) (g : legal n ≡ true) 
 
     -- it had no vote
     voteless : has (votesMask l (roundOf rec)) (sourceOf rec) ≡ false
-    voteless = ⊎-elim (λ e. never (h .sound .masks .votes-heard (roundOf rec) (sourceOf rec) (B .round-low) (B .round-high) e) unheard) (λ e. e)
+    voteless = ⊎-elim (λ e. never (h .formed .masks .votes-heard (roundOf rec) (sourceOf rec) (B .round-low) (B .round-high) e) unheard) (λ e. e)
         (which (has (votesMask l (roundOf rec)) (sourceOf rec)))
 
     -- the others stay
     other : (s q : ℕ) → (eqb (roundOf rec) s && eqb (sourceOf rec) q) ≡ false → firsts after s q ≡ firsts l s q
-    other = hear-other l (roundOf rec) (sourceOf rec) (bodyOf rec) (h .sound .size) (B .round-low) (B .round-high)
+    other = hear-other l (roundOf rec) (sourceOf rec) (bodyOf rec) (h .formed .size) (B .round-low) (B .round-high)
 
     -- the first messages are those of the model
     heard-first : (s q : ℕ) → present (firsts after s q) ≡ present (recordsOf (rec ∷ m .firsts) s q)
     heard-first = by-record rec (λ s q. present (firsts after s q) ≡ present (recordsOf (rec ∷ m .firsts) s q))
-        (hear-here l (roundOf rec) (sourceOf rec) (bodyOf rec) (h .sound .size) (B .round-low) (B .round-high)
+        (hear-here l (roundOf rec) (sourceOf rec) (bodyOf rec) (h .formed .size) (B .round-low) (B .round-high)
         ∙ sym (long (bodyOf rec) (B .size)) ∙ ap present (sym (records-here rec (m .firsts))))
         (λ s q e. ap present (other s q e) ∙ h .first s q ∙ ap present (sym (records-there rec (m .firsts) s q e)))
       where
@@ -284,23 +285,23 @@ module _ (n : ℕ) (a b : Model) (honest : ℕ → Bool) (g : legal n ≡ true) 
     -- and so are their votes
     heard-vote : (s q : ℕ) → votes n (s - 1) (firsts after s q) ≡ votes n (s - 1) (recordsOf (rec ∷ m .firsts) s q)
     heard-vote = by-record rec (λ s q. votes n (s - 1) (firsts after s q) ≡ votes n (s - 1) (recordsOf (rec ∷ m .firsts) s q))
-        (hear-vote l (roundOf rec) (sourceOf rec) (bodyOf rec) (h .sound .size) (B .round-low) (B .round-high) voteless n (sym (h .members))
+        (hear-vote l (roundOf rec) (sourceOf rec) (bodyOf rec) (h .formed .size) (B .round-low) (B .round-high) voteless n (sym (h .members))
         ∙ ap (votes n (roundOf rec - 1)) (sym (records-here rec (m .firsts))))
         (λ s q e. ap (votes n (s - 1)) (other s q e) ∙ h .vote s q ∙ ap (votes n (s - 1)) (sym (records-there rec (m .firsts) s q e)))
 
     -- the state holds it then
     first-holds : Either a b m → Either a b further → Holds n after further
     first-holds i j =
-        let j′ : Part n a b = record { model = further; inside = j; formed = formed n l m (h .sound) (h .members) (h .vertex) } in
+        let j′ : Part n a b = record { model = further; inside = j; formed = formed n l m (h .formed) (h .members) (h .vertex) } in
         record {
-          sound = heard-sound;
+          formed = heard-formed;
           members = calm-members heard-calm ∙ h .members;
           vertex = λ s q.
-              ap (λ (v : Records). v s q) (hear-vertices l (roundOf rec) (sourceOf rec) (bodyOf rec) (h .sound .size) (B .round-low) (B .round-high))
+              ap (λ (v : Records). v s q) (hear-vertices l (roundOf rec) (sourceOf rec) (bodyOf rec) (h .formed .size) (B .round-low) (B .round-high))
               ∙ h .vertex s q;
           first = heard-first;
           vote = heard-vote;
-          lists = calm-lists n l after further heard-calm heard-sound (h .sound)
+          lists = calm-lists n l after further heard-calm heard-formed (h .formed)
               (at-grow n (partDag n a b) honest (family n a b honest g P) (part l m i h) j′ (committedRound l) (leaderList l) (journalList l)
               (record { vertices = λ s q e. refl; firsts = records-more rec (m .firsts) none }) (h .lists));
         }

@@ -11,7 +11,7 @@ use Rattle.record.proofs.Booleans.{which, never}
 use Rattle.protocol.specs.Dag.{Dag, committed, last}
 use Rattle.protocol.specs.Chain.{chain, leaderId, leaders}
 use Rattle.protocol.specs.Journal.{extend, journalOf, journal}
-use Rattle.protocol.specs.Premises.{Premises}
+use Rattle.protocol.specs.Premises.{DagPremises}
 use Rattle.protocol.specs.Claims.{Settled}
 use Rattle.protocol.proofs.Lists.{map-append}
 use Rattle.protocol.proofs.Chain.{chain-none, chain-self}
@@ -56,7 +56,7 @@ module _ (n : ℕ) (d : Dag) (c : ℕ) (L J : List ℕ) (a : At n d c L J) (high
   pub at-journal : J ≡ journal n d
   at-journal = a .journal-list ∙ ap (journalOf n (d .vertex)) (at-round n d c (a .settled) high none)
 
-module _ (n : ℕ) {I : Type 0} (dag : I → Dag) (honest : ℕ → Bool) (P : Premises n dag honest) where
+module _ (n : ℕ) {I : Type 0} (dag : I → Dag) (honest : ℕ → Bool) (P : DagPremises n dag honest) where
   -- records that are added change nothing
   pub at-grow : (i j : I) (c : ℕ) (L J : List ℕ) → Within (dag i) (dag j) → At n (dag i) c L J → At n (dag j) c L J
   at-grow i j c L J W a =

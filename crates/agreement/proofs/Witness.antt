@@ -16,7 +16,7 @@ use Rattle.record.proofs.Booleans.{which, never, and-left, and-right, and-both}
 use Rattle.protocol.specs.Dag.{Records, recordsOf, present, votes}
 use Rattle.protocol.specs.Chain.{leaders}
 use Rattle.protocol.specs.Journal.{journal}
-use Rattle.protocol.specs.Witness.{early, late, vertexOf, firstOf, dag, honest}
+use Rattle.protocol.specs.Witness.{early, late, vertexOf, firstOf, witnessDag, honest}
 use Rattle.protocol.proofs.Laws.{records-ext}
 use Rattle.protocol.proofs.Witness as protocol
 use Rattle.replica.specs.Opening.{opened, openState}
@@ -131,8 +131,8 @@ made-firsts true = same-records (made true .firsts) (firstOf true) refl refl
 made-firsts false = same-records (made false .firsts) (firstOf false) refl refl
 
 -- its DAG
-made-dag : (i : Bool) → dagOf (made i) ≡ dag i
-unfolding dag
+made-dag : (i : Bool) → dagOf (made i) ≡ witnessDag i
+unfolding witnessDag
 made-dag i = ap₂ (λ (v w : Records). record { vertex = v; first = w }) (made-vertices i) (made-firsts i)
 
 -- ---- the premises
@@ -227,7 +227,7 @@ premises : Premises 4 (modelFor true) (modelFor false) honest
 premises = rw (model-made true, model-made false) made-premises
 
 -- the DAGs are those of the protocol's witness
-same-dag : (i : Bool) → dagOf (modelFor i) ≡ dag i
+same-dag : (i : Bool) → dagOf (modelFor i) ≡ witnessDag i
 same-dag i = ap dagOf (model-made i) ∙ made-dag i
 
 -- and the claim gives

@@ -1,4 +1,4 @@
--- The worked cases. On a sound state questions 1 and 3 are answered yes, and every call leaves one, so a row is computed without them. Assumes nothing.
+-- The worked cases. On a formed state questions 1 and 3 are answered yes, and every call leaves one, so a row is computed without them. Assumes nothing.
 use mathlib.Core.Path.{_≡_, refl, sym, ap, ap₂, _∙_}
 use mathlib.Core.Bool.{Bool, true, false, cond, not, _&&_}
 use mathlib.Core.Logic.{_⊎_, inl, inr, ⊎-elim}
@@ -33,8 +33,8 @@ use Rattle.replica.specs.Status.{stateQuestions, headIf, statusOf}
 use Rattle.replica.specs.Place.{Span, wordsIn}
 use Rattle.replica.specs.Lists.{spanIf, handList}
 use Rattle.replica.specs.declared.answer.Status.{Status}
-use Rattle.replica.proofs.Sound.{Sound, sound, well-formed}
-use Rattle.replica.proofs.Opened.{opened-sound}
+use Rattle.replica.proofs.Formed.{WellFormed, formed, well-formed}
+use Rattle.replica.proofs.Opened.{opened-formed}
 use Rattle.commits.specs.Commit.{passable, highestPassable, raiseRound, appendLeader, appendLeaders, enter, enterAll, orderLeader, orderLeaders}
 use Rattle.commits.specs.Commit.{commit, committable, lowest, commitUpTo}
 use Rattle.ordering.specs.Calls.{addMember, sameBody, placeQuestions, putVertex, takeBody, hear, takeFirstBody, takeTimeout, takeNoVote}
@@ -96,7 +96,7 @@ commits-are zero l = refl
 commits-are (suc k) l = ap (λ (x : List ℕ). cond (ltb (lowest l) 32) x l)
     (commits-are k (commit l (lowest l)) ∙ ap (λ (v : Records). shortCommits (commitBy v l (lowest l)) k) (sym (listed-is (vertices l))))
 
--- ---- calls on a sound state, without the questions of the state
+-- ---- calls on a formed state, without the questions of the state
 
 -- the refusal of a vertex
 shortVertex : List ℕ → List ℕ → Refusal
@@ -155,7 +155,7 @@ status-number why l =
     ⊎-elim (λ e. ap (λ (s : Status). numberOf (s .refusal)) (cond-true _ _ e)) (λ e. ap (λ (s : Status). numberOf (s .refusal)) (cond-false _ _ e))
     (which (eqb (numberOf why) 0))
 
-module _ (l : List ℕ) (S : Sound l) where
+module _ (l : List ℕ) (S : WellFormed l) where
   -- the questions of the state are passed over
   past : (rest : List Question) (after : List ℕ) → outcome (firstNo (stateQuestions l ++ rest)) l after ≡ outcome (firstNo rest) l after
   past rest after = ap (λ (why : Refusal). outcome why l after) (sym (past-state l rest S))
@@ -198,38 +198,38 @@ module _ (l : List ℕ) (S : Sound l) where
   given-is (handJournalList k) = ap (λ (s : Span). part s (wordsIn l s)) (past-handing 232 k (journalCount l))
 
   -- a state that a call leaves well formed
-  sound-kept : (k : List ℕ) → (length k ≡ stateSize) × (wellFormed k ≡ true) → Sound k
-  sound-kept k h = sound k (h .0) (h .1)
+  formed-kept : (k : List ℕ) → (length k ≡ stateSize) × (wellFormed k ≡ true) → WellFormed k
+  formed-kept k h = formed k (h .0) (h .1)
 
   -- an opening, admitted or refused
-  sound-opening : (n : ℕ) → (legal n ≡ true) ⊎ (legal n ≡ false) → Sound (openState l n .words)
-  sound-opening n (inl e) = rw (open-yes l n (open-taken l n (S .size) e) .1) (opened-sound n e)
-  sound-opening n (inr e) = rw (open-no l n e) S
+  formed-opening : (n : ℕ) → (legal n ≡ true) ⊎ (legal n ≡ false) → WellFormed (openState l n .words)
+  formed-opening n (inl e) = rw (open-yes l n (open-taken l n (S .size) e) .1) (opened-formed n e)
+  formed-opening n (inr e) = rw (open-no l n e) S
 
-  -- every call leaves a sound state
-  sound-after : (c : Call) → Sound (outcomeOf c l .words)
-  sound-after (opening n) = sound-opening n (which (legal n))
-  sound-after (vertex rec) = sound-kept _ (keeps l (S .size) (well-formed l S) .0 _ _ _)
-  sound-after (firstMessage rec) = sound-kept _ (keeps l (S .size) (well-formed l S) .1 _ _ _)
-  sound-after (timeout r p) = sound-kept _ (keeps l (S .size) (well-formed l S) .2 r p)
-  sound-after (noVote r p) = sound-kept _ (keeps l (S .size) (well-formed l S) .3 r p)
-  sound-after status = S
-  sound-after (askLeaderList k) = S
-  sound-after (askJournalList k) = S
-  sound-after (handLeaderList k) = S
-  sound-after (handJournalList k) = S
+  -- every call leaves a formed state
+  formed-after : (c : Call) → WellFormed (outcomeOf c l .words)
+  formed-after (opening n) = formed-opening n (which (legal n))
+  formed-after (vertex rec) = formed-kept _ (keeps l (S .size) (well-formed l S) .0 _ _ _)
+  formed-after (firstMessage rec) = formed-kept _ (keeps l (S .size) (well-formed l S) .1 _ _ _)
+  formed-after (timeout r p) = formed-kept _ (keeps l (S .size) (well-formed l S) .2 r p)
+  formed-after (noVote r p) = formed-kept _ (keeps l (S .size) (well-formed l S) .3 r p)
+  formed-after status = S
+  formed-after (askLeaderList k) = S
+  formed-after (askJournalList k) = S
+  formed-after (handLeaderList k) = S
+  formed-after (handJournalList k) = S
 
 -- a list of calls
 shortRun : List ℕ → List Call → List ℕ
 shortRun l [] = l
 shortRun l (c ∷ calls) = shortRun (shortOf c l .words) calls
 
--- it ends in the same words, and they are sound
-run-is : (calls : List Call) (l : List ℕ) → Sound l → (run l calls ≡ shortRun l calls) × Sound (run l calls)
+-- it ends in the same words, and they are formed
+run-is : (calls : List Call) (l : List ℕ) → WellFormed l → (run l calls ≡ shortRun l calls) × WellFormed (run l calls)
 unfolding run shortRun
 run-is [] l S = (refl, S)
 run-is (c ∷ calls) l S =
-    let w = run-is calls (outcomeOf c l .words) (sound-after l S c) in
+    let w = run-is calls (outcomeOf c l .words) (formed-after l S c) in
     (w .0 ∙ ap (λ (o : Outcome). shortRun (o .words) calls) (short-is l S c), w .1)
 
 -- every call has the number 0
@@ -238,11 +238,11 @@ shortAdmitted l [] = true
 shortAdmitted l (c ∷ calls) = eqb (shortOf c l .number) 0 && shortAdmitted (shortOf c l .words) calls
 
 -- the same test
-admitted-is : (calls : List Call) (l : List ℕ) → Sound l → allAdmitted l calls ≡ shortAdmitted l calls
+admitted-is : (calls : List Call) (l : List ℕ) → WellFormed l → allAdmitted l calls ≡ shortAdmitted l calls
 unfolding allAdmitted shortAdmitted
 admitted-is [] l S = refl
 admitted-is (c ∷ calls) l S =
-    ap (λ (b : Bool). eqb (outcomeOf c l .number) 0 && b) (admitted-is calls (outcomeOf c l .words) (sound-after l S c))
+    ap (λ (b : Bool). eqb (outcomeOf c l .number) 0 && b) (admitted-is calls (outcomeOf c l .words) (formed-after l S c))
     ∙ ap (λ (o : Outcome). eqb (o .number) 0 && shortAdmitted (o .words) calls) (short-is l S c)
 
 -- what is seen, without asking for the lists
@@ -258,7 +258,7 @@ shortSeen o given = record {
 }
 
 -- it is the same
-seen-is : (o : Outcome) (given : Given) → Sound (o .words) → seen o given ≡ shortSeen o given
+seen-is : (o : Outcome) (given : Given) → WellFormed (o .words) → seen o given ≡ shortSeen o given
 unfolding shortSeen
 seen-is o given S =
     let l = o .words in
@@ -291,10 +291,10 @@ unfolding run shortEnd
 end-is x e =
     let before = drop 1 (x .calls) in
     let start : run zeros (x .calls) ≡ run (opened 4) before = ap (run zeros) e ∙ ap (λ (l : List ℕ). run l before) (opens 4 four) in
-    let w = run-is before (opened 4) (opened-sound 4 four) in
+    let w = run-is before (opened 4) (opened-formed 4 four) in
     let l : List ℕ = run (opened 4) before in
     ap (λ (m : List ℕ). seen (outcomeOf (x .last) m) (givenOf (x .last) m)) start
-    ∙ seen-is (outcomeOf (x .last) l) (givenOf (x .last) l) (sound-after l (w .1) (x .last))
+    ∙ seen-is (outcomeOf (x .last) l) (givenOf (x .last) l) (formed-after l (w .1) (x .last))
     ∙ ap₂ shortSeen (short-is l (w .1) (x .last) ∙ ap (shortOf (x .last)) (w .0)) (given-is l (w .1) (x .last) ∙ ap (shortGiven (x .last)) (w .0))
 
 -- its calls before the last are admitted where the test says so of those after the opening
@@ -305,7 +305,7 @@ calls-admitted x e h =
     let before = drop 1 (x .calls) in
     ap (allAdmitted zeros) e
     ∙ and-both (eq-eqb _ 0 (open-taken zeros 4 zeros-size four))
-    (ap (λ (l : List ℕ). allAdmitted l before) (opens 4 four) ∙ admitted-is before (opened 4) (opened-sound 4 four) ∙ h)
+    (ap (λ (l : List ℕ). allAdmitted l before) (opens 4 four) ∙ admitted-is before (opened 4) (opened-formed 4 four) ∙ h)
 
 -- two functions with the same values over a list agree at each of its members
 same-at : {A : Type 0} (f g : Row → A) (xs : List Row) → map f xs ≡ map g xs → (x : Row) → List·Memᴰ x xs → f x ≡ g x
@@ -345,7 +345,7 @@ ends = refl
 opened-seen : (n : ℕ) → legal n ≡ true
     → seen (openState zeros n) nothing ≡ record { number = 0; id = 0; given = nothing; round = 1; committed = 0; leaders = []; journal = [] }
 opened-seen n e = ap (λ (o : Outcome). seen o nothing) same
-    ∙ seen-is (outcome None zeros (opened n)) nothing (unfold outcome in opened-sound n e) ∙ unfold outcome shortSeen opened in refl
+    ∙ seen-is (outcome None zeros (opened n)) nothing (unfold outcome in opened-formed n e) ∙ unfold outcome shortSeen opened in refl
   where
     same : openState zeros n ≡ outcome None zeros (opened n)
     same = unfold openState in ap (λ (why : Refusal). outcome why zeros (opened n)) (sym (next _ _ (eq-eqb _ _ zeros-size) (next _ _ e done)))

@@ -3,7 +3,7 @@ use mathlib.Core.Path.{_≡_}
 use mathlib.Core.Bool.{Bool, true, false}
 use mathlib.Core.List.{List, [], _∷_, _++_, map}
 use Prim.Native.Nat.{ℕ}
-use Rattle.protocol.specs.Witness.{vertexOf, firstOf, dag, honest}
+use Rattle.protocol.specs.Witness.{vertexOf, firstOf, witnessDag, honest}
 use Rattle.replica.specs.Opening.{opened, openState}
 use Rattle.agreement.specs.Call.{Call, opening, vertex, firstMessage, timeout, noVote, status, askLeaderList, handJournalList, run, allAllowed}
 use Rattle.agreement.specs.Model.{Model, modelOf, dagOf}
@@ -31,7 +31,7 @@ pub record Witness : Type 0 where
   pub premises : Premises 4 (modelFor true) (modelFor false) honest
   -- All records were admitted: the models hold what the protocol's witness does. There the leaders of rounds 1 and 2 are skipped, the latter with a
   -- no-vote certificate; the first DAG commits rounds 3 and 4 by vertices, the second round 3 by first messages alone.
-  pub same-dag : (i : Bool) → dagOf (modelFor i) ≡ dag i
+  pub same-dag : (i : Bool) → dagOf (modelFor i) ≡ witnessDag i
   -- what the claim gives, and that it is not about empty lists
   pub agreed : Agreed (run start (callsOf true)) (run start (callsOf false)) (modelFor true) (modelFor false)
   pub leaders-first : leadersIn (run start (callsOf true)) ≡ 50 ∷ 67 ∷ []

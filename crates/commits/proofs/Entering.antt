@@ -67,7 +67,7 @@ module _ (n : ℕ) (l : List ℕ) (S : Standing l) (R : Room l) (e : n ≡ membe
   wanted-range : (y : ℕ) → wanted y ≡ true → (16 ≤ y) × (y < 528) × (y < 16 * (r + 1))
   unfolding wantedIn
   wanted-range y h =
-      let d = history-held n (vertices l) (rw e (S .members)) (rw e (S .formed)) r (leader n r) y there (and-right (not (orderedId l y)) _ h) in
+      let d = history-held n (vertices l) (rw e (S .members)) (rw e (S .valid)) r (leader n r) y there (and-right (not (orderedId l y)) _ h) in
       (omega (arith, d .low), d .limit, omega (arith, d .high))
 
   record Entering (y : ℕ) : Type 0 where
@@ -156,7 +156,7 @@ module _ (n : ℕ) (l : List ℕ) (S : Standing l) (R : Room l) (e : n ≡ membe
   mask-of : (y : ℕ) → 16 ≤ y → y < 528 → has (getD (historyMasks n (vertices l) r (leader n r)) (idRound y - 1) 0) (idMember y)
       ≡ history n (vertices l) r (leader n r) y
   mask-of y low high =
-      history-claim n (vertices l) (rw e (S .members)) (rw e (S .formed)) r (leader n r) there (idRound y) (idMember y) (omega arith) (omega arith)
+      history-claim n (vertices l) (rw e (S .members)) (rw e (S .valid)) r (leader n r) there (idRound y) (idMember y) (omega arith) (omega arith)
       (omega arith)
       ∙ ap (history n (vertices l) r (leader n r)) (id-split y)
 

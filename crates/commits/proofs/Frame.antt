@@ -112,7 +112,7 @@ module _ {l m : List ℕ} (A : Alike l m) where
     members = rw (A .members) (S .members);
     low = rw (A .members) (S .low);
     high = rw (A .members) (S .high);
-    formed = rw (A .members, vertices-same) (S .formed);
+    valid = rw (A .members, vertices-same) (S .valid);
     words = λ r p i a b h k. ap (λ (x : List ℕ). getD x i 0) (vertex-same r p) ∙ S .words r p i a b h k ∙ sym (A .cells (cellAt r p + i) (omega arith));
     held-low = λ r a b. rw (A .masks r 0 a b (omega arith), A .members) (S .held-low r a b);
     votes-low = λ r a b. rw (A .masks r 2 a b (omega arith), A .members) (S .votes-low r a b);

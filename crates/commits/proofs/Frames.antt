@@ -73,7 +73,7 @@ standing-kept K l l′ p k f g S =
       members = ap legal n ∙ S .members;
       low = rw n (S .low);
       high = rw n (S .high);
-      formed = rw (n, v) (S .formed);
+      valid = rw (n, v) (S .valid);
       words = λ r q i a b c d. ap (λ (x : Records). getD (x r q) i 0) v ∙ S .words r q i a b c d
           ∙ sym (p .same (cellAt r q + i) (g (cellAt r q + i) (omega arith)));
       held-low = λ r a b. rw (n, p .same (heldAt r) (f r 0 a b (omega arith))) (S .held-low r a b);

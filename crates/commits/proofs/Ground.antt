@@ -1,4 +1,4 @@
--- A sound state is one that commits can stand on, with room in its journal. Assumes nothing.
+-- A formed state is one that commits can stand on, with room in its journal. Assumes nothing.
 use mathlib.Core.Path.{_≡_, refl, sym, _∙_}
 use mathlib.Core.Bool.{Bool, true, false}
 use mathlib.Core.Logic.{_⊎_, inl, inr, ⊎-elim}
@@ -14,18 +14,18 @@ use Rattle.record.proofs.Turn.{round-range}
 use Rattle.protocol.specs.Journal.{idLimit, among}
 use Rattle.protocol.proofs.Lists.{once-length}
 use Rattle.replica.specs.State.{journalList, orderedId}
-use Rattle.replica.proofs.Sound.{Sound, journal-length, ordered-limit}
+use Rattle.replica.proofs.Formed.{WellFormed, journal-length, ordered-limit}
 use Rattle.replica.proofs.Dags.{dag-well-formed, vertex-words}
 use Rattle.commits.specs.Standing.{Standing, Room}
 
--- every sound state stands
-pub standing : (l : List ℕ) → Sound l → Standing l
+-- every formed state stands
+pub standing : (l : List ℕ) → WellFormed l → Standing l
 standing l S = record {
   size = S .size;
   members = S .front .members;
   low = S .front .low;
   high = S .front .high;
-  formed = dag-well-formed l S;
+  valid = dag-well-formed l S;
   words = vertex-words l S;
   held-low = S .masks .held-low;
   votes-low = S .masks .votes-low;
@@ -33,7 +33,7 @@ standing l S = record {
 }
 
 -- the journal's entries are distinct ordered ids
-pub room : (l : List ℕ) → Sound l → Room l
+pub room : (l : List ℕ) → WellFormed l → Room l
 room l S =
     omega (
       arith,

@@ -21,7 +21,7 @@ use Rattle.protocol.specs.Dag.{Records, held}
 use Rattle.protocol.specs.Paths.{history}
 use Rattle.protocol.specs.Chain.{leaderId}
 use Rattle.protocol.specs.Journal.{idLimit, among, fresh, extend}
-use Rattle.protocol.specs.Premises.{WellFormed}
+use Rattle.protocol.specs.Premises.{ValidVertices}
 use Rattle.protocol.proofs.Lists.{or-false, or-assoc, among-none, among-append, among-one, among-select, once, once-select}
 use Rattle.protocol.proofs.History.{Named, named-up, history-held}
 use Rattle.protocol.proofs.Chain.{chain-held}
@@ -29,7 +29,7 @@ use Rattle.protocol.proofs.Laws.{chain-length}
 use Rattle.replica.specs.Layout.{stateSize, orderedAt}
 use Rattle.replica.specs.State.{memberCount, committedRound, leaderCount, journalCount, orderedMask, leaderWord, journalWord, leaderList, journalList}
 use Rattle.replica.specs.State.{vertices, firsts, orderedId}
-use Rattle.replica.proofs.Sound.{Sound, leader-length, journal-length, leaders-few}
+use Rattle.replica.proofs.Formed.{WellFormed, leader-length, journal-length, leaders-few}
 use Rattle.replica.proofs.Dags.{round-ok, dag-well-formed}
 use Rattle.replica.proofs.Keeping.{Keeps, keeps-refl, keeps-trans, keeps-less, keeps-set, leader-list-kept, journal-list-kept, ordered-id-kept}
 use Rattle.commits.specs.Commit.{appendLeader, appendLeaders, enter, enterAll, orderLeader, orderLeaders, taken, commit}
@@ -293,7 +293,7 @@ entered-names : (l xs l′ : List ℕ) → Names l → Entered l xs l′ → Nam
 entered-names l xs l′ N E y =
     ap (λ (j : List ℕ). among j y) (E .list) ∙ among-append (journalList l) xs y ∙ ap (λ (b : Bool). b || among xs y) (N y) ∙ sym (E .ordered y)
 
-module _ (n : ℕ) (v : Records) (g : legal n ≡ true) (W : WellFormed n v) where
+module _ (n : ℕ) (v : Records) (g : legal n ≡ true) (W : ValidVertices n v) where
   -- one leader
   module _ (l : List ℕ) (r : ℕ) (e : memberCount l ≡ n) (size : length l ≡ stateSize) (R : Room l) (h : held v r (leader n r) ≡ true) where
     -- what is entered
@@ -362,7 +362,8 @@ pub record Committed (l : List ℕ) (q : ℕ) (l′ : List ℕ) : Type 0 where
 abbrev OffLeading : ℕ → Type 0
 OffLeading j = (j ≡ 2 → ⊥) × OffLeaders j
 
-module _ (l : List ℕ) (S : Sound l) (q : ℕ) (above : committedRound l < q) (high : q ≤ 31) (h : held (vertices l) q (leader (memberCount l) q) ≡ true) where
+module _ (l : List ℕ) (S : WellFormed l) (q : ℕ) (above : committedRound l < q) (high : q ≤ 31)
+    (h : held (vertices l) q (leader (memberCount l) q) ≡ true) where
   -- the leader list has at most one entry a round
   pub leaders-fit : leaderCount l + length (taken l q) ≤ q
   leaders-fit =
@@ -528,7 +529,7 @@ pub standing-enter-all : (l ys : List ℕ) → Standing l → Room l → once ys
     → ((y : ℕ) → among ys y ≡ true → (1 ≤ idRound y) × (idRound y ≤ 32) × (orderedId l y ≡ false)) → Standing (enterAll l ys) × Room (enterAll l ys)
 standing-enter-all l ys T R p f = let E = enter-all l ys (T .size) R p f in (entered-standing l ys (enterAll l ys) E T, E .room)
 
-module _ (n : ℕ) (v : Records) (g : legal n ≡ true) (W : WellFormed n v) where
+module _ (n : ℕ) (v : Records) (g : legal n ≡ true) (W : ValidVertices n v) where
   -- by a leader's history
   pub standing-order : (l : List ℕ) (r : ℕ) → memberCount l ≡ n → Standing l → Room l → held v r (leader n r) ≡ true
       → Standing (orderLeader v l r) × Room (orderLeader v l r) × (memberCount (orderLeader v l r) ≡ n)

@@ -81,7 +81,7 @@ cell-known l S r p at low high few e = rw e (record {
   weak-count = count-word;
   weak = λ i h.
       let k : i < weakCountOf (vertices l r p) = omega (arith, count-word) in
-      let a = S .formed .admitted r p (weak-present (vertices l r p) i k) in
+      let a = S .valid .admitted r p (weak-present (vertices l r p) i k) in
       let five : i < 5 = omega (arith, a .weak-few, S .high) in
       let word = sym (S .words r p (5 + i) low high few (omega arith)) in
       record {

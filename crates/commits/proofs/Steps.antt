@@ -104,7 +104,13 @@ pub record Appending (n : ℕ) (l₀ : List ℕ) (taken r : ℕ) (l : List ℕ) 
 pub appending-start : (n : ℕ) (l : List ℕ) (taken : ℕ) → LeaderRoom l (count 32 (has taken)) → n ≡ memberCount l → has taken 0 ≡ false
     → Appending n l taken 1 l
 appending-start n l taken w m e =
-    record { size = w .size; members = m; few = omega (arith, w .room); is = append-none l ∙ ap (appendLeaders l) (sym (select-out 0 (has taken) e ∙ select-zero (has taken))) }
+    record {
+      size = w .size;
+      members = m;
+      few = omega (arith, w .room);
+      is = append-none l
+          ∙ ap (appendLeaders l) (sym (select-out 0 (has taken) e ∙ select-zero (has taken)));
+    }
 
 pub appending-in : (n : ℕ) (l₀ : List ℕ) (taken r : ℕ) (l l′ : List ℕ) → Appending n l₀ taken r l → has taken r ≡ true → l′ ≡ appendLeader l r
     → Appending n l₀ taken (r + 1) l′

@@ -15,7 +15,7 @@ use Rattle.record.proofs.Masks.{leader-lt, has-one, has-add-same, has-add-other
 use Rattle.protocol.specs.Dag.{Records, held}
 use Rattle.protocol.specs.Paths.{path, linked}
 use Rattle.protocol.specs.Chain.{walk, chain}
-use Rattle.protocol.specs.Premises.{WellFormed}
+use Rattle.protocol.specs.Premises.{ValidVertices}
 use Rattle.protocol.specs.Masks.{parents}
 use Rattle.protocol.proofs.Paths.{path-held}
 use Rattle.protocol.proofs.Frontier.{path-start, parents-claim}
@@ -62,7 +62,7 @@ pub record Walked (n : ℕ) (v : Records) (low q t taken reached : ℕ) : Type 0
   pub rest : chain n v low q ≡ walk n v low stand t ++ select 32 (has taken)
   pub none : (r : ℕ) → r ≤ t → has taken r ≡ false
 
-module _ (n : ℕ) (pos : 0 < n) (v : Records) (W : WellFormed n v) (low q : ℕ) (high : q ≤ 31) where
+module _ (n : ℕ) (pos : 0 < n) (v : Records) (W : ValidVertices n v) (low q : ℕ) (high : q ≤ 31) where
   -- the round stood on, and one leader reached in it
   here : (r : ℕ) → 0 < r → held v r (leader n r) ≡ true → (t : ℕ) → suc t ≡ r → (p : ℕ) → p < n
       → has (2 ^ leader n r) p ≡ path n v r (leader n r) (suc t) p
@@ -168,5 +168,5 @@ walk-known l n low q S e above high there = record {
     pos : 0 < n
     pos = omega (arith, S .low)
 
-    W : WellFormed n (vertices l)
-    W = rw e (S .formed)
+    W : ValidVertices n (vertices l)
+    W = rw e (S .valid)

@@ -8,7 +8,7 @@ use Rattle.record.specs.Below.{count}
 use Rattle.record.specs.Members.{legal, leader, has, idOf, idMember}
 use Rattle.protocol.specs.Dag.{held}
 use Rattle.protocol.specs.Journal.{idLimit}
-use Rattle.protocol.specs.Premises.{WellFormed}
+use Rattle.protocol.specs.Premises.{ValidVertices}
 use Rattle.replica.specs.Layout.{stateSize, leadersSize, cellAt}
 use Rattle.replica.specs.State.{memberCount, committedRound, leaderCount, journalCount, heldMask, heardMask, votesMask, vertices, orderedId}
 use Rattle.commits.specs.Commit.{enter}
@@ -19,7 +19,7 @@ pub record Standing (l : List ℕ) : Type 0 where
   pub low : 4 ≤ memberCount l
   pub high : memberCount l ≤ 16
   -- the vertices are well formed, and their words are those of the cells
-  pub formed : WellFormed (memberCount l) (vertices l)
+  pub valid : ValidVertices (memberCount l) (vertices l)
   pub words : (r p i : ℕ) → 1 ≤ r → r ≤ 32 → p < 16 → i < 10 → getD (vertices l r p) i 0 ≡ getD l (cellAt r p + i) 0
   pub held-low : (r : ℕ) → 1 ≤ r → r ≤ 32 → heldMask l r < 2 ^ memberCount l
   pub votes-low : (r : ℕ) → 1 ≤ r → r ≤ 32 → votesMask l r < 2 ^ memberCount l

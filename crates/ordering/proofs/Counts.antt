@@ -13,13 +13,13 @@ use Rattle.record.proofs.Below.{least-sat}
 use Rattle.protocol.proofs.Journal.{extend-prefix}
 use Rattle.replica.specs.State.{memberCount, leaderCount, journalCount, journalList, vertices}
 use Rattle.replica.specs.Outcome.{admitted}
-use Rattle.replica.proofs.Sound.{Sound, journal-length}
+use Rattle.replica.proofs.Formed.{WellFormed, journal-length}
 use Rattle.commits.specs.Commit.{taken, commit, committable, lowest, commitUpTo, commitAll}
 use Rattle.commits.proofs.Growing.{commit-leader-count, commit-journal-length}
-use Rattle.ordering.proofs.Kept.{sound-commit, committable-round}
+use Rattle.ordering.proofs.Kept.{formed-commit, committable-round}
 
 -- over one commit
-one : (l : List ℕ) → Sound l → lowest l < 32 → (leaderCount l ≤ leaderCount (commit l (lowest l))) × (journalCount l ≤ journalCount (commit l (lowest l)))
+one : (l : List ℕ) → WellFormed l → lowest l < 32 → (leaderCount l ≤ leaderCount (commit l (lowest l))) × (journalCount l ≤ journalCount (commit l (lowest l)))
 one l S h =
     let w = committable-round l (lowest l) (least-sat 32 (committable l) h) in
     let j = commit-journal-length l S (lowest l) (w .0) (w .1) (w .3) in
@@ -29,19 +29,19 @@ one l S h =
     )
 
 -- over all of them
-pub commits-grow : (k : ℕ) (l : List ℕ) → Sound l → (leaderCount l ≤ leaderCount (commitUpTo l k)) × (journalCount l ≤ journalCount (commitUpTo l k))
+pub commits-grow : (k : ℕ) (l : List ℕ) → WellFormed l → (leaderCount l ≤ leaderCount (commitUpTo l k)) × (journalCount l ≤ journalCount (commitUpTo l k))
 unfolding commitUpTo
 commits-grow zero l S = (omega arith, omega arith)
 commits-grow (suc k) l S = go (which (ltb (lowest l) 32)) (commits-grow k (commit l (lowest l)))
   where
     go : (ltb (lowest l) 32 ≡ true) ⊎ (ltb (lowest l) 32 ≡ false)
-        → (Sound (commit l (lowest l)) → (leaderCount (commit l (lowest l)) ≤ leaderCount (commitUpTo (commit l (lowest l)) k))
+        → (WellFormed (commit l (lowest l)) → (leaderCount (commit l (lowest l)) ≤ leaderCount (commitUpTo (commit l (lowest l)) k))
         × (journalCount (commit l (lowest l)) ≤ journalCount (commitUpTo (commit l (lowest l)) k)))
         → (leaderCount l ≤ leaderCount (commitUpTo l (suc k))) × (journalCount l ≤ journalCount (commitUpTo l (suc k)))
     go (inl e) ih =
         let w = committable-round l (lowest l) (least-sat 32 (committable l) (ltb-true _ _ e)) in
         let a = one l S (ltb-true _ _ e) in
-        let b = ih (sound-commit l S (lowest l) (w .0) (w .1) (w .3)) in
+        let b = ih (formed-commit l S (lowest l) (w .0) (w .1) (w .3)) in
         rw e (omega arith, omega arith)
     go (inr e) ih = rw e (omega arith, omega arith)
 
@@ -63,5 +63,5 @@ pub record Settled (l after : List ℕ) : Type 0 where
   pub leaders : leaderCount l ≤ leaderCount after
   pub journal : journalCount l ≤ journalCount after
 
-pub settled : (l after : List ℕ) → Sound l → after ≡ commitAll l → Settled l after
+pub settled : (l after : List ℕ) → WellFormed l → after ≡ commitAll l → Settled l after
 settled l after S e = let g = commits-grow 31 l S in rw e (record { leaders = g .0; journal = g .1 })

@@ -1,4 +1,4 @@
--- Commits keep a state sound, and so does every call. Assumes nothing.
+-- Commits keep a state formed, and so does every call. Assumes nothing.
 use mathlib.Core.Path.{_≡_, refl, sym, ap, ap₂, _∙_}
 use mathlib.Core.Bool.{Bool, true, false, _&&_, _||_}
 use mathlib.Core.Logic.{_⊎_, inl, inr, ⊎-elim}
@@ -29,7 +29,7 @@ use Rattle.replica.specs.State.{memberCount, committedRound, heldMask, orderedM
 use Rattle.replica.specs.State.{heldId, orderedId}
 use Rattle.replica.specs.WellFormed.{wellFormed}
 use Rattle.replica.specs.Outcome.{outcome}
-use Rattle.replica.proofs.Sound.{Sound, Leaders, Journal, Led, led-append, led-more, sound, well-formed}
+use Rattle.replica.proofs.Formed.{WellFormed, Leaders, Journal, Led, led-append, led-more, formed, well-formed}
 use Rattle.replica.proofs.Dags.{round-ok, held-id, in-mask}
 use Rattle.replica.proofs.Keeping.{Keeps, front-kept, masks-kept, cells-kept, held-kept, held-id-kept}
 use Rattle.commits.specs.Commit.{taken, commit, committable, lowest, commitUpTo, commitAll, raiseRound}
@@ -40,7 +40,7 @@ use Rattle.commits.proofs.Ground.{standing, room-limit}
 use Rattle.commits.proofs.Frames.{OffLists, off-front, off-zeros, off-mask, off-cells}
 use Rattle.commits.proofs.Growing.{Committed, grown, leaders-fit}
 use Rattle.ordering.proofs.Turns.{record-passed, parents-passed, note-passed}
-use Rattle.ordering.proofs.Marks.{sound-raise, sound-put, sound-hear, sound-timeout, sound-no-vote}
+use Rattle.ordering.proofs.Marks.{formed-raise, formed-put, formed-hear, formed-timeout, formed-no-vote}
 
 -- ---- the leaders taken
 
@@ -65,7 +65,8 @@ led-rising n h pos few low high q (r ∷ rs) e k f =
 
 -- ---- a commit
 
-module _ (l : List ℕ) (S : Sound l) (q : ℕ) (above : committedRound l < q) (high : q ≤ 31) (h : held (vertices l) q (leader (memberCount l) q) ≡ true) where
+module _ (l : List ℕ) (S : WellFormed l) (q : ℕ) (above : committedRound l < q) (high : q ≤ 31)
+    (h : held (vertices l) q (leader (memberCount l) q) ≡ true) where
   C : Committed l q (commit l q)
   C = grown l S q above high h
 
@@ -96,8 +97,8 @@ module _ (l : List ℕ) (S : Sound l) (q : ℕ) (above : committedRound l < q) (
           held-id l (S .size) (leaderId (memberCount l) r)
           ∙ ap₂ (λ (x y : ℕ). held (vertices l) x y) (id-round r (leader (memberCount l) r) a) (id-member r (leader (memberCount l) r) a) ∙ e
 
-  commit-leaders-sound : Leaders (commit l q)
-  commit-leaders-sound = record {
+  commit-leaders-formed : Leaders (commit l q)
+  commit-leaders-formed = record {
     committed-high = rw (C .committed) high;
     few = rw (C .leader-count) (omega (arith, leaders-fit l S q above high h));
     led = rw (members, C .committed, C .leaders) (led-more (memberCount l) (heldId l) (heldId (commit l q)) 0 q _ (λ y e. held-same y ∙ e)
@@ -105,8 +106,8 @@ module _ (l : List ℕ) (S : Sound l) (q : ℕ) (above : committedRound l < q) (
     rest = λ i a b. C .leader-rest i a b ∙ S .leaders .rest i (omega (arith, C .leader-count)) b;
   }
 
-  commit-journal-sound : Journal (commit l q)
-  commit-journal-sound = record {
+  commit-journal-formed : Journal (commit l q)
+  commit-journal-formed = record {
     ordered-low = λ r a b. rw members (C .ordered-low r a b);
     ordered-held = now-held;
     few = omega (arith, C .room, room-limit (commit l q));
@@ -131,20 +132,20 @@ module _ (l : List ℕ) (S : Sound l) (q : ℕ) (above : committedRound l < q) (
               (λ d. rw (id-round r p k, id-member r p k) at (in-mask l (S .size) (idRound (idOf r p)) (idMember (idOf r p)) (C .named (idOf r p) d .there) .2))
               (or-cases (orderedId l (idOf r p)) (among (C .ids) (idOf r p)) (sym (C .ordered (idOf r p)) ∙ t))
 
-  -- A commit of a round whose leader's vertex is held keeps the state sound.
-  pub sound-commit : Sound (commit l q)
-  sound-commit = record {
+  -- A commit of a round whose leader's vertex is held keeps the state formed.
+  pub formed-commit : WellFormed (commit l q)
+  formed-commit = record {
     size = F .size ∙ S .size;
     front = front-kept OffLists l (commit l q) F off-front off-zeros (S .front);
     masks = masks-kept OffLists l (commit l q) F (off-front 0 (omega arith)) off-mask (S .masks);
     cells = cells-kept OffLists l (commit l q) F held-off off-cells (off-front 0 (omega arith)) (S .cells);
-    leaders = commit-leaders-sound;
-    journal = commit-journal-sound;
+    leaders = commit-leaders-formed;
+    journal = commit-journal-formed;
   }
 
   -- so commits can stand on it again
   pub standing-commit : Standing (commit l q) × Room (commit l q)
-  standing-commit = (standing (commit l q) sound-commit, C .room)
+  standing-commit = (standing (commit l q) formed-commit, C .room)
 
 -- ---- all commits
 
@@ -157,52 +158,53 @@ committable-round l q e =
     let c : committed (memberCount l) (dag l) q ≡ true = and-right (leb q 31) _ t in
     (ltb-true _ _ (and-left _ _ e), leb-true _ _ (and-left _ _ t), c, committed-held (memberCount l) (dag l) q c)
 
--- All commits that follow keep the state sound.
-pub sound-commits : (k : ℕ) (l : List ℕ) → Sound l → Sound (commitUpTo l k)
+-- All commits that follow keep the state formed.
+pub formed-commits : (k : ℕ) (l : List ℕ) → WellFormed l → WellFormed (commitUpTo l k)
 unfolding commitUpTo
-sound-commits zero l S = S
-sound-commits (suc k) l S = go (which (ltb (lowest l) 32)) (sound-commits k (commit l (lowest l)))
+formed-commits zero l S = S
+formed-commits (suc k) l S = go (which (ltb (lowest l) 32)) (formed-commits k (commit l (lowest l)))
   where
     go : (ltb (lowest l) 32 ≡ true) ⊎ (ltb (lowest l) 32 ≡ false)
-        → (Sound (commit l (lowest l)) → Sound (commitUpTo (commit l (lowest l)) k)) → Sound (commitUpTo l (suc k))
+        → (WellFormed (commit l (lowest l)) → WellFormed (commitUpTo (commit l (lowest l)) k)) → WellFormed (commitUpTo l (suc k))
     go (inl e) ih =
         let w = committable-round l (lowest l) (least-sat 32 (committable l) (ltb-true _ _ e)) in
-        rw e (ih (sound-commit l S (lowest l) (w .0) (w .1) (w .3)))
+        rw e (ih (formed-commit l S (lowest l) (w .0) (w .1) (w .3)))
     go (inr e) ih = rw e S
 
 -- ---- the calls
 
--- a call whose words would be sound where it is admitted
-leaves : (why : Refusal) (l after : List ℕ) → Sound l → (numberOf why ≡ 0 → Sound after) → LeavesWellFormed (outcome why l after)
+-- a call whose words would be formed where it is admitted
+leaves : (why : Refusal) (l after : List ℕ) → WellFormed l → (numberOf why ≡ 0 → WellFormed after) → LeavesWellFormed (outcome why l after)
 unfolding outcome
 leaves why l after S f = go (which (eqb (numberOf why) 0))
   where
-    good : (l : List ℕ) → Sound l → (length l ≡ stateSize) × (wellFormed l ≡ true)
+    good : (l : List ℕ) → WellFormed l → (length l ≡ stateSize) × (wellFormed l ≡ true)
     good l S = (S .size, well-formed l S)
 
     go : (eqb (numberOf why) 0 ≡ true) ⊎ (eqb (numberOf why) 0 ≡ false) → LeavesWellFormed (outcome why l after)
     go (inl e) = rw e (good after (f (eqb-true _ _ e)))
     go (inr e) = rw e (good l S)
 
-module _ (l : List ℕ) (S : Sound l) where
+module _ (l : List ℕ) (S : WellFormed l) where
   -- after an admitted vertex
-  pub sound-vertex : (r p : ℕ) (body : List ℕ) → numberOf (firstNo (vertexQuestions l r p body)) ≡ 0 → Sound (commitAll (raiseRound (putVertex l r p body)))
-  sound-vertex r p body e =
+  pub formed-vertex : (r p : ℕ) (body : List ℕ) → numberOf (firstNo (vertexQuestions l r p body)) ≡ 0
+      → WellFormed (commitAll (raiseRound (putVertex l r p body)))
+  formed-vertex r p body e =
       let w = record-passed l r p body (placeQuestions l r p body) e in
-      sound-commits 31 (raiseRound (putVertex l r p body))
-      (sound-raise (putVertex l r p body) (sound-put l S r p body (w .2) (parents-passed l r p body (w .3))))
+      formed-commits 31 (raiseRound (putVertex l r p body))
+      (formed-raise (putVertex l r p body) (formed-put l S r p body (w .2) (parents-passed l r p body (w .3))))
 
   -- after an admitted first message
-  pub sound-first : (r p : ℕ) (body : List ℕ) → numberOf (firstNo (firstQuestions l r p body)) ≡ 0 → Sound (commitAll (hear l r p body))
-  sound-first r p body e = sound-commits 31 (hear l r p body) (sound-hear l S r p body (record-passed l r p body _ e .1))
+  pub formed-first : (r p : ℕ) (body : List ℕ) → numberOf (firstNo (firstQuestions l r p body)) ≡ 0 → WellFormed (commitAll (hear l r p body))
+  formed-first r p body e = formed-commits 31 (hear l r p body) (formed-hear l S r p body (record-passed l r p body _ e .1))
 
 -- Every call keeps a well-formed state well formed.
 pub keeps : KeepsWellFormed
 unfolding takeBody takeFirstBody takeTimeout takeNoVote
 keeps l size e =
-    let S = sound l size e in (
-      λ r p body. leaves _ l _ S (sound-vertex l S r p body),
-      λ r p body. leaves _ l _ S (sound-first l S r p body),
-      λ r p. leaves _ l _ S (λ d. let w = note-passed l r p (timeoutsMask l r) d in sound-raise _ (sound-timeout l S r p (w .1) (w .2) (w .3))),
-      λ r p. leaves _ l _ S (λ d. let w = note-passed l r p (noVotesMask l r) d in sound-no-vote l S r p (w .1) (w .2) (w .3)),
+    let S = formed l size e in (
+      λ r p body. leaves _ l _ S (formed-vertex l S r p body),
+      λ r p body. leaves _ l _ S (formed-first l S r p body),
+      λ r p. leaves _ l _ S (λ d. let w = note-passed l r p (timeoutsMask l r) d in formed-raise _ (formed-timeout l S r p (w .1) (w .2) (w .3))),
+      λ r p. leaves _ l _ S (λ d. let w = note-passed l r p (noVotesMask l r) d in formed-no-vote l S r p (w .1) (w .2) (w .3)),
     )

@@ -1,4 +1,4 @@
--- What an admitted call writes first keeps a state sound: a higher round, a member in a mask, a vertex in its cell. Assumes nothing.
+-- What an admitted call writes first keeps a state formed: a higher round, a member in a mask, a vertex in its cell. Assumes nothing.
 use mathlib.Core.Path.{_≡_, refl, sym, ap, ap₂, _∙_}
 use mathlib.Core.Bool.{true, false}
 use mathlib.Core.Logic.{_⊎_, inl, inr, ⊎-elim}
@@ -20,7 +20,7 @@ use Rattle.protocol.specs.Dag.{votes}
 use Rattle.replica.specs.Layout.{masksAt, heldAt, heardAt, votesAt, timeoutsAt, noVotesAt, cellAt}
 use Rattle.replica.specs.State.{memberCount, currentRound, heldMask, heardMask, votesMask, cell, heldId}
 use Rattle.replica.specs.Parents.{parentsHeld}
-use Rattle.replica.proofs.Sound.{Masks, Cells, Sound}
+use Rattle.replica.proofs.Formed.{Masks, Cells, WellFormed}
 use Rattle.replica.proofs.Keeping.{Keeps, keeps-set, keeps-part, parents-more, front-kept, masks-kept, cells-kept, held-kept, held-id-kept}
 use Rattle.replica.proofs.Keeping.{leaders-kept, journal-kept}
 use Rattle.commits.specs.Commit.{passable, highestPassable, raiseRound}
@@ -40,8 +40,8 @@ highest-high l (suc k) = go (which (passable l (suc k))) (highest-high l k)
     go (inr e) ih = rw e (omega arith)
 
 -- any round from 1 to 33
-pub sound-round : (l : List ℕ) (x : ℕ) → 1 ≤ x → x ≤ 33 → Sound l → Sound (set l 1 x)
-sound-round l x a b S = record {
+pub formed-round : (l : List ℕ) (x : ℕ) → 1 ≤ x → x ≤ 33 → WellFormed l → WellFormed (set l 1 x)
+formed-round l x a b S = record {
   size = p .size ∙ S .size;
   front = record {
     members = ap legal n ∙ S .front .members;
@@ -77,13 +77,13 @@ sound-round l x a b S = record {
     held : (r : ℕ) → 1 ≤ r → r ≤ 32 → K (heldAt r)
     held r c d e = omega arith
 
--- The round rule keeps the state sound.
-pub sound-raise : (l : List ℕ) → Sound l → Sound (raiseRound l)
+-- The round rule keeps the state formed.
+pub formed-raise : (l : List ℕ) → WellFormed l → WellFormed (raiseRound l)
 unfolding raiseRound
-sound-raise l S = go (which (ltb (currentRound l) (1 + highestPassable l 32)))
+formed-raise l S = go (which (ltb (currentRound l) (1 + highestPassable l 32)))
   where
-    go : (ltb (currentRound l) (1 + highestPassable l 32) ≡ true) ⊎ (ltb (currentRound l) (1 + highestPassable l 32) ≡ false) → Sound (raiseRound l)
-    go (inl e) = rw e (sound-round l (1 + highestPassable l 32) (omega arith) (omega (arith, highest-high l 32)) S)
+    go : (ltb (currentRound l) (1 + highestPassable l 32) ≡ true) ⊎ (ltb (currentRound l) (1 + highestPassable l 32) ≡ false) → WellFormed (raiseRound l)
+    go (inl e) = rw e (formed-round l (1 + highestPassable l 32) (omega arith) (omega (arith, highest-high l 32)) S)
     go (inr e) = rw e S
 
 -- ---- a member added to a mask
@@ -131,8 +131,8 @@ abbrev OffNotes : ℕ → Type 0
 OffNotes j = (r i : ℕ) → 1 ≤ r → r ≤ 32 → 1 ≤ i → i < 5 → j ≡ masksAt r + i → ⊥
 
 -- a state in which only those masks differ
-sound-notes : (l l′ : List ℕ) → Keeps OffNotes l l′ → Masks l′ → Sound l → Sound l′
-sound-notes l l′ p M S = record {
+formed-notes : (l l′ : List ℕ) → Keeps OffNotes l l′ → Masks l′ → WellFormed l → WellFormed l′
+formed-notes l l′ p M S = record {
   size = p .size ∙ S .size;
   front = front-kept OffNotes l l′ p (λ j h r i a b c d e. omega arith) (λ j h k r i a b c d e. omega arith) (S .front);
   masks = M;
@@ -146,7 +146,7 @@ sound-notes l l′ p M S = record {
     held : (s : ℕ) → 1 ≤ s → s ≤ 32 → OffNotes (heldAt s)
     held s h k r i a b c d e = omega arith
 
-module _ (l : List ℕ) (S : Sound l) (r p : ℕ) (low : 1 ≤ r) (high : r ≤ 32) (few : p < memberCount l) where
+module _ (l : List ℕ) (S : WellFormed l) (r p : ℕ) (low : 1 ≤ r) (high : r ≤ 32) (few : p < memberCount l) where
   module _ (i : ℕ) (from : 1 ≤ i) (to : i < 5) where
     note-fits : masksAt r + i < length l
     note-fits = omega (arith, S .size)
@@ -176,15 +176,15 @@ module _ (l : List ℕ) (S : Sound l) (r p : ℕ) (low : 1 ≤ r) (high : r ≤ 
     }
 
     -- a member in any of the four masks but votes
-    pub sound-note : (i ≡ 2 → ⊥) → Sound (addMember l (masksAt r + i) p)
-    sound-note h = sound-notes l (addMember l (masksAt r + i) p) note-keeps (note-masks
+    pub formed-note : (i ≡ 2 → ⊥) → WellFormed (addMember l (masksAt r + i) p)
+    formed-note h = formed-notes l (addMember l (masksAt r + i) p) note-keeps (note-masks
         (λ s q a b e. add-more l (masksAt r + i) p note-fits (heardAt s) q (S .masks .votes-heard s q a b
         (rw (add-other l (masksAt r + i) p note-fits (votesAt s) (λ d. h (omega arith))) at e)))
         (add-other l (masksAt r + i) p note-fits (votesAt 1) (λ d. h (omega arith)) ∙ S .masks .votes-first)) S
 
   -- a member that is heard in votes, after round 1
-  pub sound-votes : (r ≡ 1 → ⊥) → has (heardMask l r) p ≡ true → Sound (addMember l (votesAt r) p)
-  sound-votes h e = sound-notes l (addMember l (votesAt r) p) (note-keeps 2 (omega arith) (omega arith)) (note-masks 2 (omega arith) (omega arith)
+  pub formed-votes : (r ≡ 1 → ⊥) → has (heardMask l r) p ≡ true → WellFormed (addMember l (votesAt r) p)
+  formed-votes h e = formed-notes l (addMember l (votesAt r) p) (note-keeps 2 (omega arith) (omega arith)) (note-masks 2 (omega arith) (omega arith)
       (λ s q a b d. add-more l (votesAt r) p fits (heardAt s) q
       (⊎-elim (λ c. S .masks .votes-heard s q a b c) (λ c. same s q a (c .0) (c .1)) (add-new l (votesAt r) p fits (votesAt s) q d)))
       (add-other l (votesAt r) p fits (votesAt 1) (λ d. h (omega arith)) ∙ S .masks .votes-first)) S
@@ -196,24 +196,24 @@ module _ (l : List ℕ) (S : Sound l) (r p : ℕ) (low : 1 ≤ r) (high : r ≤ 
       same s q a c d = ap₂ (λ (x y : ℕ). has (heardMask l x) y) (omega arith) (sym d) ∙ e
 
   -- a timeout
-  pub sound-timeout : Sound (addMember l (timeoutsAt r) p)
-  sound-timeout = sound-note 3 (omega arith) (omega arith) (λ e. omega arith)
+  pub formed-timeout : WellFormed (addMember l (timeoutsAt r) p)
+  formed-timeout = formed-note 3 (omega arith) (omega arith) (λ e. omega arith)
 
   -- a no-vote
-  pub sound-no-vote : Sound (addMember l (noVotesAt r) p)
-  sound-no-vote = sound-note 4 (omega arith) (omega arith) (λ e. omega arith)
+  pub formed-no-vote : WellFormed (addMember l (noVotesAt r) p)
+  formed-no-vote = formed-note 4 (omega arith) (omega arith) (λ e. omega arith)
 
   -- ---- a first message
 
-  heard : Sound (addMember l (heardAt r) p)
-  heard = sound-note 1 (omega arith) (omega arith) (λ e. omega arith)
+  heard : WellFormed (addMember l (heardAt r) p)
+  heard = formed-note 1 (omega arith) (omega arith) (λ e. omega arith)
 
 -- a first message of round 1 has no vote
-pub sound-hear : (l : List ℕ) → Sound l → (r p : ℕ) (body : List ℕ) → Admitted (memberCount l) r p body → Sound (hear l r p body)
+pub formed-hear : (l : List ℕ) → WellFormed l → (r p : ℕ) (body : List ℕ) → Admitted (memberCount l) r p body → WellFormed (hear l r p body)
 unfolding hear
-sound-hear l S r p body A = go (which (votes (memberCount l) (r - 1) body))
+formed-hear l S r p body A = go (which (votes (memberCount l) (r - 1) body))
   where
-    H : Sound (addMember l (heardAt r) p)
+    H : WellFormed (addMember l (heardAt r) p)
     H = heard l S r p (A .round-low) (A .round-high) (A .source-low)
 
     fits : heardAt r < length l
@@ -225,15 +225,15 @@ sound-hear l S r p body A = go (which (votes (memberCount l) (r - 1) body))
     later : votes (memberCount l) (r - 1) body ≡ true → r ≡ 1 → ⊥
     later e d = never (ap (λ (m : ℕ). has m (leader (memberCount l) (r - 1))) (sym (A .strong-first d)) ∙ e) (has-zero (leader (memberCount l) (r - 1)))
 
-    go : (votes (memberCount l) (r - 1) body ≡ true) ⊎ (votes (memberCount l) (r - 1) body ≡ false) → Sound (hear l r p body)
+    go : (votes (memberCount l) (r - 1) body ≡ true) ⊎ (votes (memberCount l) (r - 1) body ≡ false) → WellFormed (hear l r p body)
     go (inl e) =
-        rw e (sound-votes (addMember l (heardAt r) p) H r p (A .round-low) (A .round-high) (rw members (A .source-low)) (later e)
+        rw e (formed-votes (addMember l (heardAt r) p) H r p (A .round-low) (A .round-high) (rw members (A .source-low)) (later e)
         (add-there l (heardAt r) p fits))
     go (inr e) = rw e H
 
 -- ---- a vertex
 
-module _ (l : List ℕ) (S : Sound l) (r p : ℕ) (body : List ℕ) (ok : numberOf (bodyRefusal (memberCount l) r p body) ≡ 0)
+module _ (l : List ℕ) (S : WellFormed l) (r p : ℕ) (body : List ℕ) (ok : numberOf (bodyRefusal (memberCount l) r p body) ≡ 0)
     (there : parentsHeld l r body ≡ true) where
   A : Admitted (memberCount l) r p body
   A = admitted (memberCount l) r p body ok
@@ -391,10 +391,10 @@ module _ (l : List ℕ) (S : Sound l) (r p : ℕ) (body : List ℕ) (ok : number
               put-keeps .same (cellAt s q + i) (other-cell s q d (cellAt s q + i) (omega arith) (omega arith))
               ∙ S .cells .zero-cell s q i a b k m (⊎-elim (λ c. never (put-more s q a b c) h) (λ c. c) (which (has (heldMask l s) q)))
 
-  -- A vertex that no question refuses keeps the state sound.
-  pub sound-put : Sound (putVertex l r p body)
+  -- A vertex that no question refuses keeps the state formed.
+  pub formed-put : WellFormed (putVertex l r p body)
   unfolding OffVertex
-  sound-put = record {
+  formed-put = record {
     size = put-keeps .size ∙ S .size;
     front = front-kept OffVertex l (putVertex l r p body) put-keeps (λ j a. (λ e. omega arith, λ b c. omega arith))
         (λ j a b. (λ e. omega arith, λ c d. omega arith)) (S .front);

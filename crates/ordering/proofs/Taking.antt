@@ -17,7 +17,7 @@ use Rattle.replica.specs.Parents.{parentsHeld}
 use Rattle.replica.specs.WellFormed.{wellFormed}
 use Rattle.replica.specs.Outcome.{Outcome, told, refusedBy, admitted, outcome}
 use Rattle.replica.specs.declared.answer.Answer.{Answer}
-use Rattle.replica.proofs.Sound.{Sound, well-formed}
+use Rattle.replica.proofs.Formed.{WellFormed, well-formed}
 use Rattle.commits.specs.Commit.{raiseRound, commitAll}
 use Rattle.ordering.specs.Calls.{addMember, placeQuestions, vertexQuestions, putVertex, takeBody, takeVertex, firstQuestions, hear}
 use Rattle.ordering.specs.Calls.{takeFirstBody, takeFirstMessage, noteQuestions}
@@ -25,7 +25,7 @@ use Rattle.ordering.proofs.Turns.{outcome-refused, outcome-admitted, re
 use Rattle.ordering.proofs.Heard.{hear-body}
 use Rattle.ordering.proofs.Counts.{same-growth, no-growth}
 use Rattle.ordering.proofs.Writing.{Calm, calm-self, calm-then, raise-calm, put-calm, hear-calm, note-calm}
-use Rattle.ordering.proofs.Marks.{sound-put, sound-raise, sound-hear}
+use Rattle.ordering.proofs.Marks.{formed-put, formed-raise, formed-hear}
 
 -- an answer with a refusal, where the words stay
 told-refused : (l : List ℕ) (a : Answer) (why : Refusal) → a ≡ refusedBy why → told a l ≡ told (refusedBy why) l
@@ -50,14 +50,14 @@ pub record Ready (n : ℕ) (l : List ℕ) : Type 0 where
   pub members : n ≡ memberCount l
   pub some : 0 < n
 
-ready : (n : ℕ) (l : List ℕ) → Sound l → n ≡ memberCount l → Ready n l
+ready : (n : ℕ) (l : List ℕ) → WellFormed l → n ≡ memberCount l → Ready n l
 ready n l S e = record { size = S .size; formed = well-formed l S; members = e; some = omega (arith, S .front .low) }
 
 -- ---- a vertex
 
 -- what each later step may use of a vertex that no question stopped
 pub record VertexTaken (l rec : List ℕ) : Type 0 where
-  pub sound : Sound l
+  pub formed : WellFormed l
   pub admit : Admitted (memberCount l) (roundOf rec) (sourceOf rec) (bodyOf rec)
   pub long : length rec ≡ 12
   pub few : sourceOf rec < 16
@@ -73,7 +73,7 @@ module _ (l rec : List ℕ) (why : Refusal) (e : why ≡ firstNo (vertexQuestion
   vertex-refused h a d = told-refused l a why d ∙ outcome-refused why _ l _ e h
 
   module _ (h : numberOf why ≡ 0) where
-    passed : Sound l × Admitted (memberCount l) (roundOf rec) (sourceOf rec) (bodyOf rec)
+    passed : WellFormed l × Admitted (memberCount l) (roundOf rec) (sourceOf rec) (bodyOf rec)
         × (numberOf (bodyRefusal (memberCount l) (roundOf rec) (sourceOf rec) (bodyOf rec)) ≡ 0)
         × (numberOf (firstNo (placeQuestions l (roundOf rec) (sourceOf rec) (bodyOf rec))) ≡ 0)
     passed = record-passed l (roundOf rec) (sourceOf rec) (bodyOf rec) (placeQuestions l (roundOf rec) (sourceOf rec) (bodyOf rec)) (sym (ap numberOf e) ∙ h)
@@ -87,8 +87,8 @@ module _ (l rec : List ℕ) (why : Refusal) (e : why ≡ firstNo (vertexQuestion
     calm : Calm l (putVertex l (roundOf rec) (sourceOf rec) (bodyOf rec))
     calm = put-calm l (roundOf rec) (sourceOf rec) (bodyOf rec) (passed .0 .size) (passed .1 .round-low) (passed .1 .round-high) few (passed .1 .size)
 
-    put-sound : Sound (putVertex l (roundOf rec) (sourceOf rec) (bodyOf rec))
-    put-sound = sound-put l (passed .0) (roundOf rec) (sourceOf rec) (bodyOf rec) (passed .2) (parents-passed l (roundOf rec) (sourceOf rec)
+    put-formed : WellFormed (putVertex l (roundOf rec) (sourceOf rec) (bodyOf rec))
+    put-formed = formed-put l (passed .0) (roundOf rec) (sourceOf rec) (bodyOf rec) (passed .2) (parents-passed l (roundOf rec) (sourceOf rec)
         (bodyOf rec) (passed .3))
 
     calm-raised : Calm l (raiseRound (putVertex l (roundOf rec) (sourceOf rec) (bodyOf rec)))
@@ -101,13 +101,13 @@ module _ (l rec : List ℕ) (why : Refusal) (e : why ≡ firstNo (vertexQuestion
 
     pub vertex-taken : VertexTaken l rec
     vertex-taken = record {
-      sound = passed .0;
+      formed = passed .0;
       admit = passed .1;
       long = omega (arith, passed .1 .size, length-drop 2 rec);
       few = few;
       part = rw whole (passed .1 .size);
-      put = λ m d. rw (d, whole) (ready _ _ put-sound (calm-count calm));
-      raised = λ m r d f. rw (f, d, whole) (ready _ _ (sound-raise _ put-sound) (calm-count calm-raised));
+      put = λ m d. rw (d, whole) (ready _ _ put-formed (calm-count calm));
+      raised = λ m r d f. rw (f, d, whole) (ready _ _ (formed-raise _ put-formed) (calm-count calm-raised));
       done = λ m r o d f g. g ∙ rw (f, d, whole) (sym done);
     }
 
@@ -115,7 +115,7 @@ module _ (l rec : List ℕ) (why : Refusal) (e : why ≡ firstNo (vertexQuestion
 
 -- what each later step may use of a first message that no question stopped
 pub record FirstTaken (l rec : List ℕ) : Type 0 where
-  pub sound : Sound l
+  pub formed : WellFormed l
   pub admit : Admitted (memberCount l) (roundOf rec) (sourceOf rec) (bodyOf rec)
   pub long : length rec ≡ 12
   pub strong : roundOf rec ≡ 1 → getD rec 2 0 ≡ 0
@@ -129,7 +129,7 @@ module _ (l rec : List ℕ) (why : Refusal) (e : why ≡ firstNo (firstQuestions
   first-refused h a d = told-refused l a why d ∙ outcome-refused why _ l _ e h
 
   module _ (h : numberOf why ≡ 0) where
-    first-passed : Sound l × Admitted (memberCount l) (roundOf rec) (sourceOf rec) (bodyOf rec)
+    first-passed : WellFormed l × Admitted (memberCount l) (roundOf rec) (sourceOf rec) (bodyOf rec)
     first-passed = let w = record-passed l (roundOf rec) (sourceOf rec) (bodyOf rec) _ (sym (ap numberOf e) ∙ h) in (w .0, w .1)
 
     calm-heard : Calm l (hear l (roundOf rec) (sourceOf rec) (bodyOf rec))
@@ -143,12 +143,12 @@ module _ (l rec : List ℕ) (why : Refusal) (e : why ≡ firstNo (firstQuestions
     pub first-taken : FirstTaken l rec
     unfolding strongOf
     first-taken = record {
-      sound = first-passed .0;
+      formed = first-passed .0;
       admit = first-passed .1;
       long = omega (arith, first-passed .1 .size, length-drop 2 rec);
       strong = λ z. sym (getD-drop 2 rec 0 0) ∙ first-passed .1 .strong-first z;
       heard = λ m d. rw (d, hear-body l (roundOf rec) (sourceOf rec) rec)
-          (ready _ _ (sound-hear l (first-passed .0) (roundOf rec) (sourceOf rec) (bodyOf rec) (first-passed .1)) (calm-count calm-heard));
+          (ready _ _ (formed-hear l (first-passed .0) (roundOf rec) (sourceOf rec) (bodyOf rec) (first-passed .1)) (calm-count calm-heard));
       done = λ m o d f. f ∙ rw (d, hear-body l (roundOf rec) (sourceOf rec) rec) first-done;
     }
 
@@ -156,7 +156,7 @@ module _ (l rec : List ℕ) (why : Refusal) (e : why ≡ firstNo (firstQuestions
 
 -- what each later step may use of a note that no question stopped
 pub record NoteTaken (i : ℕ) (after : List ℕ → List ℕ) (l : List ℕ) (r p : ℕ) : Type 0 where
-  pub sound : Sound l
+  pub formed : WellFormed l
   pub low : 1 ≤ r
   pub high : r ≤ 32
   pub few : p < 16
@@ -179,7 +179,7 @@ module _ (i : ℕ) (to : i < 6) (after : List ℕ → List ℕ) (calm : (m : Lis
       let w = note-passed l r p _ (sym (ap numberOf e) ∙ h) in
       let C = note-calm l r i p (w .1) (w .2) to in
       record {
-        sound = w .0;
+        formed = w .0;
         low = w .1;
         high = w .2;
         few = omega (arith, w .3, w .0 .front .high);

@@ -27,7 +27,7 @@ use Rattle.replica.specs.Parents.{missing, parentsHeld}
 use Rattle.replica.specs.Outcome.{told, refusedBy, admitted, outcome}
 use Rattle.replica.specs.Status.{stateQuestions}
 use Rattle.replica.proofs.StatusLaws.{numbered, front-no, front-yes, both-fronts, state-numbered, state-ok}
-use Rattle.replica.proofs.Sound.{Sound, sound}
+use Rattle.replica.proofs.Formed.{WellFormed, formed}
 use Rattle.replica.proofs.Parents.{round-in}
 use Rattle.record.specs.Admitted.{Admitted}
 use Rattle.ordering.specs.Calls.{sameBody, placeQuestions, noteQuestions}
@@ -72,7 +72,7 @@ pub record StateKnown (l rec : List ℕ) (rest : List Question) : Type 0 where
 
 -- and where the record's are
 pub record RecordKnown (l rec : List ℕ) (rest : List Question) : Type 0 where
-  pub sound : Sound l
+  pub formed : WellFormed l
   pub admit : Admitted (memberCount l) (roundOf rec) (sourceOf rec) (bodyOf rec)
   pub long : length rec ≡ 12
   pub whole : take 10 (drop 2 rec) ≡ bodyOf rec
@@ -91,7 +91,7 @@ module _ (l rec : List ℕ) (rest : List Question) (why : Refusal) (e : why ≡ 
       let a = turn.admitted (memberCount l) (roundOf rec) (sourceOf rec) (bodyOf rec) n in
       let w = take-all 10 (drop 2 rec) (omega (arith, a .size)) in
       record {
-        sound = sound l (s .0) (s .1);
+        formed = formed l (s .0) (s .1);
         admit = a;
         long = omega (arith, a .size, length-drop 2 rec);
         whole = w;
@@ -190,7 +190,7 @@ module _ (l : List ℕ) (r p mask : ℕ) (why : Refusal) (e : why ≡ firstNo (s
         let s = state-ok l (sym (ap numberOf e) ∙ state-yes) in
         record {
           size = s .0;
-          high = sound l (s .0) (s .1) .front .high;
+          high = formed l (s .0) (s .1) .front .high;
           below = λ k. round-no (round-below r k);
           above = λ k. round-no (round-above r k);
           signer = λ a b k. round-yes a b Source (stop _ _ (le-ltb p (memberCount l) k));
@@ -213,13 +213,13 @@ outcome-admitted why q l after e h = rw (← e, eq-eqb (numberOf why) 0 h)
 -- of a call with a record, questions 1 to 11 and those after them
 pub record-passed : (l : List ℕ) (r p : ℕ) (body : List ℕ) (rest : List Question)
     → numberOf (firstNo (stateQuestions l ++ (recordQuestions (memberCount l) r p body ++ rest))) ≡ 0
-    → Sound l × Admitted (memberCount l) r p body × (numberOf (bodyRefusal (memberCount l) r p body) ≡ 0) × (numberOf (firstNo rest) ≡ 0)
+    → WellFormed l × Admitted (memberCount l) r p body × (numberOf (bodyRefusal (memberCount l) r p body) ≡ 0) × (numberOf (firstNo rest) ≡ 0)
 unfolding bodyRefusal
 record-passed l r p body rest e =
     let a = both-fronts (stateQuestions l) (recordQuestions (memberCount l) r p body ++ rest) (state-numbered l) e in
     let b = both-fronts (recordQuestions (memberCount l) r p body) rest (record-numbered (memberCount l) r p body) (a .1) in
     let s = state-ok l (a .0) in
-    (sound l (s .0) (s .1), turn.admitted (memberCount l) r p body (b .0), b .0, b .1)
+    (formed l (s .0) (s .1), turn.admitted (memberCount l) r p body (b .0), b .0, b .1)
 
 -- of a vertex: its parents are held
 pub parents-passed : (l : List ℕ) (r p : ℕ) (body : List ℕ) → numberOf (firstNo (placeQuestions l r p body)) ≡ 0 → parentsHeld l r body ≡ true
@@ -229,11 +229,11 @@ parents-passed l r p body e =
     both-yes _ _ _ (eqb-false 14 0 refl) (q13 .1) .0
 
 -- of a note: its round and signer
-pub note-passed : (l : List ℕ) (r p mask : ℕ) → numberOf (firstNo (noteQuestions l r p mask)) ≡ 0 → Sound l × (1 ≤ r) × (r ≤ 32) × (p < memberCount l)
+pub note-passed : (l : List ℕ) (r p mask : ℕ) → numberOf (firstNo (noteQuestions l r p mask)) ≡ 0 → WellFormed l × (1 ≤ r) × (r ≤ 32) × (p < memberCount l)
 note-passed l r p mask e =
     let a = both-fronts (stateQuestions l) _ (state-numbered l) e in
     let s = state-ok l (a .0) in
     let q5 = both-yes _ _ _ (eqb-false 5 0 refl) (a .1) in
     let q6 = both-yes _ _ _ (eqb-false 6 0 refl) (q5 .1) in
     let w = round-range r (q5 .0) in
-    (sound l (s .0) (s .1), w .0, w .1, ltb-true _ _ (q6 .0))
+    (formed l (s .0) (s .1), w .0, w .1, ltb-true _ _ (q6 .0))

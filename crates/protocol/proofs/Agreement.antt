@@ -13,7 +13,7 @@ use Rattle.record.proofs.Booleans.{which}
 use Rattle.protocol.specs.Dag.{Dag, held, committed, last}
 use Rattle.protocol.specs.Chain.{chain, leaderId, leaders}
 use Rattle.protocol.specs.Journal.{extend, journal}
-use Rattle.protocol.specs.Premises.{Premises}
+use Rattle.protocol.specs.Premises.{DagPremises}
 use Rattle.protocol.specs.Claims.{Prefix, Growth, Agreement, Safety}
 use Rattle.protocol.proofs.Paths.{path-held, key}
 use Rattle.protocol.proofs.Commit.{committed-held, last-committed, Within, last-grows}
@@ -21,7 +21,7 @@ use Rattle.protocol.proofs.Lists.{map-append}
 use Rattle.protocol.proofs.Chain.{chain-none, chain-split, chain-same}
 use Rattle.protocol.proofs.Journal.{extend-none, extend-append, extend-prefix, chain-journal}
 
-module _ (n : ℕ) {I : Type 0} (dag : I → Dag) (honest : ℕ → Bool) (P : Premises n dag honest) where
+module _ (n : ℕ) {I : Type 0} (dag : I → Dag) (honest : ℕ → Bool) (P : DagPremises n dag honest) where
   -- what one DAG commits, every DAG with a later leader's vertex holds
   pub committed-there : (i j : I) (c q : ℕ) → zero < c → c ≤ q → committed n (dag i) c ≡ true → held (dag j .vertex) q (leader n q) ≡ true
       → held (dag j .vertex) c (leader n c) ≡ true

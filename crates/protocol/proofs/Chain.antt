@@ -14,7 +14,7 @@ use Rattle.protocol.specs.Dag.{Records, Dag, held}
 use Rattle.protocol.specs.Paths.{linked}
 use Rattle.protocol.specs.Chain.{walk, chain}
 use Rattle.protocol.specs.Journal.{among}
-use Rattle.protocol.specs.Premises.{Premises}
+use Rattle.protocol.specs.Premises.{DagPremises}
 use Rattle.protocol.proofs.Paths.{path-held, path-same}
 use Rattle.protocol.proofs.Lists.{rising, rising-none, rising-more, rising-higher, among-none, among-append, among-one}
 
@@ -136,7 +136,7 @@ module _ (n : ℕ) (v : Records) where
 
 -- ---- over a family
 
-module _ (n : ℕ) {I : Type 0} (dag : I → Dag) (honest : ℕ → Bool) (P : Premises n dag honest) where
+module _ (n : ℕ) {I : Type 0} (dag : I → Dag) (honest : ℕ → Bool) (P : DagPremises n dag honest) where
   -- from a leader's vertex that two DAGs hold they take the same
   pub walk-same : (i j : I) (low r t : ℕ) → held (dag i .vertex) r (leader n r) ≡ true → held (dag j .vertex) r (leader n r) ≡ true
       → walk n (dag i .vertex) low r t ≡ walk n (dag j .vertex) low r t

@@ -15,7 +15,7 @@ use Rattle.record.proofs.Below.{any-intro, any-elim, any-cong}
 use Rattle.record.proofs.Masks.{has-zero, has-or}
 use Rattle.protocol.specs.Dag.{Records, held}
 use Rattle.protocol.specs.Paths.{path}
-use Rattle.protocol.specs.Premises.{WellFormed}
+use Rattle.protocol.specs.Premises.{ValidVertices}
 use Rattle.protocol.specs.Masks.{parents, ParentsClaim}
 use Rattle.protocol.proofs.Lists.{or-false}
 use Rattle.protocol.proofs.Paths.{parent-present, parent-held, path-self, path-edge}
@@ -78,7 +78,7 @@ module _ (n : ℕ) (v : Records) where
           let w = ih (omega arith) d in
           (w .0, w .1, path-edge n v r p x (suc t) (w .0) (omega arith) lx s (w .2), w .3)
 
-  module _ (W : WellFormed n v) where
+  module _ (W : ValidVertices n v) where
     -- a path goes on by an edge
     path-then : (r p t q m : ℕ) → zero < t → q < n → path n v r p (suc t) m ≡ true → has (strongOf (v (suc t) m)) q ≡ true → path n v r p t q ≡ true
     path-then zero p t q m lt lq e s = absurd (not-suc-le-zero (path-le zero p (suc t) m e))

@@ -16,7 +16,7 @@ use Rattle.record.proofs.Masks.{legal-range, has-zero, has-bound}
 use Rattle.protocol.specs.Dag.{Records, held}
 use Rattle.protocol.specs.Paths.{historyUpTo, history}
 use Rattle.protocol.specs.Journal.{idLimit}
-use Rattle.protocol.specs.Premises.{WellFormed}
+use Rattle.protocol.specs.Premises.{ValidVertices}
 use Rattle.protocol.proofs.Paths.{parent-present, weak-present}
 
 -- an id is that of its round and member
@@ -36,7 +36,7 @@ pub record Edges (n : ℕ) (v : Records) : Type 0 where
   pub weak-low : (r p i : ℕ) → i < weakCountOf (v r p) → (1 ≤ idRound (weakOf (v r p) i)) × (idRound (weakOf (v r p) i) < r) × (idMember (weakOf (v r p) i) < n)
 
 -- so in well-formed vertices
-pub edges : (n : ℕ) (v : Records) → legal n ≡ true → WellFormed n v → Edges n v
+pub edges : (n : ℕ) (v : Records) → legal n ≡ true → ValidVertices n v → Edges n v
 edges n v g W = record {
   strong-low = λ r p m e.
       let a = W .admitted r p (parent-present _ m e) in
@@ -150,7 +150,7 @@ pub record Named (n : ℕ) (v : Records) (r y : ℕ) : Type 0 where
 pub named-up : (n : ℕ) (v : Records) (r s y : ℕ) → r ≤ s → Named n v r y → Named n v s y
 named-up n v r s y l N = record { there = N .there; low = N .low; high = omega (arith, N .high); member = N .member; limit = N .limit }
 
-module _ (n : ℕ) (v : Records) (g : legal n ≡ true) (W : WellFormed n v) where
+module _ (n : ℕ) (v : Records) (g : legal n ≡ true) (W : ValidVertices n v) where
   up-to-held : (k r p y : ℕ) → held v r p ≡ true → historyUpTo n v k r p y ≡ true → Named n v r y
   up-to-held zero r p y h e = never e (none-yet n v r p y)
   up-to-held (suc k) r p y h e =

@@ -16,7 +16,7 @@ use Rattle.protocol.specs.Dag.{Records, Dag, held}
 use Rattle.protocol.specs.Paths.{linked, historyUpTo, history}
 use Rattle.protocol.specs.Chain.{walk}
 use Rattle.protocol.specs.Journal.{idLimit, among, fresh, extend, journalOf}
-use Rattle.protocol.specs.Premises.{Premises}
+use Rattle.protocol.specs.Premises.{DagPremises}
 use Rattle.protocol.specs.Claims.{Prefix}
 use Rattle.protocol.proofs.Paths.{path-held, path-same}
 use Rattle.protocol.proofs.Lists.{among-append, among-select, once, once-append, once-select}
@@ -115,7 +115,7 @@ module _ (n : ℕ) (v : Records) where
 
 -- ---- over a family
 
-module _ (n : ℕ) {I : Type 0} (dag : I → Dag) (honest : ℕ → Bool) (P : Premises n dag honest) where
+module _ (n : ℕ) {I : Type 0} (dag : I → Dag) (honest : ℕ → Bool) (P : DagPremises n dag honest) where
   -- a vertex that two DAGs hold has the same history in both
   pub history-same : (i j : I) (k r p y : ℕ) → held (dag i .vertex) r p ≡ true → held (dag j .vertex) r p ≡ true
       → historyUpTo n (dag i .vertex) k r p y ≡ historyUpTo n (dag j .vertex) k r p y

@@ -16,7 +16,7 @@ use Rattle.protocol.specs.Dag.{Records, Dag, held, votes, last}
 use Rattle.protocol.specs.Paths.{path, history}
 use Rattle.protocol.specs.Chain.{walk, chain, leaderId, leaders}
 use Rattle.protocol.specs.Journal.{idLimit, among, fresh, extend, journalOf, journal}
-use Rattle.protocol.specs.Premises.{WellFormed}
+use Rattle.protocol.specs.Premises.{ValidVertices}
 use Rattle.protocol.specs.Masks.{historyMasks}
 use Rattle.protocol.proofs.Commit.{up-to-cong}
 use Rattle.protocol.proofs.Lists.{among-none, rising-among, rising-length, once, once-span}
@@ -49,8 +49,8 @@ module _ (n : ℕ) (v w : Records) (h : (r p : ℕ) → v r p ≡ w r p) where
   pub extend-cong : (j rounds : List ℕ) → extend n v j rounds ≡ extend n w j rounds
   extend-cong j rounds = ap (λ (x : Records). extend n x j rounds) (records-ext v w h)
 
-  pub well-formed-cong : WellFormed n v → WellFormed n w
-  well-formed-cong = subst (λ (x : Records). WellFormed n x) (records-ext v w h)
+  pub well-formed-cong : ValidVertices n v → ValidVertices n w
+  well-formed-cong = subst (λ (x : Records). ValidVertices n x) (records-ext v w h)
 
 -- two DAGs with the same vertices, and the same votes of first messages, have the same lists
 module _ (n : ℕ) (d e : Dag) (same : (r p : ℕ) → d .vertex r p ≡ e .vertex r p)
@@ -80,7 +80,7 @@ module _ (n : ℕ) (v : Records) where
       go (inr c) = never (rw (chain-none n v low q (omega (arith, leb-false low q c))) at e) (among-none r)
 
   -- what a chain adds to a journal is held, of rounds 1 to q
-  pub extend-named : legal n ≡ true → WellFormed n v → (j : List ℕ) (low q y : ℕ) → held v q (leader n q) ≡ true
+  pub extend-named : legal n ≡ true → ValidVertices n v → (j : List ℕ) (low q y : ℕ) → held v q (leader n q) ≡ true
       → among (extend n v j (chain n v low q)) y ≡ true → (among j y ≡ true) ⊎ Named n v q y
   extend-named g W j low q y h e = ⊎-elim (λ d. inl d) (λ d. inr (new (extend-new n v j (chain n v low q) y e d))) (which (among j y))
     where
@@ -94,7 +94,7 @@ module _ (n : ℕ) (v : Records) where
       omega (arith, once-span 16 (16 * suc q) j (omega arith) p (λ y e. let N = h y e in (omega (arith, N .low), omega (arith, N .high))))
 
 -- what is fresh, by the masks of the history
-pub fresh-masks : (n : ℕ) (v : Records) → legal n ≡ true → WellFormed n v → (j : List ℕ) (r : ℕ) → held v r (leader n r) ≡ true
+pub fresh-masks : (n : ℕ) (v : Records) → legal n ≡ true → ValidVertices n v → (j : List ℕ) (r : ℕ) → held v r (leader n r) ≡ true
     → fresh n v j r
     ≡ select idLimit (λ y. not (among j y) && (leb 1 (idRound y) && has (getD (historyMasks n v r (leader n r)) (idRound y - 1) 0) (idMember y)))
 unfolding fresh

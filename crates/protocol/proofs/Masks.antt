@@ -20,7 +20,7 @@ use Rattle.record.proofs.Below.{any-intro, any-elim, any-false}
 use Rattle.record.proofs.Masks.{legal-range, has-zero, has-one, has-or}
 use Rattle.protocol.specs.Dag.{Records, held}
 use Rattle.protocol.specs.Paths.{path, historyUpTo, history}
-use Rattle.protocol.specs.Premises.{WellFormed}
+use Rattle.protocol.specs.Premises.{ValidVertices}
 use Rattle.protocol.specs.Masks.{join, joinWeak, joinParents, joinRound, fill, historyMasks, HistoryClaim, StrongHistoryClaim}
 use Rattle.protocol.proofs.Lists.{or-false, or-assoc}
 use Rattle.protocol.proofs.Paths.{parent-held, path-self, path-edge}
@@ -195,12 +195,12 @@ module _ (n : ℕ) (v : Records) (high : n ≤ 16) (E : Edges n v) where
           go (inr y) = round-keeps k h z u s q (parent-low r x s q d .0) (C r x s q y lr lx e′ d)
 
   -- and nothing that a closed set with the first masks does not have
-  fill-sound : (H : ℕ → ℕ → Bool) → ((r x s q : ℕ) → x < n → H r x ≡ true → parent (v r x) r s q ≡ true → H s q ≡ true)
+  fill-formed : (H : ℕ → ℕ → Bool) → ((r x s q : ℕ) → x < n → H r x ≡ true → parent (v r x) r s q ≡ true → H s q ≡ true)
       → (k : ℕ) (h : List ℕ) → length h ≡ 32 → suc k ≤ 32 → ((s q : ℕ) → 1 ≤ s → marked h s q ≡ true → H s q ≡ true)
       → (s q : ℕ) → 1 ≤ s → marked (fill n v h k) s q ≡ true → H s q ≡ true
   unfolding fill parentsOf
-  fill-sound H closed zero h z u S = S
-  fill-sound H closed (suc k) h z u S = fill-sound H closed k (joinRound v h (suc (suc k)) n) (joinRound-length v h (suc (suc k)) n ∙ z) (omega arith) next
+  fill-formed H closed zero h z u S = S
+  fill-formed H closed (suc k) h z u S = fill-formed H closed k (joinRound v h (suc (suc k)) n) (joinRound-length v h (suc (suc k)) n ∙ z) (omega arith) next
     where
       next : (s q : ℕ) → 1 ≤ s → marked (joinRound v h (suc (suc k)) n) s q ≡ true → H s q ≡ true
       next s q ls e = ⊎-elim (λ d. S s q ls d)
@@ -271,7 +271,7 @@ module _ (n : ℕ) (v : Records) (high : n ≤ 16) (E : Edges n v) where
     masks-history : (t q : ℕ) → 1 ≤ t → q < 16 → marked (historyMasks n v r p) t q ≡ history n v r p (idOf t q)
     unfolding historyMasks first-masks
     masks-history t q lt lq = bool-ext
-        (fill-sound (λ s q. history n v r p (idOf s q)) history-closed (r - 1) first-masks first-length (omega arith) start t q lt)
+        (fill-formed (λ s q. history n v r p (idOf s q)) history-closed (r - 1) first-masks first-length (omega arith) start t q lt)
         (λ e. rw (id-round t q lq, id-member t q lq)
         at (closed-history (fill n v first-masks (r - 1)) (fill-closed (r - 1) first-masks first-length (omega arith) top) r r p (idOf t q) hr lp
         (fill-keeps (r - 1) first-masks first-length (omega arith) r p lr (first-marked r p lr ∙ and-both (eq-eqb r r refl) (eq-eqb p p refl))) e))
@@ -301,7 +301,7 @@ cut-weak : (body : List ℕ) → weakCountOf (take 4 body) ≡ 0
 unfolding weakCountOf
 cut-weak body = List·getD-eq-default (take 4 body) 0 (rw (length-take 4 body) (omega arith))
 
-module _ (n : ℕ) (v : Records) (g : legal n ≡ true) (W : WellFormed n v) where
+module _ (n : ℕ) (v : Records) (g : legal n ≡ true) (W : ValidVertices n v) where
   abbrev cut : Records
   cut r p = take 4 (v r p)
 

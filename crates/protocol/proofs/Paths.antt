@@ -17,7 +17,7 @@ use Rattle.record.proofs.Below.{any-intro, any-elim, any-cong, count-pos, meet}
 use Rattle.record.proofs.Masks.{legal-range, leader-lt, has-zero}
 use Rattle.protocol.specs.Dag.{Records, Dag, present, held, votes, committed}
 use Rattle.protocol.specs.Paths.{path, linked}
-use Rattle.protocol.specs.Premises.{WellFormed, Voter, Premises}
+use Rattle.protocol.specs.Premises.{ValidVertices, Voter, DagPremises}
 use Rattle.protocol.specs.Claims.{KeyLemma}
 
 -- a body with a parent, a no-vote or a weak id is there
@@ -66,7 +66,7 @@ path-held n v (suc r) p t q e = go (which (eqb (suc r) t)) (λ m. path-held n v 
         ih (w .0) (and-right (has (strongOf (v (suc r) p)) (w .0)) _ (w .2))
 
 -- a strong parent of a vertex of round r + 1 is held in round r
-pub parent-held : (n : ℕ) (v : Records) → WellFormed n v → (r p m : ℕ) → has (strongOf (v (suc r) p)) m ≡ true → held v r m ≡ true
+pub parent-held : (n : ℕ) (v : Records) → ValidVertices n v → (r p m : ℕ) → has (strongOf (v (suc r) p)) m ≡ true → held v r m ≡ true
 parent-held n v W r p m e = simp unary-clauses at (W .strong-held (suc r) p m e)
 
 -- two quorums of n members meet in a member of any set that lacks at most f
@@ -76,7 +76,7 @@ quorums-meet n f e s t h = subst
     (λ (x : ℕ). 2 * f + 1 ≤ count x s → 2 * f + 1 ≤ count x t → count x (λ p. not (h p)) ≤ f → (p : ℕ) × (p < x) × (s p ≡ true) × (t p ≡ true) × (h p ≡ true))
     (sym e) (meet f s t h)
 
-module _ (n : ℕ) {I : Type 0} (dag : I → Dag) (honest : ℕ → Bool) (P : Premises n dag honest) where
+module _ (n : ℕ) {I : Type 0} (dag : I → Dag) (honest : ℕ → Bool) (P : DagPremises n dag honest) where
   -- from a vertex that two DAGs hold the same paths lead in both
   pub path-same : (i j : I) (r p t q : ℕ) → held (dag i .vertex) r p ≡ true → held (dag j .vertex) r p ≡ true
       → path n (dag i .vertex) r p t q ≡ path n (dag j .vertex) r p t q

@@ -20,9 +20,9 @@ use Rattle.protocol.specs.Dag.{recordsOf, present, held, votes, committe
 use Rattle.protocol.specs.Paths.{path}
 use Rattle.protocol.specs.Chain.{walk, chain}
 use Rattle.protocol.specs.Journal.{among, fresh, extend}
-use Rattle.protocol.specs.Premises.{WellFormed, Voter}
+use Rattle.protocol.specs.Premises.{ValidVertices, Voter}
 use Rattle.protocol.specs.Masks.{join, joinWeak, joinParents, joinRound, fill, historyMasks}
-use Rattle.protocol.specs.Witness.{early, late, firstOf, vertexOf, dag, honest, Witness}
+use Rattle.protocol.specs.Witness.{early, late, firstOf, vertexOf, witnessDag, honest, DagWitness}
 use Rattle.protocol.proofs.Paths.{parent-present, no-vote-present, weak-present}
 use Rattle.protocol.proofs.Laws.{fresh-masks}
 
@@ -160,7 +160,7 @@ module _ (l : List (List ℕ)) where
       && (all 4 (λ m. imp (has (strongOf b) m) (held (recordsOf l) (r - 1) m))
       && all 1 (λ i. imp (ltb i (weakCountOf b)) (held (recordsOf l) (idRound (weakOf b i)) (idMember (weakOf b i)))))
 
-  kept-formed : every kept l ≡ true → WellFormed 4 (recordsOf l)
+  kept-formed : every kept l ≡ true → ValidVertices 4 (recordsOf l)
   unfolding kept
   kept-formed e = record {
     admitted = ok;
@@ -184,13 +184,14 @@ module _ (l : List (List ℕ)) where
           (held (recordsOf l) (idRound (weakOf (recordsOf l r p) i)) (idMember (weakOf (recordsOf l r p) i))))) ≡ true
       rest r p h = and-right (both (fits r p (recordsOf l r p))) _ (every-found kept l e r p h)
 
-formed : (i : Bool) → WellFormed 4 (dag i .vertex)
-unfolding dag recordsOf early late vertexOf every kept both fits quorumIn lacks imp leader has count all strongOf timeoutsOf noVotesOf weakCountOf weakOf
+formed : (i : Bool) → ValidVertices 4 (witnessDag i .vertex)
+unfolding witnessDag recordsOf early late vertexOf every kept both fits quorumIn lacks imp leader has count all strongOf timeoutsOf noVotesOf weakCountOf weakOf
 formed true = kept-formed (vertexOf true) refl
 formed false = kept-formed (vertexOf false) refl
 
-one-vertex : (i j : Bool) (r p : ℕ) → held (dag i .vertex) r p ≡ true → held (dag j .vertex) r p ≡ true → dag i .vertex r p ≡ dag j .vertex r p
-unfolding dag vertexOf
+one-vertex : (i j : Bool) (r p : ℕ) → held (witnessDag i .vertex) r p ≡ true → held (witnessDag j .vertex) r p ≡ true
+    → witnessDag i .vertex r p ≡ witnessDag j .vertex r p
+unfolding witnessDag vertexOf
 one-vertex true true r p h k = refl
 one-vertex true false r p h k = found-longer early late r p k
 one-vertex false true r p h k = sym (found-longer early late r p h)
@@ -198,69 +199,71 @@ one-vertex false false r p h k = refl
 
 -- a first message of an honest member is its vertex
 told : Bool → ℕ → ℕ → List ℕ → Bool
-told j r p b = imp (honest p) (imp (held (dag j .vertex) r p) (same b (dag j .vertex r p)))
+told j r p b = imp (honest p) (imp (held (witnessDag j .vertex) r p) (same b (witnessDag j .vertex r p)))
 
 all-told : (i j : Bool) → every (told j) (firstOf i) ≡ true
-unfolding dag recordsOf early late firstOf vertexOf every told imp same
+unfolding witnessDag recordsOf early late firstOf vertexOf every told imp same
 all-told true true = refl
 all-told true false = refl
 all-told false true = refl
 all-told false false = refl
 
-one-record : (i j : Bool) (r p : ℕ) → honest p ≡ true → present (dag i .first r p) ≡ true → held (dag j .vertex) r p ≡ true
-    → dag i .first r p ≡ dag j .vertex r p
-unfolding dag told
+one-record : (i j : Bool) (r p : ℕ) → honest p ≡ true → present (witnessDag i .first r p) ≡ true → held (witnessDag j .vertex) r p ≡ true
+    → witnessDag i .first r p ≡ witnessDag j .vertex r p
+unfolding witnessDag told
 one-record i j r p g h k =
-    same-eq _ _ (imp-elim (held (dag j .vertex) r p) _ (imp-elim (honest p) _ (every-found (told j) (firstOf i) (all-told i j) r p h) g) k)
+    same-eq _ _ (imp-elim (held (witnessDag j .vertex) r p) _ (imp-elim (honest p) _ (every-found (told j) (firstOf i) (all-told i j) r p h) g) k)
 
 -- member q votes neither by a vertex nor by a first message of round r
 silent : Bool → ℕ → ℕ → Bool
-silent i r q = not (votes 4 (r - 1) (dag i .vertex r q) || votes 4 (r - 1) (dag i .first r q))
+silent i r q = not (votes 4 (r - 1) (witnessDag i .vertex r q) || votes 4 (r - 1) (witnessDag i .first r q))
 
 -- no honest member of the record's no-vote mask votes
 apart : Bool → ℕ → ℕ → List ℕ → Bool
 apart i r p b = all 4 (λ q. imp (has (noVotesOf b) q) (imp (honest q) (silent i r q)))
 
 all-apart : (i j : Bool) → every (apart i) (vertexOf j) ≡ true
-unfolding dag recordsOf early late firstOf vertexOf every apart silent imp all has leader strongOf noVotesOf
+unfolding witnessDag recordsOf early late firstOf vertexOf every apart silent imp all has leader strongOf noVotesOf
 all-apart true true = refl
 all-apart true false = refl
 all-apart false true = refl
 all-apart false false = refl
 
-no-both : (i j : Bool) (r p m : ℕ) → honest p ≡ true → Voter 4 (dag i) r p → has (noVotesOf (dag j .vertex (suc r) m)) p ≡ true → ⊥
-unfolding apart silent dag
+no-both : (i j : Bool) (r p m : ℕ) → honest p ≡ true → Voter 4 (witnessDag i) r p → has (noVotesOf (witnessDag j .vertex (suc r) m)) p ≡ true → ⊥
+unfolding apart silent witnessDag
 no-both i j r p m g v s =
     let h : present (recordsOf (vertexOf j) (suc r) m) ≡ true = no-vote-present _ p s in
     let k : p < 4 = has-bound 4 _ p (formed j .admitted (suc r) m h .no-votes-low) s in
     let t = all-elim 4 (λ q. imp (has (noVotesOf (recordsOf (vertexOf j) (suc r) m)) q) (imp (honest q) (silent i (suc r) q)))
     (every-found (apart i) (vertexOf j) (all-apart i j) (suc r) m h) p k in
-    let u : not (votes 4 r (dag i .vertex (suc r) p) || votes 4 r (dag i .first (suc r) p))
+    let u : not (votes 4 r (witnessDag i .vertex (suc r) p) || votes 4 r (witnessDag i .first (suc r) p))
     ≡ true = simp unary-clauses at (imp-elim (honest p) _ (imp-elim _ _ t s) g) in
-    never (⊎-elim (λ x. or-left _ x) (λ x. or-right (votes 4 r (dag i .vertex (suc r) p)) x) v) (not-true _ u)
+    never (⊎-elim (λ x. or-left _ x) (λ x. or-right (votes 4 r (witnessDag i .vertex (suc r) p)) x) v) (not-true _ u)
 
 -- ---- the journals, by the masks of the histories
 
-chain-first : chain 4 (dag true .vertex) 0 (last 4 (dag true)) ≡ 3 ∷ 4 ∷ []
-unfolding dag recordsOf early late firstOf vertexOf lastUpTo committed leader has count strongOf chain walk path any
+chain-first : chain 4 (witnessDag true .vertex) 0 (last 4 (witnessDag true)) ≡ 3 ∷ 4 ∷ []
+unfolding witnessDag recordsOf early late firstOf vertexOf lastUpTo committed leader has count strongOf chain walk path any
 chain-first = refl
 
-chain-second : chain 4 (dag false .vertex) 0 (last 4 (dag false)) ≡ 3 ∷ []
-unfolding dag recordsOf early late firstOf vertexOf lastUpTo committed leader has count strongOf chain walk path any
+chain-second : chain 4 (witnessDag false .vertex) 0 (last 4 (witnessDag false)) ≡ 3 ∷ []
+unfolding witnessDag recordsOf early late firstOf vertexOf lastUpTo committed leader has count strongOf chain walk path any
 chain-second = refl
 
-fresh-three : (i : Bool) → fresh 4 (dag i .vertex) [] 3 ≡ 16 ∷ 17 ∷ 18 ∷ 19 ∷ 32 ∷ 34 ∷ 35 ∷ 50 ∷ []
-unfolding dag recordsOf early late vertexOf leader legal has strongOf weakCountOf weakOf among select historyMasks fill joinRound joinParents joinWeak join
-fresh-three true = fresh-masks 4 (dag true .vertex) refl (formed true) [] 3 refl
-fresh-three false = fresh-masks 4 (dag false .vertex) refl (formed false) [] 3 refl
+fresh-three : (i : Bool) → fresh 4 (witnessDag i .vertex) [] 3 ≡ 16 ∷ 17 ∷ 18 ∷ 19 ∷ 32 ∷ 34 ∷ 35 ∷ 50 ∷ []
+unfolding witnessDag recordsOf early late vertexOf leader legal has strongOf weakCountOf weakOf among select historyMasks fill joinRound joinParents
+    joinWeak join
+fresh-three true = fresh-masks 4 (witnessDag true .vertex) refl (formed true) [] 3 refl
+fresh-three false = fresh-masks 4 (witnessDag false .vertex) refl (formed false) [] 3 refl
 
-fresh-four : fresh 4 (dag true .vertex) (16 ∷ 17 ∷ 18 ∷ 19 ∷ 32 ∷ 34 ∷ 35 ∷ 50 ∷ []) 4 ≡ 33 ∷ 48 ∷ 49 ∷ 51 ∷ 67 ∷ []
-unfolding dag recordsOf early late vertexOf leader legal has strongOf weakCountOf weakOf among select historyMasks fill joinRound joinParents joinWeak join
-fresh-four = fresh-masks 4 (dag true .vertex) refl (formed true) (16 ∷ 17 ∷ 18 ∷ 19 ∷ 32 ∷ 34 ∷ 35 ∷ 50 ∷ []) 4 refl
+fresh-four : fresh 4 (witnessDag true .vertex) (16 ∷ 17 ∷ 18 ∷ 19 ∷ 32 ∷ 34 ∷ 35 ∷ 50 ∷ []) 4 ≡ 33 ∷ 48 ∷ 49 ∷ 51 ∷ 67 ∷ []
+unfolding witnessDag recordsOf early late vertexOf leader legal has strongOf weakCountOf weakOf among select historyMasks fill joinRound joinParents
+    joinWeak join
+fresh-four = fresh-masks 4 (witnessDag true .vertex) refl (formed true) (16 ∷ 17 ∷ 18 ∷ 19 ∷ 32 ∷ 34 ∷ 35 ∷ 50 ∷ []) 4 refl
 
 -- The witness.
-pub witness : Witness
-unfolding dag recordsOf early late firstOf vertexOf lastUpTo committed leader has count legal strongOf noVotesOf chain walk path any extend
+pub witness : DagWitness
+unfolding witnessDag recordsOf early late firstOf vertexOf lastUpTo committed leader has count legal strongOf noVotesOf chain walk path any extend
 witness = record {
   premises = record {
     members = refl;
@@ -277,7 +280,7 @@ witness = record {
   leaders-first = refl;
   leaders-second = refl;
   journal-first =
-      ap (extend 4 (dag true .vertex) []) chain-first ∙ ap (λ (j : List ℕ). j ++ fresh 4 (dag true .vertex) j 4) (fresh-three true)
+      ap (extend 4 (witnessDag true .vertex) []) chain-first ∙ ap (λ (j : List ℕ). j ++ fresh 4 (witnessDag true .vertex) j 4) (fresh-three true)
       ∙ ap (λ (l : List ℕ). 16 ∷ 17 ∷ 18 ∷ 19 ∷ 32 ∷ 34 ∷ 35 ∷ 50 ∷ l) fresh-four;
-  journal-second = ap (extend 4 (dag false .vertex) []) chain-second ∙ fresh-three false;
+  journal-second = ap (extend 4 (witnessDag false .vertex) []) chain-second ∙ fresh-three false;
 }

@@ -9,7 +9,7 @@ use Rattle.protocol.specs.Dag.{Dag, held, committed}
 use Rattle.protocol.specs.Paths.{linked}
 use Rattle.protocol.specs.Chain.{chain, leaders}
 use Rattle.protocol.specs.Journal.{extend, journalOf, journal}
-use Rattle.protocol.specs.Premises.{Premises}
+use Rattle.protocol.specs.Premises.{DagPremises}
 
 -- the first list is the beginning of the second
 abbrev pub Prefix : List ℕ → List ℕ → Type 0
@@ -38,4 +38,4 @@ module _ (n : ℕ) {I : Type 0} (dag : I → Dag) where
 
 -- What the crate shows: for every family that meets the premises, all three.
 abbrev pub Safety : Type 1
-Safety = (n : ℕ) (I : Type 0) (dag : I → Dag) (honest : ℕ → Bool) → Premises n dag honest → KeyLemma n dag × Growth n dag × Agreement n dag
+Safety = (n : ℕ) (I : Type 0) (dag : I → Dag) (honest : ℕ → Bool) → DagPremises n dag honest → KeyLemma n dag × Growth n dag × Agreement n dag

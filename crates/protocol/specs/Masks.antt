@@ -9,7 +9,7 @@ use Rattle.record.specs.Members.{legal, has, add, meets, idOf, idRound, idMembe
 use Rattle.record.specs.Layout.{strongOf, weakCountOf, weakOf}
 use Rattle.protocol.specs.Dag.{Records, held, votes, enough}
 use Rattle.protocol.specs.Paths.{path, history}
-use Rattle.protocol.specs.Premises.{WellFormed}
+use Rattle.protocol.specs.Premises.{ValidVertices}
 
 -- the union of the strong masks of round r's vertices of the members below k in the mask m
 unfoldable pub parents : Records → ℕ → ℕ → ℕ → ℕ
@@ -59,15 +59,15 @@ module _ (n : ℕ) where
 
   -- the members that paths from the vertex of round r and member p reach in round t, from those that they reach in round t + 1
   abbrev pub ParentsClaim : Type 0
-  ParentsClaim = (v : Records) → WellFormed n v → (r p t m : ℕ) → p < n → 1 ≤ t → t < r
+  ParentsClaim = (v : Records) → ValidVertices n v → (r p t m : ℕ) → p < n → 1 ≤ t → t < r
       → ((q : ℕ) → q < n → has m q ≡ path n v r p (suc t) q) → (q : ℕ) → q < n → has (parents v (suc t) m n) q ≡ path n v r p t q
 
   -- the masks name exactly the history
   abbrev pub HistoryClaim : Type 0
-  HistoryClaim = (v : Records) → legal n ≡ true → WellFormed n v → (r p : ℕ) → held v r p ≡ true
+  HistoryClaim = (v : Records) → legal n ≡ true → ValidVertices n v → (r p : ℕ) → held v r p ≡ true
       → (t q : ℕ) → 1 ≤ t → t ≤ 32 → q < 16 → has (getD (historyMasks v r p) (t - 1) 0) q ≡ history n v r p (idOf t q)
 
   -- and with strong edges alone, which are those of bodies cut off before their weak ids, exactly what paths reach
   abbrev pub StrongHistoryClaim : Type 0
-  StrongHistoryClaim = (v : Records) → legal n ≡ true → WellFormed n v → (r p : ℕ) → held v r p ≡ true
+  StrongHistoryClaim = (v : Records) → legal n ≡ true → ValidVertices n v → (r p : ℕ) → held v r p ≡ true
       → (t q : ℕ) → 1 ≤ t → t ≤ 32 → q < 16 → has (getD (historyMasks (λ r p. take 4 (v r p)) r p) (t - 1) 0) q ≡ path n v r p t q

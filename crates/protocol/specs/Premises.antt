@@ -11,7 +11,7 @@ use Rattle.protocol.specs.Dag.{Records, Dag, present, held, votes}
 
 module _ (n : ℕ) where
   -- every vertex is admitted by the record questions, and its strong and weak parents are there
-  pub record WellFormed (v : Records) : Type 0 where
+  pub record ValidVertices (v : Records) : Type 0 where
     pub admitted : (r p : ℕ) → held v r p ≡ true → Admitted n r p (v r p)
     pub strong-held : (r p m : ℕ) → has (strongOf (v r p)) m ≡ true → held v (r - 1) m ≡ true
     pub weak-held : (r p i : ℕ) → i < weakCountOf (v r p) → held v (idRound (weakOf (v r p) i)) (idMember (weakOf (v r p) i)) ≡ true
@@ -20,9 +20,9 @@ module _ (n : ℕ) where
   abbrev pub Voter : Dag → ℕ → ℕ → Type 0
   Voter d r p = (votes n r (d .vertex (suc r) p) ≡ true) ⊎ (votes n r (d .first (suc r) p) ≡ true)
 
-  pub record Premises {I : Type 0} (dag : I → Dag) (honest : ℕ → Bool) : Type 0 where
+  pub record DagPremises {I : Type 0} (dag : I → Dag) (honest : ℕ → Bool) : Type 0 where
     pub members : legal n ≡ true
-    pub well-formed : (i : I) → WellFormed (dag i .vertex)
+    pub well-formed : (i : I) → ValidVertices (dag i .vertex)
     -- at most f members are faulty
     pub few-faulty : count n (λ p. not (honest p)) ≤ faulty n
     -- reliable broadcast: two members that deliver a vertex of a round and source deliver the same

@@ -9,7 +9,7 @@ use Rattle.record.specs.Layout.{strongOf, noVotesOf}
 use Rattle.protocol.specs.Dag.{Dag, recordsOf, held, votes, enough, committed}
 use Rattle.protocol.specs.Chain.{leaders}
 use Rattle.protocol.specs.Journal.{journal}
-use Rattle.protocol.specs.Premises.{Premises}
+use Rattle.protocol.specs.Premises.{DagPremises}
 
 -- the record of a round and a source with these masks of strong parents, timeouts and no-votes, and one with a weak id
 abbrev pub plain : ℕ → ℕ → ℕ → ℕ → ℕ → List ℕ
@@ -42,23 +42,23 @@ unfoldable pub vertexOf : Bool → List (List ℕ)
 vertexOf true = early ++ late
 vertexOf false = early
 
-unfoldable pub dag : Bool → Dag
-dag i = record { vertex = recordsOf (vertexOf i); first = recordsOf (firstOf i) }
+unfoldable pub witnessDag : Bool → Dag
+witnessDag i = record { vertex = recordsOf (vertexOf i); first = recordsOf (firstOf i) }
 
 abbrev pub honest : ℕ → Bool
 honest p = not (eqb p 1)
 
-pub record Witness : Type 0 where
-  pub premises : Premises 4 dag honest
+pub record DagWitness : Type 0 where
+  pub premises : DagPremises 4 witnessDag honest
   -- member 1 votes in one DAG and not in the other
-  pub two-faced : (votes 4 3 (dag true .first 4 1) ≡ false) × (votes 4 3 (dag false .first 4 1) ≡ true)
+  pub two-faced : (votes 4 3 (witnessDag true .first 4 1) ≡ false) × (votes 4 3 (witnessDag false .first 4 1) ≡ true)
   -- the vertex of the leader of round 2 is there, the next leader has no edge to it, and a no-vote certificate in its place
-  pub skipped : (held (dag true .vertex) 2 1 ≡ true) × (has (strongOf (dag true .vertex 3 2)) 1 ≡ false) × (noVotesOf (dag true .vertex 3 2) ≡ 13)
+  pub skipped : (held (witnessDag true .vertex) 2 1 ≡ true) × (has (strongOf (witnessDag true .vertex 3 2)) 1 ≡ false) × (noVotesOf (witnessDag true .vertex 3 2) ≡ 13)
   -- the first DAG commits round 4 by vertices, the second round 3 by first messages alone
-  pub by-vertices : enough 4 (λ p. votes 4 4 (dag true .vertex 5 p)) ≡ true
-  pub by-messages : (enough 4 (λ p. votes 4 3 (dag false .vertex 4 p)) ≡ false) × (committed 4 (dag false) 3 ≡ true)
+  pub by-vertices : enough 4 (λ p. votes 4 4 (witnessDag true .vertex 5 p)) ≡ true
+  pub by-messages : (enough 4 (λ p. votes 4 3 (witnessDag false .vertex 4 p)) ≡ false) × (committed 4 (witnessDag false) 3 ≡ true)
   -- the leader lists: one is longer, and neither has round 1 or 2
-  pub leaders-first : leaders 4 (dag true) ≡ 50 ∷ 67 ∷ []
-  pub leaders-second : leaders 4 (dag false) ≡ 50 ∷ []
-  pub journal-first : journal 4 (dag true) ≡ 16 ∷ 17 ∷ 18 ∷ 19 ∷ 32 ∷ 34 ∷ 35 ∷ 50 ∷ 33 ∷ 48 ∷ 49 ∷ 51 ∷ 67 ∷ []
-  pub journal-second : journal 4 (dag false) ≡ 16 ∷ 17 ∷ 18 ∷ 19 ∷ 32 ∷ 34 ∷ 35 ∷ 50 ∷ []
+  pub leaders-first : leaders 4 (witnessDag true) ≡ 50 ∷ 67 ∷ []
+  pub leaders-second : leaders 4 (witnessDag false) ≡ 50 ∷ []
+  pub journal-first : journal 4 (witnessDag true) ≡ 16 ∷ 17 ∷ 18 ∷ 19 ∷ 32 ∷ 34 ∷ 35 ∷ 50 ∷ 33 ∷ 48 ∷ 49 ∷ 51 ∷ 67 ∷ []
+  pub journal-second : journal 4 (witnessDag false) ≡ 16 ∷ 17 ∷ 18 ∷ 19 ∷ 32 ∷ 34 ∷ 35 ∷ 50 ∷ []

@@ -21,13 +21,13 @@ use Rattle.record.proofs.Masks.{has-zero, has-one, has-bound}
 use Rattle.record.proofs.Turn.{round-range, admitted}
 use Rattle.protocol.specs.Dag.{present, held, votes}
 use Rattle.protocol.specs.Journal.{idLimit}
-use Rattle.protocol.specs.Premises.{WellFormed}
+use Rattle.protocol.specs.Premises.{ValidVertices}
 use Rattle.protocol.proofs.Paths.{parent-present, weak-present}
 use Rattle.protocol.proofs.History.{id-round, id-member}
 use Rattle.replica.specs.Layout.{stateSize, cellAt}
 use Rattle.replica.specs.State.{memberCount, heldMask, heardMask, votesMask, cell, vertices, firsts, heldId}
 use Rattle.replica.specs.Parents.{isParent, missing, parentsHeld}
-use Rattle.replica.proofs.Sound.{Sound, length-part}
+use Rattle.replica.proofs.Formed.{WellFormed, length-part}
 
 -- a round from 1 to 32
 pub round-ok : (r : ℕ) → 1 ≤ r → r ≤ 32 → roundOk r ≡ true
@@ -99,9 +99,9 @@ weak-parent r i body k =
     or-right (eqb (idRound (weakOf body i) + 1) r && has (strongOf body) (idMember (weakOf body i)))
     (any-intro (weakCountOf body) (λ j. eqb (weakOf body j) (weakOf body i)) i k (eq-eqb (weakOf body i) _ refl))
 
--- ---- a sound state
+-- ---- a formed state
 
-module _ (l : List ℕ) (S : Sound l) where
+module _ (l : List ℕ) (S : WellFormed l) where
   -- what is held is of a member
   pub in-group : (r p : ℕ) → 1 ≤ r → r ≤ 32 → has (heldMask l r) p ≡ true → p < memberCount l
   in-group r p a b h = has-bound (memberCount l) (heldMask l r) p (S .masks .held-low r a b) h
@@ -121,8 +121,8 @@ module _ (l : List ℕ) (S : Sound l) where
       sym (held-id l (S .size) y)
       ∙ parent-held l r (cell l r p) (S .cells .parents r p (w .0) (w .1) m (w .2)) y k (rw (vertex-cell l (S .size) r p h) at d)
 
-  -- The vertices of a sound state are well formed.
-  pub dag-well-formed : WellFormed (memberCount l) (vertices l)
+  -- The vertices of a formed state are well formed.
+  pub dag-well-formed : ValidVertices (memberCount l) (vertices l)
   dag-well-formed = record { admitted = admits; strong-held = strong; weak-held = weak }
     where
       strong : (r p m : ℕ) → has (strongOf (vertices l r p)) m ≡ true → held (vertices l) (r - 1) m ≡ true
@@ -174,6 +174,6 @@ first-vote l q p a b f = go (which (has (votesMask l (suc q)) p)) (which (has (h
     go (inr v) (inl h) = rw (ok, h, v) (has-zero (leader (memberCount l) q))
     go (inr v) (inr h) = rw (ok, h, v) (has-zero (leader (memberCount l) q))
 
--- so in a sound state
-pub sound-vote : (l : List ℕ) → Sound l → (q p : ℕ) → 1 ≤ q → q ≤ 31 → votes (memberCount l) q (firsts l (suc q) p) ≡ has (votesMask l (suc q)) p
-sound-vote l S q p a b = first-vote l q p a b (S .masks .votes-heard (suc q) p (omega arith) (omega arith))
+-- so in a formed state
+pub formed-vote : (l : List ℕ) → WellFormed l → (q p : ℕ) → 1 ≤ q → q ≤ 31 → votes (memberCount l) q (firsts l (suc q) p) ≡ has (votesMask l (suc q)) p
+formed-vote l S q p a b = first-vote l q p a b (S .masks .votes-heard (suc q) p (omega arith) (omega arith))

@@ -20,7 +20,7 @@ use Rattle.protocol.proofs.Laws.{records-ext}
 use Rattle.replica.specs.Layout.{masksAt, heldAt, heardAt, votesAt, timeoutsAt, noVotesAt, orderedAt, cellAt}
 use Rattle.replica.specs.State.{leaderCount, journalCount, heldMask, orderedMask, leaderList, journalList, cell, vertices, firsts, heldId, orderedId}
 use Rattle.replica.specs.Parents.{isParent, missing, parentsHeld}
-use Rattle.replica.proofs.Sound.{Front, Masks, Cells, Leaders, Journal, led-more}
+use Rattle.replica.proofs.Formed.{Front, Masks, Cells, Leaders, Journal, led-more}
 
 -- l′ is as long as l, and has the same words where K holds
 pub record Keeps (K : ℕ → Type 0) (l l′ : List ℕ) : Type 0 where

@@ -8,7 +8,7 @@ pub mod ListLaws
 pub mod Words
 pub mod Weak
 pub mod Marks
-pub mod Sound
+pub mod Formed
 pub mod Dags
 pub mod Keeping
 pub mod Opened

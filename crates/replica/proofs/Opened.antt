@@ -1,4 +1,4 @@
--- A state just opened is sound, with empty lists and no records. Assumes nothing.
+-- A state just opened is formed, with empty lists and no records. Assumes nothing.
 use mathlib.Core.Path.{_≡_, refl, sym, ap, _∙_}
 use mathlib.Core.Bool.{true, false}
 use mathlib.Core.Logic.{⊎-elim}
@@ -18,7 +18,7 @@ use Rattle.replica.specs.Layout.{stateSize, masksAt, cellAt}
 use Rattle.replica.specs.State.{memberCount, currentRound, leaderList, journalList, vertices, firsts}
 use Rattle.replica.specs.WellFormed.{wellFormed}
 use Rattle.replica.specs.Opening.{opened}
-use Rattle.replica.proofs.Sound.{Sound, Led, well-formed}
+use Rattle.replica.proofs.Formed.{WellFormed, Led, well-formed}
 
 -- every word of a run of zeros, and beyond it
 blank : (k j : ℕ) → _≡_ {A = ℕ} (getD (replicate k 0) j 0) 0
@@ -80,10 +80,10 @@ module _ (n : ℕ) where
   unfolding firsts
   opened-firsts r p = cond-false _ _ (and-fails-right (roundOk r) (opened-mask r 1 p))
 
-  -- A state just opened is sound.
-  pub opened-sound : legal n ≡ true → Sound (opened n)
+  -- A state just opened is formed.
+  pub opened-formed : legal n ≡ true → WellFormed (opened n)
   unfolding Led
-  opened-sound g = record {
+  opened-formed g = record {
     size = opened-size;
     front = record {
       members = ap legal opened-members ∙ g;
@@ -128,4 +128,4 @@ module _ (n : ℕ) where
 
   -- so it is well formed
   pub opened-well-formed : legal n ≡ true → wellFormed (opened n) ≡ true
-  opened-well-formed g = well-formed (opened n) (opened-sound g)
+  opened-well-formed g = well-formed (opened n) (opened-formed g)

@@ -1,4 +1,4 @@
--- When a state is well formed (01: sound): a line for each clause of the paper, in its order.
+-- When a state is well formed (01: formed): a line for each clause of the paper, in its order.
 use mathlib.Core.Bool.{Bool, true, cond, not, _&&_, _||_}
 use mathlib.Core.List.{List, [], _∷_}
 use Prim.Native.Nat.{ℕ, _+_, _-_}

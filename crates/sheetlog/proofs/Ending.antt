@@ -39,4 +39,5 @@ pub an-end : (rest : List ℕ) (x l j : RefT (List ℕ)) {d e f g : List ℕ} {a
     → Appended d 0 (restText rest) e a → partOf l ≡ cut x (handLeaders (x .now) 0) → Appended e a (listText 76 (l .now)) f b
     → partOf j ≡ cut x (handJournal (x .now) 0) → Appended f b (listText 74 (j .now)) g c → Appended d 0 (endText rest (x .now)) g c
 unfolding endText
-an-end rest x l j p m q n r = appended-then (appended-then p (rw (part-words x l (handLeaders (x .now) 0) m) at q)) (rw (part-words x j (handJournal (x .now) 0) n) at r)
+an-end rest x l j p m q n r = appended-then (appended-then p (rw (part-words x l (handLeaders (x .now) 0) m) at q))
+    (rw (part-words x j (handJournal (x .now) 0) n) at r)

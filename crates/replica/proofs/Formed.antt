@@ -1,4 +1,4 @@
--- What it means that a state is well formed, as facts, and that the test of `specs/WellFormed` says exactly this. Assumes nothing.
+-- What it means that a state is well formed, as facts, and that the test of `specs/ValidVertices` says exactly this. Assumes nothing.
 use mathlib.Core.Path.{_≡_, refl, sym, ap, ap₂, _∙_, subst}
 use mathlib.Core.Bool.{Bool, true, false, cond, not, _&&_, _||_}
 use mathlib.Core.Logic.{_⊎_, inl, inr, ⊎-elim}
@@ -77,7 +77,7 @@ pub record Journal (l : List ℕ) : Type 0 where
   pub names : (y : ℕ) → among (journalList l) y ≡ orderedId l y
   pub rest : (i : ℕ) → journalCount l ≤ i → i < 512 → journalWord l i ≡ 0
 
-pub record Sound (l : List ℕ) : Type 0 where
+pub record WellFormed (l : List ℕ) : Type 0 where
   pub size : length l ≡ stateSize
   pub front : Front l
   pub masks : Masks l
@@ -288,9 +288,9 @@ module _ (l : List ℕ) (size : length l ≡ stateSize) where
   not-beyond c k w f = all-intro k _ (λ i b. ⊎-elim (λ h. or-left _ h) (λ h. or-right (ltb i c) (eq-eqb _ _ (f i (ltb-false i c h) b))) (which (ltb i c)))
 
 -- A well-formed state has all the facts.
-pub sound : (l : List ℕ) → length l ≡ stateSize → wellFormed l ≡ true → Sound l
+pub formed : (l : List ℕ) → length l ≡ stateSize → wellFormed l ≡ true → WellFormed l
 unfolding wellFormed leadersOk journalOk restZero lastLeaderRound
-sound l size e =
+formed l size e =
     let n = memberCount l in
     let e1 = and-right (legal n) _ e in
     let e2 = and-right (leb 1 (currentRound l) && leb (currentRound l) 33) _ e1 in
@@ -360,7 +360,7 @@ sound l size e =
     }
 
 -- And a state that has them is well formed.
-pub well-formed : (l : List ℕ) → Sound l → wellFormed l ≡ true
+pub well-formed : (l : List ℕ) → WellFormed l → wellFormed l ≡ true
 unfolding wellFormed leadersOk journalOk restZero lastLeaderRound masksWithin
 well-formed l S =
     let size = S .size in
@@ -397,7 +397,7 @@ well-formed l S =
 
 -- ---- the lists, an entry at a time
 
-module _ (l : List ℕ) (S : Sound l) where
+module _ (l : List ℕ) (S : WellFormed l) where
   -- each list is as long as its count says
   pub leader-length : length (leaderList l) ≡ leaderCount l
   leader-length = let few = S .leaders .few in length-part l 200 (leaderCount l) (omega (arith, S .size))

@@ -9,7 +9,7 @@ use native.Mathlib.Omega.{arith}
 use lib.Dec.{leb}
 use borrow.Author.Tests.{leb-true, leb-false, le-leb, lt-leb, eqb-true}
 use Rattle.record.specs.Members.{leader}
-use Rattle.record.proofs.Booleans.{which, never, or-cases, cond-cong}
+use Rattle.record.proofs.Booleans.{which, never, or-cases, cond-cong, cond-true, cond-false}
 use Rattle.protocol.specs.Dag.{Records, Dag, held}
 use Rattle.protocol.specs.Paths.{linked}
 use Rattle.protocol.specs.Chain.{walk, chain}
@@ -34,12 +34,12 @@ module _ (n : ℕ) (v : Records) where
       (λ c. skip c) (which (leb (suc t) low))
     where
       skip : leb (suc t) low ≡ false → walk n v low r (suc t) ≡ walk n v low r t
-      skip c = unfold walk in rw (c, e)
+      skip c = unfold walk in rw c (cond-false _ _ e)
 
   -- one that a path leads to is taken, and the walk goes on from there
   pub walk-take : (low r t : ℕ) → low < suc t → linked n v r (suc t) ≡ true → walk n v low r (suc t) ≡ walk n v low (suc t) t ++ suc t ∷ []
   unfolding walk
-  walk-take low r t l e = rw (lt-leb (suc t) low l, e)
+  walk-take low r t l e = rw (lt-leb (suc t) low l) (cond-true _ _ e)
 
   -- a chain is empty, or a walk and its own round
   pub chain-none : (low q : ℕ) → q ≤ low → chain n v low q ≡ []

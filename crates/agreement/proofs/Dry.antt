@@ -9,10 +9,10 @@ use lib.Dec.{eqb, ltb}
 use lib.ListN.{length}
 use borrow.Author.Tests.{eqb-true, eqb-false, eq-eqb, lt-ltb, not-true}
 use Rattle.record.specs.Below.{all}
-use Rattle.record.specs.Members.{legal, has, idRound, idMember}
+use Rattle.record.specs.Members.{legal, has, idRound, idMember, isRound}
 use Rattle.record.specs.Refusals.{numberOf, Question, firstNo}
 use Rattle.record.specs.Layout.{roundOf, sourceOf, bodyOf, strongOf, weakCountOf, weakOf}
-use Rattle.record.specs.Questions.{roundOk, recordQuestions, bodyRefusal}
+use Rattle.record.specs.Questions.{recordQuestions, bodyRefusal}
 use Rattle.record.specs.Admitted.{Admitted}
 use Rattle.record.proofs.Booleans.{which, never, and-left, and-right, and-both, and-fails-left, cond-true}
 use Rattle.record.proofs.Below.{all-elim}
@@ -23,7 +23,8 @@ use Rattle.replica.specs.Parents.{isParent, parentsHeld}
 use Rattle.replica.specs.Status.{stateQuestions}
 use Rattle.replica.proofs.Formed.{WellFormed, well-formed}
 use Rattle.replica.proofs.Dags.{held-vertex, held-id}
-use Rattle.replica.proofs.Parents.{round-in, parent-cases, parents-intro, weak-five}
+use Rattle.replica.proofs.Parents.{parent-cases, parents-intro, weak-five}
+use Rattle.record.proofs.Rounds.{round-in}
 use Rattle.ordering.specs.Calls.{sameBody, vertexQuestions, firstQuestions, takeBody, takeFirstBody}
 use Rattle.agreement.specs.Call.{Call, opening, vertex, firstMessage, timeout, noVote, status, askLeaderList, askJournalList, handLeaderList}
 use Rattle.agreement.specs.Call.{handJournalList, outcomeOf, allowed, allAllowed}
@@ -76,7 +77,7 @@ imp-elim true b e h = e
 imp-elim false b e h = never h refl
 
 -- a member that was heard has a first message
-heard-there : (l : List ℕ) (r p : ℕ) → (roundOk r && has (heardMask l r) p) ≡ true → present (firsts l r p) ≡ true
+heard-there : (l : List ℕ) (r p : ℕ) → (isRound r && has (heardMask l r) p) ≡ true → present (firsts l r p) ≡ true
 unfolding firsts
 heard-there l r p e = ap present (cond-true _ _ e)
 
@@ -135,7 +136,7 @@ module _ (n : ℕ) (l : List ℕ) (m : Model) (h : Holds n l m) (r p : ℕ) (bod
       → numberOf (firstNo (vertexQuestions l r p body)) ≡ 0
   vertex-passes new there =
       let few : p < 16 = omega (arith, A .source-low, h .formed .front .high) in
-      let free : (roundOk r && has (heldMask l r) p) ≡ false = sym (held-vertex l (h .formed .size) r p few) ∙ ap present (h .vertex r p) ∙ new in
+      let free : (isRound r && has (heldMask l r) p) ≡ false = sym (held-vertex l (h .formed .size) r p few) ∙ ap present (h .vertex r p) ∙ new in
       let off : has (heldMask l r) p ≡ false = rw (round-in r (A .round-low) (A .round-high)) at free in
       let parents : parentsHeld l r body ≡ true = parents-intro l r body
       (λ y b d. held-id l (h .formed .size) y ∙ ap present (h .vertex (idRound y) (idMember y)) ∙ held-in y there d) in

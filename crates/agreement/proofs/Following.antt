@@ -8,10 +8,9 @@ use native.Mathlib.Omega.{arith}
 use lib.Dec.{eqb, ltb}
 use lib.ListN.{length}
 use borrow.Author.Tests.{ltb-true, ltb-false}
-use Rattle.record.specs.Members.{legal, has}
+use Rattle.record.specs.Members.{legal, has, isRound}
 use Rattle.record.specs.Refusals.{numberOf, firstNo}
 use Rattle.record.specs.Layout.{roundOf, sourceOf, bodyOf}
-use Rattle.record.specs.Questions.{roundOk}
 use Rattle.record.specs.Admitted.{Admitted}
 use Rattle.record.proofs.Booleans.{which, never, and-fails-right, cond-false}
 use Rattle.record.proofs.Below.{least-sat, least-off}
@@ -77,7 +76,7 @@ formed n l m S e same = rw (e, records-ext (vertices l) (recordsOf (m .vertices)
 -- where a member was not heard there is no first message
 first-none : (l : List ℕ) (r p : ℕ) → has (heardMask l r) p ≡ false → present (firsts l r p) ≡ false
 unfolding firsts
-first-none l r p e = ap present (cond-false _ _ (and-fails-right (roundOk r) e))
+first-none l r p e = ap present (cond-false _ _ (and-fails-right (isRound r) e))
 
 -- ---- changes that leave all this
 
@@ -194,7 +193,7 @@ module _ (n : ℕ) (a b : Model) (honest : ℕ → Bool) (g : legal n ≡ true) 
     new : held (recordsOf (m .vertices)) (roundOf rec) (sourceOf rec) ≡ false
     new =
         ap present (sym (h .vertex (roundOf rec) (sourceOf rec))) ∙ held-vertex l (h .formed .size) (roundOf rec) (sourceOf rec) few
-        ∙ and-fails-right (roundOk (roundOf rec)) (vertex-yes l (roundOf rec) (sourceOf rec) (bodyOf rec) ok .1)
+        ∙ and-fails-right (isRound (roundOf rec)) (vertex-yes l (roundOf rec) (sourceOf rec) (bodyOf rec) ok .1)
 
     -- the vertices are those of the model
     put-vertex : (s q : ℕ) → vertices put s q ≡ recordsOf (rec ∷ m .vertices) s q

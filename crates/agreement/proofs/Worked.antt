@@ -10,10 +10,10 @@ use lib.Dec.{eqb, leb, ltb}
 use lib.ListN.{length, getD, set, take, drop, length-replicate}
 use borrow.Author.Tests.{eq-eqb, ltb-true}
 use Rattle.record.specs.Below.{all, any, count, select, least}
-use Rattle.record.specs.Members.{legal, leader, has, within, meets}
+use Rattle.record.specs.Members.{legal, leader, has, within, meets, isRound}
 use Rattle.record.specs.Refusals.{numberOf, Question, firstNo}
 use Rattle.record.specs.Layout.{roundOf, sourceOf, bodyOf, strongOf, timeoutsOf, noVotesOf, weakCountOf, weakOf}
-use Rattle.record.specs.Questions.{roundOk, masksOk, strongOk, lacksLeader, quorumIf, timeoutsOk, noVotesOk, weakIdOk, rises, slotOk, weakOk, recordQuestions}
+use Rattle.record.specs.Questions.{masksOk, strongOk, lacksLeader, quorumIf, timeoutsOk, noVotesOk, weakIdOk, rises, slotOk, weakOk, recordQuestions}
 use Rattle.record.specs.declared.refusal.Refusal.{Refusal}
 use Rattle.record.specs.declared.refusal.Refusal.the-variants.{None, MemberCount, PastEnd, Round, Source, Duplicate}
 use Rattle.record.proofs.Booleans.{which, and-left, and-right, and-both, cond-true, cond-false}
@@ -112,7 +112,7 @@ shortFirst l rec =
 
 -- of a timeout or a no-vote
 shortNote : List ℕ → ℕ → ℕ → ℕ → Refusal
-shortNote l r p mask = firstNo ((roundOk r, Round) ∷ (ltb p (memberCount l), Source) ∷ (not (has mask p), Duplicate) ∷ [])
+shortNote l r p mask = firstNo ((isRound r, Round) ∷ (ltb p (memberCount l), Source) ∷ (not (has mask p), Duplicate) ∷ [])
 
 -- of asking for entries k and on of a list of so many
 shortList : ℕ → ℕ → Refusal
@@ -335,7 +335,7 @@ ends : map computed later ≡ map (λ (x : Row). (true, x .end)) later
 unfolding later rows computed shortAdmitted shortEnd shortSeen shortOf shortGiven shortSpan spanIf shortVertex shortFirst shortNote shortList
     shortRun opened outcome legal leader
     has within meets
-    firstNo strongOf timeoutsOf noVotesOf weakCountOf weakOf roundOk masksOk strongOk lacksLeader quorumIf timeoutsOk noVotesOk weakIdOk rises
+    firstNo strongOf timeoutsOf noVotesOf weakCountOf weakOf isRound masksOk strongOk lacksLeader quorumIf timeoutsOk noVotesOk weakIdOk rises
     slotOk weakOk all any count select least committed path historyUpTo chain walk vertices firsts isParent missing parentsHeld passable
     highestPassable raiseRound appendLeader appendLeaders enter enterAll orderLeader orderLeaders line listed byList commitBy shortCommits
     committable addMember sameBody putVertex hear ones onesIn

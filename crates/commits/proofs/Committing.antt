@@ -10,11 +10,10 @@ use lib.Dec.{eqb}
 use lib.ListN.{length, getD, set}
 use lib.Seq.{getD-set-other}
 use Rattle.record.specs.Below.{count, select}
-use Rattle.record.specs.Members.{leader, has, add, idRound, idMember}
-use Rattle.record.specs.Questions.{roundOk}
+use Rattle.record.specs.Members.{leader, has, add, idRound, idMember, isRound}
 use Rattle.record.proofs.Booleans.{which, and-cong, or-left, or-right}
 use Rattle.record.proofs.Below.{count-cong}
-use Rattle.record.proofs.Turn.{round-range}
+use Rattle.record.proofs.Rounds.{round-range}
 use Rattle.protocol.specs.Dag.{Records, held}
 use Rattle.protocol.specs.Chain.{chain, leaderId}
 use Rattle.protocol.specs.Journal.{idLimit, among}
@@ -157,10 +156,10 @@ quiet-room {l} {m} q R = omega (
   arith,
   R,
   q .journal,
-  count-cong idLimit (orderedId m) (orderedId l) (λ y h. and-cong {a = roundOk (idRound y)} refl (λ e. same y e)),
+  count-cong idLimit (orderedId m) (orderedId l) (λ y h. and-cong {a = isRound (idRound y)} refl (λ e. same y e)),
 )
   where
-    same : (y : ℕ) → roundOk (idRound y) ≡ true → has (orderedMask m (idRound y)) (idMember y) ≡ has (orderedMask l (idRound y)) (idMember y)
+    same : (y : ℕ) → isRound (idRound y) ≡ true → has (orderedMask m (idRound y)) (idMember y) ≡ has (orderedMask l (idRound y)) (idMember y)
     same y e = let h = round-range (idRound y) e in ap (λ (x : ℕ). has x (idMember y)) (q .ordered (idRound y) (h .0) (h .1))
 
 -- ---- one commit

@@ -10,14 +10,13 @@ use native.Mathlib.Omega.{arith}
 use lib.Dec.{eqb}
 use lib.ListN.{getD, set, take, drop, length, length-set, length-drop}
 use lib.Seq.{getD-set-same, getD-set-other, getD-drop, ext-getD}
-use borrow.Author.Tests.{eqb-true, eqb-false, eq-eqb, ne-eqb, le-leb}
+use borrow.Author.Tests.{eqb-true, eqb-false, eq-eqb, ne-eqb}
 use Rattle.record.specs.Below.{count}
-use Rattle.record.specs.Members.{leader, has, add, idRound, idMember}
-use Rattle.record.specs.Questions.{roundOk}
-use Rattle.record.proofs.Booleans.{which, never, and-both, and-cong, bool-ext}
+use Rattle.record.specs.Members.{leader, has, add, idRound, idMember, isRound}
+use Rattle.record.proofs.Booleans.{which, never, and-cong, bool-ext}
 use Rattle.record.proofs.Below.{count-cong}
 use Rattle.record.proofs.Masks.{has-add}
-use Rattle.record.proofs.Turn.{round-range}
+use Rattle.record.proofs.Rounds.{round-in, round-range}
 use Rattle.protocol.specs.Dag.{Records, Dag}
 use Rattle.protocol.specs.Chain.{leaderId}
 use Rattle.protocol.proofs.Laws.{records-ext, well-formed-cong}
@@ -77,29 +76,29 @@ module _ {l m : List ℕ} (A : Alike l m) where
       ext-getD 0 (drop k m) (drop k l) (length-drop k m ∙ ap (λ (x : ℕ). x - k) (A .size) ∙ sym (length-drop k l))
       (λ i b. getD-drop k m i 0 ∙ A .cells (k + i) (omega arith) ∙ sym (getD-drop k l i 0))
 
-  held-same : (r : ℕ) → roundOk r ≡ true → heldMask m r ≡ heldMask l r
+  held-same : (r : ℕ) → isRound r ≡ true → heldMask m r ≡ heldMask l r
   held-same r e = let h = round-range r e in A .masks r 0 (h .0) (h .1) (omega arith)
 
-  heard-same : (r : ℕ) → roundOk r ≡ true → heardMask m r ≡ heardMask l r
+  heard-same : (r : ℕ) → isRound r ≡ true → heardMask m r ≡ heardMask l r
   heard-same r e = let h = round-range r e in A .masks r 1 (h .0) (h .1) (omega arith)
 
-  votes-same : (r : ℕ) → roundOk r ≡ true → votesMask m r ≡ votesMask l r
+  votes-same : (r : ℕ) → isRound r ≡ true → votesMask m r ≡ votesMask l r
   votes-same r e = let h = round-range r e in A .masks r 2 (h .0) (h .1) (omega arith)
 
   vertex-same : (r p : ℕ) → vertices m r p ≡ vertices l r p
   unfolding vertices
   vertex-same r p =
       ap₂ (λ (b : Bool) (c : List ℕ). cond b (take 10 c) [])
-      (and-cong {a = roundOk r} refl (λ e. ap (λ (x : ℕ). has x p) (held-same r e))) (drop-same (cellAt r p) (omega arith))
+      (and-cong {a = isRound r} refl (λ e. ap (λ (x : ℕ). has x p) (held-same r e))) (drop-same (cellAt r p) (omega arith))
 
   pub vertices-same : vertices m ≡ vertices l
   vertices-same = records-ext (vertices m) (vertices l) vertex-same
 
   first-same : (r p : ℕ) → firsts m r p ≡ firsts l r p
   unfolding firsts
-  first-same r p = go (which (roundOk r))
+  first-same r p = go (which (isRound r))
     where
-      go : (roundOk r ≡ true) ⊎ (roundOk r ≡ false) → firsts m r p ≡ firsts l r p
+      go : (isRound r ≡ true) ⊎ (isRound r ≡ false) → firsts m r p ≡ firsts l r p
       go (inl e) = rw (heard-same r e, votes-same r e, A .members)
       go (inr e) = rw e
 
@@ -155,9 +154,8 @@ module _ (l : List ℕ) (y : ℕ) (size : length l ≡ 5864) (low : 16 ≤ y) (h
   unfolding marked
   marked-other r a b d = getD-set-other l (orderedAt (idRound y)) (orderedAt r) (add (orderedMask l (idRound y)) (idMember y)) 0 (λ e. d (omega arith))
 
-  round-y : roundOk (idRound y) ≡ true
-  unfolding roundOk
-  round-y = and-both (le-leb 1 (idRound y) (omega arith)) (le-leb (idRound y) 32 (omega arith))
+  round-y : isRound (idRound y) ≡ true
+  round-y = round-in (idRound y) (omega arith) (omega arith)
 
   same-member : (z : ℕ) → idRound z ≡ idRound y → eqb (idMember y) (idMember z) ≡ eqb y z
   same-member z s = bool-ext
@@ -166,11 +164,11 @@ module _ (l : List ℕ) (y : ℕ) (size : length l ≡ 5864) (low : 16 ≤ y) (h
 
   -- y is ordered then, and every other id as before
   pub entered-ordered : (z : ℕ) → orderedId (enter l y) z ≡ (orderedId l z || eqb y z)
-  entered-ordered z = go (which (roundOk (idRound z))) (which (eqb (idRound z) (idRound y)))
+  entered-ordered z = go (which (isRound (idRound z))) (which (eqb (idRound z) (idRound y)))
     where
-      go : (roundOk (idRound z) ≡ true) ⊎ (roundOk (idRound z) ≡ false) → (eqb (idRound z) (idRound y) ≡ true) ⊎ (eqb (idRound z) (idRound y) ≡ false)
+      go : (isRound (idRound z) ≡ true) ⊎ (isRound (idRound z) ≡ false) → (eqb (idRound z) (idRound y) ≡ true) ⊎ (eqb (idRound z) (idRound y) ≡ false)
           → orderedId (enter l y) z ≡ (orderedId l z || eqb y z)
-      go (inr e) d = rw e (sym (ne-eqb y z (λ s. never round-y (ap (λ (x : ℕ). roundOk (idRound x)) s ∙ e))))
+      go (inr e) d = rw e (sym (ne-eqb y z (λ s. never round-y (ap (λ (x : ℕ). isRound (idRound x)) s ∙ e))))
       go (inl e) (inl d) =
           let h = round-range (idRound z) e in
           let s : idRound z ≡ idRound y = eqb-true _ _ d in

@@ -10,7 +10,7 @@ use Rattle.record.specs.Below.{count}
 use Rattle.record.specs.Members.{idRound}
 use Rattle.record.proofs.Booleans.{which, and-left}
 use Rattle.record.proofs.Below.{count-cong}
-use Rattle.record.proofs.Turn.{round-range}
+use Rattle.record.proofs.Rounds.{round-range}
 use Rattle.protocol.specs.Journal.{idLimit, among}
 use Rattle.protocol.proofs.Lists.{once-length}
 use Rattle.replica.specs.State.{journalList, orderedId}

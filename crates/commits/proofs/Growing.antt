@@ -11,12 +11,11 @@ use lib.ListN.{length, getD, set, drop, length-append, length-drop, length-map}
 use lib.Seq.{lt-length-set, getD-set-same, getD-set-other, drop-set-lt, drop-set-add, take-suc-set}
 use borrow.Author.Tests.{eqb-true, eqb-false, eq-eqb, ne-eqb, not-true}
 use Rattle.record.specs.Below.{count, select}
-use Rattle.record.specs.Members.{legal, leader, has, add, idRound, idMember}
-use Rattle.record.specs.Questions.{roundOk}
+use Rattle.record.specs.Members.{legal, leader, has, add, idRound, idMember, isRound}
 use Rattle.record.proofs.Booleans.{which, never, and-left, and-right, or-cases, or-left, or-right, bool-ext}
 use Rattle.record.proofs.Below.{count-mono, count-cong, select-cong}
 use Rattle.record.proofs.Masks.{has-add, add-lt}
-use Rattle.record.proofs.Turn.{round-range}
+use Rattle.record.proofs.Rounds.{round-range, round-in}
 use Rattle.protocol.specs.Dag.{Records, held}
 use Rattle.protocol.specs.Paths.{history}
 use Rattle.protocol.specs.Chain.{leaderId}
@@ -30,7 +29,7 @@ use Rattle.replica.specs.Layout.{stateSize, orderedAt}
 use Rattle.replica.specs.State.{memberCount, committedRound, leaderCount, journalCount, orderedMask, leaderWord, journalWord, leaderList, journalList}
 use Rattle.replica.specs.State.{vertices, firsts, orderedId}
 use Rattle.replica.proofs.Formed.{WellFormed, leader-length, journal-length, leaders-few}
-use Rattle.replica.proofs.Dags.{round-ok, dag-well-formed}
+use Rattle.replica.proofs.Dags.{dag-well-formed}
 use Rattle.replica.proofs.Keeping.{Keeps, keeps-refl, keeps-trans, keeps-less, keeps-set, leader-list-kept, journal-list-kept, ordered-id-kept}
 use Rattle.commits.specs.Commit.{appendLeader, appendLeaders, enter, enterAll, orderLeader, orderLeaders, taken, commit}
 use Rattle.commits.specs.Standing.{Standing, Room}
@@ -142,7 +141,7 @@ module _ (l : List ℕ) (y : ℕ) (size : length l ≡ stateSize) (low : 1 ≤ i
 
   -- y is ordered besides
   pub enter-ordered : (z : ℕ) → orderedId (enter l y) z ≡ (orderedId l z || eqb y z)
-  enter-ordered z = go (which (roundOk (idRound z))) (which (eqb (idRound y) (idRound z)))
+  enter-ordered z = go (which (isRound (idRound z))) (which (eqb (idRound y) (idRound z)))
     where
       members : idRound y ≡ idRound z → eqb (idMember y) (idMember z) ≡ eqb y z
       members e = bool-ext (λ d. eq-eqb y z (omega (arith, eqb-true (idMember y) (idMember z) d))) (λ d. eq-eqb (idMember y) (idMember z)
@@ -151,9 +150,9 @@ module _ (l : List ℕ) (y : ℕ) (size : length l ≡ stateSize) (low : 1 ≤ i
       apart : (idRound y ≡ idRound z → ⊥) → eqb y z ≡ false
       apart h = ne-eqb y z (λ e. h (ap idRound e))
 
-      go : (roundOk (idRound z) ≡ true) ⊎ (roundOk (idRound z) ≡ false) → (eqb (idRound y) (idRound z) ≡ true) ⊎ (eqb (idRound y) (idRound z) ≡ false)
+      go : (isRound (idRound z) ≡ true) ⊎ (isRound (idRound z) ≡ false) → (eqb (idRound y) (idRound z) ≡ true) ⊎ (eqb (idRound y) (idRound z) ≡ false)
           → orderedId (enter l y) z ≡ (orderedId l z || eqb y z)
-      go (inr e) d = rw e (sym (apart (λ q. never (round-ok (idRound y) low high) (ap roundOk q ∙ e))))
+      go (inr e) d = rw e (sym (apart (λ q. never (round-in (idRound y) low high) (ap isRound q ∙ e))))
       go (inl e) (inl d) =
           let q = eqb-true (idRound y) (idRound z) d in
           rw e (ap (λ (r : ℕ). has (orderedMask (enter l y) r) (idMember z)) (sym q) ∙ ap (λ (m : ℕ). has m (idMember z)) mask-here

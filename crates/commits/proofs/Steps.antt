@@ -3,19 +3,18 @@ use mathlib.Core.Path.{_≡_, refl, sym, ap, _∙_}
 use mathlib.Core.Bool.{Bool, true, false, not, or-false}
 use mathlib.Core.Logic.{_⊎_, inl, inr}
 use mathlib.Core.List.{List, [], _∷_, _++_, append-nil}
-use Prim.Native.Nat.{ℕ, zero, suc, _+_, _-_, _/_, _≤_, _<_}
+use Prim.Native.Nat.{ℕ, zero, suc, _+_, _-_, _≤_, _<_}
 use native.Mathlib.Nat.{add-zero, add-suc, eq-or-lt-of-le, le-of-suc-le-suc}
 use native.Mathlib.Numerals.{add-one, sub-one}
 use native.Mathlib.Omega.{arith}
 use lib.Dec.{leb}
 use lib.ListN.{getD, set, take, drop, length, length-append, length-set, length-drop}
 use lib.Seq.{getD-set-same, getD-set-other}
-use borrow.Author.Tests.{lt-ltb, le-ltb, le-leb, lt-leb, eq-eqb}
+use borrow.Author.Tests.{lt-ltb, le-ltb, le-leb, eq-eqb}
 use Rattle.record.specs.Below.{count, select}
-use Rattle.record.specs.Members.{quorum, leader, has, add, with, meets, idOf, idMember}
+use Rattle.record.specs.Members.{quorum, leader, has, add, with, meets, idOf, idMember, isRound}
 use Rattle.record.specs.declared.members.Members.{Members}
 use Rattle.record.specs.Layout.{strongOf}
-use Rattle.record.specs.Questions.{roundOk}
 use Rattle.record.proofs.Booleans.{which, never, and-both, and-fails-left, and-fails-right, or-right, cond-true, cond-false}
 use Rattle.record.proofs.Below.{count-cong, count-le, count-more, count-same}
 use Rattle.record.proofs.Below as below
@@ -30,7 +29,7 @@ use Rattle.replica.specs.State.{memberCount, committedRound, leaderCount, journ
 use Rattle.replica.specs.State.{firsts, dag, orderedId}
 use Rattle.replica.specs.WellFormed.{subset}
 use Rattle.replica.proofs.Laws.{subset-has}
-use Rattle.replica.proofs.Parents.{round-in}
+use Rattle.record.proofs.Rounds.{round-in, id-low}
 use Rattle.commits.specs.Commit.{appendLeader, appendLeaders, enter, enterAll, committable}
 use Rattle.commits.specs.Standing.{Standing, Room, LeaderRoom, orderId, orderRound}
 use Rattle.commits.proofs.Laws.{Cell}
@@ -201,8 +200,7 @@ count-but (suc k) t y l e = go (which (t k)) (eq-or-lt-of-le (le-of-suc-le-suc l
 
 -- ids below 16 have round 0, so none is ordered
 low-out : (l : List ℕ) (y : ℕ) → y < 16 → orderedId l y ≡ false
-unfolding roundOk
-low-out l y h = and-fails-left _ (and-fails-left _ (lt-leb 1 (y / 16) (omega arith)))
+low-out l y h = and-fails-left _ (id-low y h)
 
 count-add : (j k : ℕ) (t : ℕ → Bool) → count (j + k) t ≡ count j t + count k (λ i. t (j + i))
 unfolding count
@@ -232,7 +230,7 @@ pub first-votes : (l : List ℕ) → Standing l → (n q p : ℕ) → n ≡ memb
 unfolding firsts strongOf
 first-votes l S n q p e low high = go (which (has (votesMask l (suc q)) p)) (which (has (heardMask l (suc q)) p))
   where
-    in′ : roundOk (suc q) ≡ true
+    in′ : isRound (suc q) ≡ true
     in′ = round-in (suc q) (omega arith) (omega arith)
 
     go : (has (votesMask l (suc q)) p ≡ true) ⊎ (has (votesMask l (suc q)) p ≡ false)

@@ -5,12 +5,12 @@ use Prim.Native.Nat.{ℕ, zero, suc, _+_}
 use lib.Dec.{leb, ltb}
 use lib.ListN.{getD, set}
 use Rattle.record.specs.Below.{select, least}
-use Rattle.record.specs.Members.{leader, has, add, meets, idRound, idMember}
+use Rattle.record.specs.Members.{rounds, leader, has, add, meets, idRound, idMember}
 use Rattle.protocol.specs.Dag.{Records, committed}
 use Rattle.protocol.specs.Paths.{history}
 use Rattle.protocol.specs.Chain.{chain, leaderId}
 use Rattle.protocol.specs.Journal.{idLimit}
-use Rattle.replica.specs.Layout.{rounds, currentRoundAt, committedRoundAt, leaderCountAt, journalCountAt, orderedAt, leadersAt, journalAt}
+use Rattle.replica.specs.Layout.{currentRoundAt, committedRoundAt, leaderCountAt, journalCountAt, orderedAt, leadersAt, journalAt}
 use Rattle.replica.specs.State.{memberCount, currentRound, committedRound, leaderCount, journalCount, heldMask, timeoutsMask, orderedMask, vertices, dag, orderedId}
 
 -- ---- the round rule

@@ -6,9 +6,9 @@ ghost use Rattle.replica.specs.Layout.{stateSize};
 ghost use Rattle.replica.specs.State.{memberCount};
 ghost use Rattle.commits.specs.Commit.{passable, highestPassable, raiseRound};
 use record::members::Members;
+use record::members::ROUNDS;
 use record::members::leader_of;
 use replica::layout::CURRENT_ROUND;
-use replica::layout::ROUNDS;
 use replica::layout::held_mask;
 use replica::layout::timeouts_mask;
 

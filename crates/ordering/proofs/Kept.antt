@@ -8,14 +8,13 @@ use native.Mathlib.Omega.{arith}
 use lib.Dec.{eqb, leb, ltb}
 use lib.ListN.{length}
 use borrow.Author.Tests.{eqb-true, eq-eqb, leb-true, ltb-true}
-use Rattle.record.specs.Members.{leader, has, idOf, idRound, idMember}
+use Rattle.record.specs.Members.{leader, has, idOf, idRound, idMember, isRound}
 use Rattle.record.specs.Refusals.{numberOf, firstNo}
-use Rattle.record.specs.Questions.{roundOk}
 use Rattle.record.specs.declared.refusal.Refusal.{Refusal}
 use Rattle.record.proofs.Booleans.{which, and-left, and-right, and-both, or-cases, or-left, or-right}
 use Rattle.record.proofs.Below.{least-sat}
 use Rattle.record.proofs.Masks.{leader-lt, has-bound}
-use Rattle.record.proofs.Turn.{round-range}
+use Rattle.record.proofs.Rounds.{round-in}
 use Rattle.protocol.specs.Dag.{held, committed}
 use Rattle.protocol.specs.Chain.{walk, leaderId}
 use Rattle.protocol.specs.Journal.{among}
@@ -30,7 +29,7 @@ use Rattle.replica.specs.State.{heldId, orderedId}
 use Rattle.replica.specs.WellFormed.{wellFormed}
 use Rattle.replica.specs.Outcome.{outcome}
 use Rattle.replica.proofs.Formed.{WellFormed, Leaders, Journal, Led, led-append, led-more, formed, well-formed}
-use Rattle.replica.proofs.Dags.{round-ok, held-id, in-mask}
+use Rattle.replica.proofs.Dags.{held-id, in-mask}
 use Rattle.replica.proofs.Keeping.{Keeps, front-kept, masks-kept, cells-kept, held-kept, held-id-kept}
 use Rattle.commits.specs.Commit.{taken, commit, committable, lowest, commitUpTo, commitAll, raiseRound}
 use Rattle.ordering.specs.Calls.{putVertex, hear, takeBody, takeFirstBody, takeTimeout, takeNoVote, placeQuestions, vertexQuestions, firstQuestions}
@@ -125,10 +124,10 @@ module _ (l : List ℕ) (S : WellFormed l) (q : ℕ) (above : committedRound l <
         where
           was : p < 16 → has (heldMask l r) p ≡ true
           was k =
-              let t : orderedId (commit l q) (idOf r p) ≡ true = rw (id-round r p k, id-member r p k) (and-both (round-ok r a b) e) in
+              let t : orderedId (commit l q) (idOf r p) ≡ true = rw (id-round r p k, id-member r p k) (and-both (round-in r a b) e) in
               ⊎-elim
               (λ d. S .journal .ordered-held r p a b (rw (id-round r p k, id-member r p k) at
-              (and-right (roundOk (idRound (idOf r p))) (has (orderedMask l (idRound (idOf r p))) (idMember (idOf r p))) d)))
+              (and-right (isRound (idRound (idOf r p))) (has (orderedMask l (idRound (idOf r p))) (idMember (idOf r p))) d)))
               (λ d. rw (id-round r p k, id-member r p k) at (in-mask l (S .size) (idRound (idOf r p)) (idMember (idOf r p)) (C .named (idOf r p) d .there) .2))
               (or-cases (orderedId l (idOf r p)) (among (C .ids) (idOf r p)) (sym (C .ordered (idOf r p)) ∙ t))
 

@@ -9,13 +9,14 @@ use lib.Dec.{eqb, ltb}
 use lib.ListN.{length, getD, set, take, drop, length-set}
 use lib.Seq.{getD-set-same, getD-set-other, paste, length-paste}
 use borrow.Author.Tests.{eqb-true, eqb-false, eq-eqb, ltb-true, ltb-false}
-use Rattle.record.specs.Members.{legal, leader, has, add, idRound, idMember}
+use Rattle.record.specs.Members.{legal, leader, has, add, idRound, idMember, isRound}
 use Rattle.record.specs.Refusals.{numberOf}
-use Rattle.record.specs.Questions.{roundOk, bodyRefusal}
+use Rattle.record.specs.Questions.{bodyRefusal}
 use Rattle.record.specs.Admitted.{Admitted}
 use Rattle.record.proofs.Booleans.{which, never, and-left, and-right, and-both, or-cases, or-left, or-right}
 use Rattle.record.proofs.Masks.{has-zero, has-add, add-lt}
-use Rattle.record.proofs.Turn.{round-range, admitted}
+use Rattle.record.proofs.Turn.{admitted}
+use Rattle.record.proofs.Rounds.{round-range}
 use Rattle.protocol.specs.Dag.{votes}
 use Rattle.replica.specs.Layout.{masksAt, heldAt, heardAt, votesAt, timeoutsAt, noVotesAt, cellAt}
 use Rattle.replica.specs.State.{memberCount, currentRound, heldMask, heardMask, votesMask, cell, heldId}
@@ -305,9 +306,9 @@ module _ (l : List ℕ) (S : WellFormed l) (r p : ℕ) (body : List ℕ) (ok : n
 
   put-id : (y : ℕ) → heldId l y ≡ true → heldId (putVertex l r p body) y ≡ true
   put-id y e =
-      let t : roundOk (idRound y) ≡ true = and-left _ _ e in
+      let t : isRound (idRound y) ≡ true = and-left _ _ e in
       let w = round-range (idRound y) t in
-      and-both t (put-more (idRound y) (idMember y) (w .0) (w .1) (and-right (roundOk (idRound y)) _ e))
+      and-both t (put-more (idRound y) (idMember y) (w .0) (w .1) (and-right (isRound (idRound y)) _ e))
 
   members : memberCount (putVertex l r p body) ≡ memberCount l
   unfolding OffVertex

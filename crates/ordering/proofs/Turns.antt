@@ -4,21 +4,22 @@ use mathlib.Core.Bool.{true, false, not}
 use mathlib.Core.List.{List, [], _∷_, _++_}
 use Prim.Native.Nat.{ℕ, _+_, _≤_, _<_}
 use native.Mathlib.Omega.{arith}
-use lib.Dec.{leb, ltb}
+use lib.Dec.{ltb}
 use lib.ListN.{length, take, drop, length-drop}
 use lib.Seq.{take-all}
-use borrow.Author.Tests.{eqb-false, eq-eqb, ne-eqb, lt-ltb, le-ltb, lt-leb, ltb-true}
+use borrow.Author.Tests.{eqb-false, eq-eqb, ne-eqb, lt-ltb, le-ltb, ltb-true}
 use Rattle.record.specs.Below.{least}
-use Rattle.record.specs.Members.{legal, has}
+use Rattle.record.specs.Members.{legal, has, isRound}
 use Rattle.record.specs.Refusals.{numberOf, Question, firstNo}
 use Rattle.record.specs.Layout.{roundOf, sourceOf, bodyOf}
-use Rattle.record.specs.Questions.{roundOk, recordQuestions, bodyRefusal, recordRefusal}
+use Rattle.record.specs.Questions.{recordQuestions, bodyRefusal, recordRefusal}
 use Rattle.record.specs.declared.refusal.Refusal.{Refusal}
 use Rattle.record.specs.declared.refusal.Refusal.the-variants.{None, Round, Source, Duplicate, Conflict, MissingParent}
 use Rattle.record.proofs.Booleans.{and-both, and-fails-left, and-fails-right}
 use Rattle.record.proofs.Below.{any-intro, any-false, least-sat, least-off}
 use Rattle.record.proofs.Masks.{legal-range}
-use Rattle.record.proofs.Turn.{next, stop, done, both-yes, round-range}
+use Rattle.record.proofs.Turn.{next, stop, done, both-yes}
+use Rattle.record.proofs.Rounds.{round-in, round-range, round-below, round-above}
 use Rattle.record.proofs.Turn as turn
 use Rattle.protocol.specs.Journal.{idLimit}
 use Rattle.replica.specs.Layout.{stateSize}
@@ -28,7 +29,6 @@ use Rattle.replica.specs.Outcome.{told, refusedBy, admitted, outcome}
 use Rattle.replica.specs.Status.{stateQuestions}
 use Rattle.replica.proofs.StatusLaws.{numbered, front-no, front-yes, both-fronts, state-numbered, state-ok}
 use Rattle.replica.proofs.Formed.{WellFormed, formed}
-use Rattle.replica.proofs.Parents.{round-in}
 use Rattle.record.specs.Admitted.{Admitted}
 use Rattle.ordering.specs.Calls.{sameBody, placeQuestions, noteQuestions}
 
@@ -146,15 +146,6 @@ heard-before mask p h = stop _ _ (ap not h)
 pub heard-first : (mask p : ℕ) → has mask p ≡ false → None ≡ firstNo ((not (has mask p), Duplicate) ∷ [])
 heard-first mask p h = next _ _ (ap not h) done
 
--- rounds that are none
-round-below : (r : ℕ) → r < 1 → roundOk r ≡ false
-unfolding roundOk
-round-below r h = and-fails-left _ (lt-leb 1 r h)
-
-round-above : (r : ℕ) → 32 < r → roundOk r ≡ false
-unfolding roundOk
-round-above r h = and-fails-right (leb 1 r) (lt-leb r 32 h)
-
 -- what is known of a note where the state's questions are passed: what still refuses it, and that nothing else does
 pub record NoteKnown (l : List ℕ) (r p mask : ℕ) : Type 0 where
   pub size : length l ≡ stateSize
@@ -170,7 +161,7 @@ module _ (l : List ℕ) (r p mask : ℕ) (why : Refusal) (e : why ≡ firstNo (s
   note-state x f h = e ∙ front-no (stateQuestions l) _ (λ d. h (f ∙ ap numberOf e ∙ d))
 
   past-note : (s : Refusal) → numberOf why ≡ 0
-      → s ≡ firstNo ((roundOk r, Round) ∷ (ltb p (memberCount l), Source) ∷ (not (has mask p), Duplicate) ∷ [])
+      → s ≡ firstNo ((isRound r, Round) ∷ (ltb p (memberCount l), Source) ∷ (not (has mask p), Duplicate) ∷ [])
       → s ≡ firstNo (noteQuestions l r p mask)
   past-note s h d = d ∙ front-yes (stateQuestions l) _ (state-numbered l) (sym (ap numberOf e) ∙ h)
 
@@ -178,7 +169,7 @@ module _ (l : List ℕ) (r p mask : ℕ) (why : Refusal) (e : why ≡ firstNo (s
     state-yes : numberOf why ≡ 0
     state-yes = sym f ∙ z
 
-    round-no : roundOk r ≡ false → Round ≡ firstNo (noteQuestions l r p mask)
+    round-no : isRound r ≡ false → Round ≡ firstNo (noteQuestions l r p mask)
     round-no a = past-note Round state-yes (stop _ _ a)
 
     round-yes : 1 ≤ r → r ≤ 32 → (s : Refusal) → s ≡ firstNo ((ltb p (memberCount l), Source) ∷ (not (has mask p), Duplicate) ∷ [])

@@ -9,17 +9,15 @@ use lib.Dec.{eqb, ltb}
 use lib.ListN.{length, getD, set, take, drop, length-set}
 use lib.Seq.{getD-set-same, getD-set-other, paste, length-paste}
 use borrow.Author.Tests.{eqb-true, eqb-false, eq-eqb, ltb-true, ltb-false}
-use Rattle.record.specs.Members.{leader, has, add}
+use Rattle.record.specs.Members.{leader, has, add, isRound}
 use Rattle.record.specs.Layout.{strongOf}
-use Rattle.record.specs.Questions.{roundOk}
 use Rattle.record.proofs.Booleans.{which, never, and-left, and-right, and-both, and-cong, cond-true, cond-cong}
 use Rattle.record.proofs.Masks.{has-add, has-add-same, has-zero, has-one, has-bound}
-use Rattle.record.proofs.Turn.{round-range}
+use Rattle.record.proofs.Rounds.{round-range, round-in}
 use Rattle.protocol.specs.Dag.{present, votes}
 use Rattle.replica.specs.Layout.{masksAt, heldAt, heardAt, votesAt, cellAt}
 use Rattle.replica.specs.State.{memberCount, currentRound, committedRound, leaderCount, journalCount, heldMask, heardMask, votesMask, leaderList}
 use Rattle.replica.specs.State.{journalList, cell, vertices, firsts}
-use Rattle.replica.proofs.Parents.{round-in}
 use Rattle.replica.proofs.Keeping.{Keeps, keeps-part, vertices-kept}
 use Rattle.commits.specs.Commit.{highestPassable, raiseRound}
 use Rattle.ordering.specs.Calls.{addMember, putVertex, hear}
@@ -100,8 +98,8 @@ firsts-by : (l m : List ℕ) → memberCount m ≡ memberCount l → (s q : ℕ)
     → (1 ≤ s → s ≤ 32 → has (votesMask m s) q ≡ has (votesMask l s) q) → firsts m s q ≡ firsts l s q
 unfolding firsts
 firsts-by l m members s q heard voted = cond-cong
-    (and-cong {a = roundOk s} refl (λ e. let w = round-range s e in heard (w .0) (w .1)))
-    (λ e. let w = round-range s (and-left (roundOk s) _ e) in
+    (and-cong {a = isRound s} refl (λ e. let w = round-range s e in heard (w .0) (w .1)))
+    (λ e. let w = round-range s (and-left (isRound s) _ e) in
     ap₂ (λ (n : ℕ) (b : Bool). cond b (2 ^ leader n (s - 1)) 0 ∷ []) members (voted (w .0) (w .1))) refl
 
 -- ---- the round rule, and a note
@@ -218,7 +216,7 @@ module _ (l : List ℕ) (r p : ℕ) (body : List ℕ) (size : length l ≡ 5864)
           (λ a b. ap (λ (m : ℕ). has m q) (heard-word (votesAt s) (λ t. omega arith) (λ t. apart (omega arith))))
 
   -- its bit is set
-  in-round : (roundOk r && has (heardMask (hear l r p body) r) p) ≡ true
+  in-round : (isRound r && has (heardMask (hear l r p body) r) p) ≡ true
   in-round = and-both (round-in r low high) (ap (λ (m : ℕ). has m p) heard-mask ∙ has-add-same (heardMask l r) p)
 
   -- what is kept of it
@@ -326,7 +324,7 @@ module _ (l : List ℕ) (r p : ℕ) (body : List ℕ) (size : length l ≡ 5864)
   pub put-other : ((s : ℕ) → 1 ≤ s → s ≤ 32 → heldMask l s < 2 ^ 16) → (s q : ℕ) → (eqb r s && eqb p q) ≡ false
       → vertices (putVertex l r p body) s q ≡ vertices l s q
   unfolding vertices
-  put-other small s q e = cond-cong (and-cong {a = roundOk s} refl (λ d. let w = round-range s d in bit (w .0) (w .1) (which (eqb r s))))
+  put-other small s q e = cond-cong (and-cong {a = isRound s} refl (λ d. let w = round-range s d in bit (w .0) (w .1) (which (eqb r s))))
       (λ d. same d) refl
     where
       bit : 1 ≤ s → s ≤ 32 → (eqb r s ≡ true) ⊎ (eqb r s ≡ false) → has (heldMask (putVertex l r p body) s) q ≡ has (heldMask l s) q
@@ -339,9 +337,9 @@ module _ (l : List ℕ) (r p : ℕ) (body : List ℕ) (size : length l ≡ 5864)
           let h : r ≡ s → ⊥ = eqb-false r s d in
           ap (λ (m : ℕ). has m q) (put-before (heldAt s) (omega arith) ∙ mark-other (heldAt s) (λ t. h (omega arith)))
 
-      same : (roundOk s && has (heldMask (putVertex l r p body) s) q) ≡ true → cell (putVertex l r p body) s q ≡ cell l s q
+      same : (isRound s && has (heldMask (putVertex l r p body) s) q) ≡ true → cell (putVertex l r p body) s q ≡ cell l s q
       same d =
-          let w = round-range s (and-left (roundOk s) _ d) in
-          let k : q < 16 = has-bound 16 (heldMask l s) q (small s (w .0) (w .1)) (sym (bit (w .0) (w .1) (which (eqb r s))) ∙ and-right (roundOk s) _ d) in
+          let w = round-range s (and-left (isRound s) _ d) in
+          let k : q < 16 = has-bound 16 (heldMask l s) q (small s (w .0) (w .1)) (sym (bit (w .0) (w .1) (which (eqb r s))) ∙ and-right (isRound s) _ d) in
           part-same l (putVertex l r p body) (cellAt s q) 10 put-size (λ j a b. put-off j (omega arith) (λ x y. never (and-both
           (eq-eqb r s (omega arith)) (eq-eqb p q (omega arith))) e))

@@ -12,13 +12,14 @@ use Rattle.record.specs.Below.{all, count}
 use Rattle.record.specs.Members.{faulty, quorum, leader, has, within, meets, idRound, idMember}
 use Rattle.record.specs.Refusals.{numberOf, Question, firstNo}
 use Rattle.record.specs.Layout.{strongOf, timeoutsOf, noVotesOf, weakCountOf, weakOf}
-use Rattle.record.specs.Questions.{roundOk, masksOk, strongOk, lacksLeader, quorumIf, timeoutsOk, noVotesOk, weakIdOk, rises, slotOk, weakOk}
+use Rattle.record.specs.Questions.{masksOk, strongOk, lacksLeader, quorumIf, timeoutsOk, noVotesOk, weakIdOk, rises, slotOk, weakOk}
 use Rattle.record.specs.Questions.{recordQuestions, bodyRefusal}
 use Rattle.record.specs.Admitted.{Admitted, AdmittedLaw}
 use Rattle.record.specs.declared.refusal.Refusal.{Refusal}
 use Rattle.record.specs.declared.refusal.Refusal.the-variants.{None}
 use Rattle.record.proofs.Booleans.{which, and-left, and-right, and-both, cond-true, cond-false}
 use Rattle.record.proofs.Below.{all-elim}
+use Rattle.record.proofs.Rounds.{round-in, round-range}
 use Rattle.record.proofs.Masks.{within-lt, meets-count}
 
 -- ---- the first no
@@ -41,13 +42,9 @@ done = refl
 -- where questions 4 to 6 are answered yes, those from 7 on decide
 pub known : (n round source : ℕ) (body : List ℕ) {r : Refusal} → 1 ≤ round → round ≤ 32 → source < n → length body ≡ 10
     → r ≡ firstNo (drop 3 (recordQuestions n round source body)) → r ≡ bodyRefusal n round source body
-unfolding bodyRefusal roundOk
+unfolding bodyRefusal
 known n round source body l h k e d =
-    next _ _ (eq-eqb _ _ e) (next _ _ (and-both (le-leb 1 round l) (le-leb round 32 h)) (next _ _ (lt-ltb source n k) d))
-
-pub round-range : (round : ℕ) → roundOk round ≡ true → (1 ≤ round) × (round ≤ 32)
-unfolding roundOk
-round-range round e = (leb-true _ _ (and-left (leb 1 round) _ e), leb-true _ _ (and-right (leb 1 round) _ e))
+    next _ _ (eq-eqb _ _ e) (next _ _ (round-in round l h) (next _ _ (lt-ltb source n k) d))
 
 -- question 10's mask, where the source leads its round and where not
 pub wanted-leading : (n : ℕ) (lack leads : Bool) (mask : ℕ) → leads ≡ true → quorumIf n lack mask ≡ quorumIf n (lack && leads) mask

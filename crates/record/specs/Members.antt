@@ -1,10 +1,21 @@
--- The group: its n members, quorums, leaders, masks of members, and the ids of vertices.
+-- The group: its rounds, its n members, quorums, leaders, masks of members, and the ids of vertices.
 use mathlib.Core.Bool.{Bool, _&&_}
 use Prim.Native.Nat.{ℕ, _+_, _-_, _*_, _/_, _%_, _^_}
 use lib.Bits.{bitOr}
 use lib.Count.{ones}
 use lib.Dec.{eqb, leb, ltb}
 use Rattle.record.specs.declared.members.Members.{Members}
+
+-- the rounds of a group are 1 to 32
+abbrev pub rounds : ℕ
+rounds = 32
+
+unfoldable pub isRound : ℕ → Bool
+isRound r = leb 1 r && leb r rounds
+
+-- the ids of a round: as many as the largest group has members
+abbrev pub slots : ℕ
+slots = 16
 
 -- n is 4, 7, 10, 13 or 16
 unfoldable pub legal : ℕ → Bool
@@ -44,10 +55,10 @@ with m p = record { bits = add (m .bits) p; n = m .n }
 
 -- the id (01: ref) of the vertex of round r and member p, and its round and member
 abbrev pub idOf : ℕ → ℕ → ℕ
-idOf r p = 16 * r + p
+idOf r p = slots * r + p
 
 abbrev pub idRound : ℕ → ℕ
-idRound x = x / 16
+idRound x = x / slots
 
 abbrev pub idMember : ℕ → ℕ
-idMember x = x % 16
+idMember x = x % slots

@@ -5,16 +5,12 @@ use Prim.Native.Nat.{ℕ, _+_, _-_}
 use lib.Dec.{eqb, leb, ltb}
 use lib.ListN.{length}
 use Rattle.record.specs.Below.{all}
-use Rattle.record.specs.Members.{faulty, leader, has, within, meets, idRound, idMember}
+use Rattle.record.specs.Members.{isRound, faulty, leader, has, within, meets, idRound, idMember}
 use Rattle.record.specs.Refusals.{Question, firstNo}
 use Rattle.record.specs.Layout.{bodySize, weakSlots, roundOf, sourceOf, bodyOf, strongOf, timeoutsOf, noVotesOf, weakCountOf, weakOf}
 use Rattle.record.specs.declared.questions.Terms.{Terms}
 use Rattle.record.specs.declared.refusal.Refusal.{Refusal}
 use Rattle.record.specs.declared.refusal.Refusal.the-variants.{RecordSize, Round, Source, MaskBits, Strong, Timeouts, NoVotes, Weak}
-
--- 5: the round is 1 to 32
-unfoldable pub roundOk : ℕ → Bool
-roundOk round = leb 1 round && leb round 32
 
 -- 7: no mask has a bit at n or above
 unfoldable pub masksOk : ℕ → List ℕ → Bool
@@ -65,7 +61,7 @@ weakOk n round body = leb (weakCountOf body) (faulty n) && all weakSlots (slotOk
 abbrev pub recordQuestions : ℕ → ℕ → ℕ → List ℕ → List Question
 recordQuestions n round source body =
     (eqb (length body) bodySize, RecordSize)
-    ∷ (roundOk round, Round)
+    ∷ (isRound round, Round)
     ∷ (ltb source n, Source)
     ∷ (masksOk n body, MaskBits)
     ∷ (strongOk n round (strongOf body), Strong)

@@ -1,12 +1,27 @@
-// Masks of members, quorums and leaders.
+// Rounds, masks of members, quorums and leaders.
 ghost use mathlib.Core.Path.{_≡_};
 ghost use Prim.Native.Nat.{ℕ, _<_, _≤_, _^_};
-ghost use Rattle.record.specs.Members.{legal, faulty, quorum, leader, has, within, meets, with};
+ghost use Rattle.record.specs.Members.{isRound, legal, faulty, quorum, leader, has, within, meets, with};
+
+pub const ROUNDS: u32 = 32;
+
+// The ids of a round.
+pub const SLOTS: u32 = 16;
 
 // A mask of members of a group of n.
 pub struct Members {
     pub bits: u32,
     pub n: u32,
+}
+
+// The round is 1 to 32.
+pub fn is_round(round: u32) -> bool
+    ensures { λ r. ⌜ r ≡ isRound round ⌝ }
+{
+    if round < 1 {
+        return false;
+    }
+    round <= ROUNDS
 }
 
 // n is 4, 7, 10, 13 or 16.

@@ -5,7 +5,7 @@ ghost use Prim.Native.Nat.{_<_, _≤_};
 ghost use lib.Dec.{eqb};
 ghost use lib.ListN.{length};
 ghost use Rattle.record.specs.Members.{within, meets};
-ghost use Rattle.record.specs.Questions.{roundOk, strongOk, lacksLeader, quorumIf, masksAdmitted, weakIdOk, rises, slotOk, weakOk, bodyRefusal, recordRefusal, termsOf};
+ghost use Rattle.record.specs.Questions.{strongOk, lacksLeader, quorumIf, masksAdmitted, weakIdOk, rises, slotOk, weakOk, bodyRefusal, recordRefusal, termsOf};
 use super::layout::BODY;
 use super::layout::BODY_SIZE;
 use super::layout::NO_VOTES;
@@ -20,6 +20,7 @@ use super::layout::WEAK_SLOTS;
 use super::layout::wide;
 use super::members::Members;
 use super::members::faulty_of;
+use super::members::is_round;
 use super::members::is_within;
 use super::members::leader_of;
 use super::refusal::Refusal;
@@ -49,16 +50,6 @@ pub fn terms_of(n: u32, round: u32) -> Terms
         previous,
         leader,
     }
-}
-
-// 5
-fn round_ok(round: u32) -> bool
-    ensures { λ r. ⌜ r ≡ roundOk round ⌝ }
-{
-    if round < 1 {
-        return false;
-    }
-    round <= 32
 }
 
 // 7
@@ -239,7 +230,7 @@ pub fn check_body(n: u32, round: u32, source: u32, body: &[u32]) -> Refusal
     if body.len() != BODY_SIZE {
         return Refusal::RecordSize;
     }
-    if !round_ok(round) {
+    if !is_round(round) {
         return Refusal::Round;
     }
     if n <= source {

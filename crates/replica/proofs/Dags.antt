@@ -10,15 +10,15 @@ use native.Mathlib.Omega.{arith}
 use lib.Dec.{eqb}
 use lib.ListN.{length, getD, drop}
 use lib.Seq.{getD-drop, getD-take}
-use borrow.Author.Tests.{le-leb, eq-eqb, not-true}
-use Rattle.record.specs.Members.{leader, has, idOf, idRound, idMember}
+use borrow.Author.Tests.{eq-eqb, not-true}
+use Rattle.record.specs.Members.{leader, has, idOf, idRound, idMember, isRound}
 use Rattle.record.specs.Layout.{strongOf, weakCountOf, weakOf}
-use Rattle.record.specs.Questions.{roundOk}
 use Rattle.record.specs.Admitted.{Admitted}
 use Rattle.record.proofs.Booleans.{which, never, and-left, and-right, and-both, or-left, or-right}
 use Rattle.record.proofs.Below.{any-intro, any-off}
 use Rattle.record.proofs.Masks.{has-zero, has-one, has-bound}
-use Rattle.record.proofs.Turn.{round-range, admitted}
+use Rattle.record.proofs.Turn.{admitted}
+use Rattle.record.proofs.Rounds.{round-in, round-range}
 use Rattle.protocol.specs.Dag.{present, held, votes}
 use Rattle.protocol.specs.Journal.{idLimit}
 use Rattle.protocol.specs.Premises.{ValidVertices}
@@ -28,11 +28,6 @@ use Rattle.replica.specs.Layout.{stateSize, cellAt}
 use Rattle.replica.specs.State.{memberCount, heldMask, heardMask, votesMask, cell, vertices, firsts, heldId}
 use Rattle.replica.specs.Parents.{isParent, missing, parentsHeld}
 use Rattle.replica.proofs.Formed.{WellFormed, length-part}
-
--- a round from 1 to 32
-pub round-ok : (r : ℕ) → 1 ≤ r → r ≤ 32 → roundOk r ≡ true
-unfolding roundOk
-round-ok r a b = and-both (le-leb 1 r a) (le-leb r 32 b)
 
 -- ---- the vertices
 
@@ -47,12 +42,12 @@ module _ (l : List ℕ) (size : length l ≡ stateSize) where
   cell-length r p a b k = length-part l (cellAt r p) 10 (omega arith)
 
   -- exactly the members of the held masks have a vertex
-  pub held-vertex : (r p : ℕ) → p < 16 → held (vertices l) r p ≡ (roundOk r && has (heldMask l r) p)
+  pub held-vertex : (r p : ℕ) → p < 16 → held (vertices l) r p ≡ (isRound r && has (heldMask l r) p)
   unfolding vertices
-  held-vertex r p k = go (which (roundOk r && has (heldMask l r) p))
+  held-vertex r p k = go (which (isRound r && has (heldMask l r) p))
     where
-      go : ((roundOk r && has (heldMask l r) p) ≡ true) ⊎ ((roundOk r && has (heldMask l r) p) ≡ false)
-          → held (vertices l) r p ≡ (roundOk r && has (heldMask l r) p)
+      go : ((isRound r && has (heldMask l r) p) ≡ true) ⊎ ((isRound r && has (heldMask l r) p) ≡ false)
+          → held (vertices l) r p ≡ (isRound r && has (heldMask l r) p)
       go (inl e) =
           let w = round-range r (and-left _ _ e) in
           rw e (some-words (cell l r p) (omega (arith, cell-length r p (w .0) (w .1) k)))
@@ -65,19 +60,19 @@ module _ (l : List ℕ) (size : length l ≡ stateSize) where
   -- the words of a vertex in its cell
   pub vertex-cell : (r p : ℕ) → held (vertices l) r p ≡ true → vertices l r p ≡ cell l r p
   unfolding vertices
-  vertex-cell r p h = go (which (roundOk r && has (heldMask l r) p))
+  vertex-cell r p h = go (which (isRound r && has (heldMask l r) p))
     where
-      go : ((roundOk r && has (heldMask l r) p) ≡ true) ⊎ ((roundOk r && has (heldMask l r) p) ≡ false) → vertices l r p ≡ cell l r p
+      go : ((isRound r && has (heldMask l r) p) ≡ true) ⊎ ((isRound r && has (heldMask l r) p) ≡ false) → vertices l r p ≡ cell l r p
       go (inl e) = rw e
       go (inr e) = never h (rw e)
 
   -- a vertex is of a round from 1 to 32, and in the held mask
   pub in-mask : (r p : ℕ) → held (vertices l) r p ≡ true → (1 ≤ r) × (r ≤ 32) × (has (heldMask l r) p ≡ true)
   unfolding vertices
-  in-mask r p h = go (which (roundOk r && has (heldMask l r) p))
+  in-mask r p h = go (which (isRound r && has (heldMask l r) p))
     where
-      go : ((roundOk r && has (heldMask l r) p) ≡ true) ⊎ ((roundOk r && has (heldMask l r) p) ≡ false) → (1 ≤ r) × (r ≤ 32) × (has (heldMask l r) p ≡ true)
-      go (inl e) = let w = round-range r (and-left _ _ e) in (w .0, w .1, and-right (roundOk r) _ e)
+      go : ((isRound r && has (heldMask l r) p) ≡ true) ⊎ ((isRound r && has (heldMask l r) p) ≡ false) → (1 ≤ r) × (r ≤ 32) × (has (heldMask l r) p ≡ true)
+      go (inl e) = let w = round-range r (and-left _ _ e) in (w .0, w .1, and-right (isRound r) _ e)
       go (inr e) = never h (rw e)
 
 -- ---- parents
@@ -147,10 +142,10 @@ module _ (l : List ℕ) (S : WellFormed l) where
   vertex-words r p i a b k m = go (which (has (heldMask l r) p))
     where
       none : has (heldMask l r) p ≡ false → vertices l r p ≡ []
-      none e = unfold vertices in rw (e, round-ok r a b)
+      none e = unfold vertices in rw (e, round-in r a b)
 
       there : has (heldMask l r) p ≡ true → held (vertices l) r p ≡ true
-      there e = held-vertex l (S .size) r p k ∙ and-both (round-ok r a b) e
+      there e = held-vertex l (S .size) r p k ∙ and-both (round-in r a b) e
 
       go : (has (heldMask l r) p ≡ true) ⊎ (has (heldMask l r) p ≡ false) → getD (vertices l r p) i 0 ≡ getD l (cellAt r p + i) 0
       go (inl e) = rw (vertex-cell l (S .size) r p (there e)) (getD-take 10 (drop (cellAt r p) l) i 0 m ∙ getD-drop (cellAt r p) l i 0)
@@ -164,8 +159,8 @@ pub first-vote : (l : List ℕ) (q p : ℕ) → 1 ≤ q → q ≤ 31 → (has (v
 unfolding firsts strongOf
 first-vote l q p a b f = go (which (has (votesMask l (suc q)) p)) (which (has (heardMask l (suc q)) p))
   where
-    ok : roundOk (suc q) ≡ true
-    ok = round-ok (suc q) (omega arith) (omega arith)
+    ok : isRound (suc q) ≡ true
+    ok = round-in (suc q) (omega arith) (omega arith)
 
     go : (has (votesMask l (suc q)) p ≡ true) ⊎ (has (votesMask l (suc q)) p ≡ false)
         → (has (heardMask l (suc q)) p ≡ true) ⊎ (has (heardMask l (suc q)) p ≡ false)

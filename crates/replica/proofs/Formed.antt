@@ -18,7 +18,7 @@ use Rattle.record.specs.Questions.{bodyRefusal}
 use Rattle.record.proofs.Booleans.{which, never, and-left, and-right, and-both, or-cases, or-left, or-right, or-neither, bool-ext, cond-true, cond-false}
 use Rattle.record.proofs.Below.{all-elim, all-intro}
 use Rattle.record.proofs.Masks.{legal-range, within-lt, has-and, mask-ext}
-use Rattle.record.proofs.Turn.{round-range}
+use Rattle.record.proofs.Rounds.{round-range}
 use Rattle.protocol.specs.Journal.{idLimit, among}
 use Rattle.protocol.proofs.Lists.{among-none, among-append, among-one, once, once-append, once-none}
 use Rattle.replica.specs.Layout.{stateSize, cellAt}

@@ -13,7 +13,7 @@ use Rattle.record.specs.Refusals.{numberOf}
 use Rattle.record.specs.Questions.{bodyRefusal}
 use Rattle.record.proofs.Booleans.{which, and-left, and-cong, and-fails-left, and-fails-right, cond-cong}
 use Rattle.record.proofs.Below.{any-off, any-false}
-use Rattle.record.proofs.Turn.{round-range}
+use Rattle.record.proofs.Rounds.{round-range}
 use Rattle.protocol.specs.Journal.{idLimit, among}
 use Rattle.protocol.proofs.Lists.{once}
 use Rattle.protocol.proofs.Laws.{records-ext}

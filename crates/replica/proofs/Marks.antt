@@ -11,12 +11,11 @@ use lib.ListN.{length, getD, take, set, replicate, length-set, length-replicate,
 use lib.Seq.{getD-set-same, getD-set-other}
 use borrow.Author.Tests.{eqb-true, eqb-false, eq-eqb, ne-eqb, le-leb, lt-leb}
 use Rattle.record.specs.Below.{all}
-use Rattle.record.specs.Members.{legal, has, idOf, idRound, idMember}
-use Rattle.record.specs.Questions.{roundOk}
+use Rattle.record.specs.Members.{legal, has, idOf, idRound, idMember, isRound}
 use Rattle.record.proofs.Booleans.{which, never, and-left, and-right, and-both, and-fails-left, and-fails-right, bool-ext, passed, failed}
 use Rattle.record.proofs.Below.{all-none, all-more, all-intro, all-elim, all-stop}
 use Rattle.record.proofs.Masks.{has-zero, has-add, add-lt, mask-ext}
-use Rattle.record.proofs.Turn.{round-range}
+use Rattle.record.proofs.Rounds.{round-range}
 use Rattle.protocol.specs.Journal.{idLimit, among}
 use Rattle.replica.specs.State.{memberCount, journalCount, orderedMask, journalWord, journalList, orderedId}
 use Rattle.replica.specs.WellFormed.{eachRound, masksWithin, entryOk, journalOk}
@@ -94,22 +93,22 @@ marked-more l i marks x at e f h ex m a b d = record {
 
 -- it is an id, and no entry before it is the same
 pub newId : List ℕ → ℕ → Bool
-newId l i = roundOk (idRound (journalWord l i)) && not (among (take i (journalList l)) (journalWord l i))
+newId l i = isRound (idRound (journalWord l i)) && not (among (take i (journalList l)) (journalWord l i))
 
-pub entry-new : (l : List ℕ) (i : ℕ) → roundOk (idRound (journalWord l i)) ≡ true → among (take i (journalList l)) (journalWord l i) ≡ false → newId l i ≡ true
+pub entry-new : (l : List ℕ) (i : ℕ) → isRound (idRound (journalWord l i)) ≡ true → among (take i (journalList l)) (journalWord l i) ≡ false → newId l i ≡ true
 unfolding newId
 entry-new l i a b = and-both a (ap not b)
 
 -- a new id is as it should be if it is ordered
 pub new-ordered : (l : List ℕ) (i : ℕ) → newId l i ≡ true
-    → (roundOk (idRound (journalWord l i)) ≡ true → has (orderedMask l (idRound (journalWord l i))) (idMember (journalWord l i)) ≡ true)
+    → (isRound (idRound (journalWord l i)) ≡ true → has (orderedMask l (idRound (journalWord l i))) (idMember (journalWord l i)) ≡ true)
     → entryOk l i ≡ true
 unfolding newId entryOk
 new-ordered l i e h =
-    let a = and-left (roundOk (idRound (journalWord l i))) _ e in
-    and-both (and-both a (h a)) (and-right (roundOk (idRound (journalWord l i))) _ e)
+    let a = and-left (isRound (idRound (journalWord l i))) _ e in
+    and-both (and-both a (h a)) (and-right (isRound (idRound (journalWord l i))) _ e)
 
-pub entry-strange : (l : List ℕ) (i : ℕ) → roundOk (idRound (journalWord l i)) ≡ false → entryOk l i ≡ false
+pub entry-strange : (l : List ℕ) (i : ℕ) → isRound (idRound (journalWord l i)) ≡ false → entryOk l i ≡ false
 unfolding entryOk
 entry-strange l i a = and-fails-left (not (among (take i (journalList l)) (journalWord l i))) (and-fails-left _ a)
 
@@ -176,7 +175,7 @@ entries-decide l marks e g w f h m =
         ≡ orderedMask l (idRound y - 1 + 1) = eqb-true _ _ (all-elim 32 (λ i. eqb (getD marks i 0) (orderedMask l (i + 1))) t (idRound y - 1) low)
         in
         let o₁ : has (orderedMask l (idRound y - 1 + 1)) (idMember y) ≡ true = ap (λ (z : ℕ). has (orderedMask l z) (idMember y)) k
-        ∙ and-right (roundOk (idRound y)) (has (orderedMask l (idRound y)) (idMember y)) o in
+        ∙ and-right (isRound (idRound y)) (has (orderedMask l (idRound y)) (idMember y)) o in
         ap (among (journalList l)) (sym (ap (λ (z : ℕ). idOf z (idMember y)) k ∙ id-same y))
         ∙ sym (whole (idRound y - 1) (idMember y) low (omega arith))
         ∙ ap (λ (z : ℕ). has z (idMember y)) eq ∙ o₁
@@ -206,7 +205,7 @@ journal-decides l marks e g w f h m = bool-ext
     (λ t. sym (entries-decide l marks e g w f (entries t) m) ∙ t)
     (λ t. entries-decide l marks e g w f (and-left (all (journalCount l) (entryOk l)) _ (and-right (leb (journalCount l) 512) _ t)) m ∙ t)
   where
-    at-mark : all 32 (λ i. eqb (getD marks i 0) (orderedMask l (i + 1))) ≡ true → (i : ℕ) → i < journalCount l → roundOk (idRound (journalWord l i)) ≡ true
+    at-mark : all 32 (λ i. eqb (getD marks i 0) (orderedMask l (i + 1))) ≡ true → (i : ℕ) → i < journalCount l → isRound (idRound (journalWord l i)) ≡ true
         → has (orderedMask l (idRound (journalWord l i))) (idMember (journalWord l i)) ≡ true
     at-mark t i b o =
         let x = journalWord l i in
@@ -238,7 +237,7 @@ pub reading-start : (l : List ℕ) (count : ℕ) → count ≡ journalCount l �
 reading-start l count e f = record { below = omega arith; whole = e; few = f; new = all-none (newId l); marked = marked-none l }
 
 module _ (l : List ℕ) (count i : ℕ) (marks : List ℕ) (R : Reading l count i marks) (h : i < count) (b : Bool)
-    (e : b ≡ roundOk (idRound (journalWord l i))) where
+    (e : b ≡ isRound (idRound (journalWord l i))) where
   -- entry i is no id
   pub reading-strange : not b ≡ true → false ≡ journalOk l
   reading-strange t = journal-stop l count i (R .whole) h (entry-strange l i (failed e t))

@@ -9,8 +9,7 @@ use lib.Dec.{ltb}
 use lib.ListN.{length, getD, replicate, length-replicate, getD-replicate, List·getD-eq-default}
 use lib.Pow.{pow-pos}
 use borrow.Author.Tests.{ltb-true, ltb-false}
-use Rattle.record.specs.Members.{legal, has, idRound, idMember}
-use Rattle.record.specs.Questions.{roundOk}
+use Rattle.record.specs.Members.{legal, has, idRound, idMember, isRound}
 use Rattle.record.proofs.Booleans.{which, never, and-fails-right, cond-false}
 use Rattle.record.proofs.Masks.{legal-range, has-zero}
 use Rattle.protocol.proofs.Lists.{among-none, once, once-none}
@@ -73,12 +72,12 @@ module _ (n : ℕ) where
   -- there are no vertices
   pub opened-vertices : (r p : ℕ) → vertices (opened n) r p ≡ []
   unfolding vertices
-  opened-vertices r p = cond-false _ _ (and-fails-right (roundOk r) (opened-mask r 0 p))
+  opened-vertices r p = cond-false _ _ (and-fails-right (isRound r) (opened-mask r 0 p))
 
   -- and no first messages
   pub opened-firsts : (r p : ℕ) → firsts (opened n) r p ≡ []
   unfolding firsts
-  opened-firsts r p = cond-false _ _ (and-fails-right (roundOk r) (opened-mask r 1 p))
+  opened-firsts r p = cond-false _ _ (and-fails-right (isRound r) (opened-mask r 1 p))
 
   -- A state just opened is formed.
   pub opened-formed : legal n ≡ true → WellFormed (opened n)
@@ -118,7 +117,7 @@ module _ (n : ℕ) where
       ordered-held = λ r p a b e. never e (opened-mask r 5 p);
       few = rw (opened-word 4 (omega arith)) (omega arith);
       alone = ap once opened-journal ∙ once-none;
-      names = λ y. rw opened-journal (among-none y ∙ sym (and-fails-right (roundOk (idRound y)) (opened-mask (idRound y) 5 (idMember y))));
+      names = λ y. rw opened-journal (among-none y ∙ sym (and-fails-right (isRound (idRound y)) (opened-mask (idRound y) 5 (idMember y))));
       rest = λ i a b. opened-word (232 + i) (omega arith);
     };
   }

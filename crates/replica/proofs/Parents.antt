@@ -6,20 +6,21 @@ use mathlib.Core.List.{List}
 use Prim.Native.Nat.{ℕ, _+_, _-_, _^_, _≤_, _<_}
 use native.Mathlib.Nat.{lt-of-lt-of-le}
 use native.Mathlib.Omega.{arith}
-use lib.Dec.{eqb, leb, ltb}
+use lib.Dec.{eqb, ltb}
 use lib.ListN.{length}
 use lib.Pow.{pow-mono}
-use borrow.Author.Tests.{eqb-true, eq-eqb, le-leb, lt-leb, leb-true, lt-ltb, ltb-true, ltb-false, not-true, not-false}
+use borrow.Author.Tests.{eqb-true, eq-eqb, ltb-true, ltb-false, not-true, not-false}
 use Rattle.record.specs.Below.{all, any}
-use Rattle.record.specs.Members.{legal, has, idOf, idRound, idMember}
+use Rattle.record.specs.Members.{legal, has, idOf, idRound, idMember, isRound}
 use Rattle.record.specs.Layout.{strongOf, weakCountOf, weakOf}
 use Rattle.record.specs.Refusals.{numberOf}
-use Rattle.record.specs.Questions.{roundOk, masksAdmitted, weakOk, bodyRefusal, termsOf}
+use Rattle.record.specs.Questions.{masksAdmitted, weakOk, bodyRefusal, termsOf}
 use Rattle.record.specs.declared.questions.Terms.{Terms}
 use Rattle.record.specs.Admitted.{Admitted}
 use Rattle.record.proofs.Booleans.{which, never, and-left, and-right, and-both, and-fails-left, or-left, or-right, or-cases, bool-ext, passed, failed}
 use Rattle.record.proofs.Below.{all-intro, all-elim, any-intro, any-elim, any-false, any-off}
 use Rattle.record.proofs.Masks.{has-zero, legal-range}
+use Rattle.record.proofs.Rounds.{round-in}
 use Rattle.record.proofs.Turn.{admitted}
 use Rattle.record.proofs.Parts.{admitted-parts}
 use Rattle.protocol.specs.Journal.{idLimit}
@@ -27,21 +28,6 @@ use Rattle.replica.specs.State.{memberCount, heldMask, heldId}
 use Rattle.replica.specs.Parents.{isParent, missing, parentsHeld}
 use Rattle.replica.specs.WellFormed.{subset}
 use Rattle.replica.proofs.Laws.{subset-has, has-subset}
-
-pub round-in : (r : ℕ) → 1 ≤ r → r ≤ 32 → roundOk r ≡ true
-unfolding roundOk
-round-in r l h = and-both (le-leb 1 r l) (le-leb r 32 h)
-
--- the ids are the numbers from 16 to 527
-pub id-low : (x : ℕ) → x < 16 → roundOk (idRound x) ≡ false
-unfolding roundOk
-id-low x h = and-fails-left _ (lt-leb 1 (idRound x) (omega arith))
-
-pub id-test : (x : ℕ) → 16 ≤ x → ltb x 528 ≡ roundOk (idRound x)
-unfolding roundOk
-id-test x h = bool-ext
-    (λ e. and-both (le-leb 1 (idRound x) (omega arith)) (le-leb (idRound x) 32 (omega (arith, ltb-true x 528 e))))
-    (λ e. lt-ltb x 528 (omega (arith, leb-true (idRound x) 32 (and-right (leb 1 (idRound x)) _ e))))
 
 -- ---- who is a parent
 
@@ -120,7 +106,7 @@ module _ (n r p : ℕ) (l body : List ℕ) (group : legal n ≡ true) (a : Admit
           let x : idRound (idOf (r - 1) m) ≡ r - 1 = omega arith in
           let y : idMember (idOf (r - 1) m) ≡ m = omega arith in
           rw (x, y)
-          at (and-right (roundOk (idRound (idOf (r - 1) m))) _
+          at (and-right (isRound (idRound (idOf (r - 1) m))) _
           (parents-elim l r body e (idOf (r - 1) m) (omega (arith, a .round-high))
           (strong-parent r body (idOf (r - 1) m) (omega arith) (rw y h))))
 

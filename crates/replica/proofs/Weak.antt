@@ -7,9 +7,9 @@ use native.Mathlib.Omega.{arith}
 use lib.Bits.{bitOr}
 use lib.Dec.{eqb, ltb}
 use borrow.Author.Tests.{le-leb, lt-ltb, ltb-true, not-true, not-false}
-use Rattle.record.specs.Members.{legal, faulty, has, idRound, idMember}
+use Rattle.record.specs.Members.{legal, faulty, has, idRound, idMember, isRound}
 use Rattle.record.specs.Layout.{weakCountOf, weakOf}
-use Rattle.record.specs.Questions.{roundOk, weakIdOk, rises, weakOk}
+use Rattle.record.specs.Questions.{weakIdOk, rises, weakOk}
 use Rattle.record.proofs.Booleans.{and-left, and-right, and-both, and-fails-left, and-fails-right, bool-ext, passed, failed}
 use Rattle.record.specs.Below.{all}
 use Rattle.record.proofs.Below.{all-none, all-more, all-stop, all-and}
@@ -19,7 +19,7 @@ use Rattle.record.proofs.Parts.{weak-parts, weak-many, weak-id-in, weak-id-high
 use Rattle.replica.specs.State.{memberCount, heldMask, heldId}
 use Rattle.replica.specs.WellFormed.{eachRound, masksWithin}
 use Rattle.replica.proofs.Words.{masks-small, round-elim}
-use Rattle.replica.proofs.Parents.{round-in}
+use Rattle.record.proofs.Rounds.{round-in}
 
 -- x, the weak id in slot i, is above the last one, passes question 11 and is held; the last one is 15 for the first slot
 weak-slot : (l : List ℕ) (n r : ℕ) (body : List ℕ) (i last x : ℕ) → x ≡ weakOf body i → (i ≡ 0 → last ≡ 15) → (1 ≤ i → last ≡ weakOf body (i - 1))
@@ -44,7 +44,7 @@ weak-held l n r last x e w high f g h = bool-ext
     (λ d. let b : idMember x < n = rw (sym e) at (has-bound (memberCount l) (heldMask l (idRound x)) (idMember x)
     (masks-small l (idRound x) (round-elim (masksWithin l) w (idRound x) (omega arith) (omega arith)) .held) d) in
     and-both (lt-ltb last x g) (and-both (weak-id-in n r x b (omega arith) (omega arith)) (and-both (round-in (idRound x) (omega arith) (omega arith)) d)))
-    (λ d. and-right (roundOk (idRound x)) _ (and-right (weakIdOk n r x) _ (and-right (ltb last x) _ d)))
+    (λ d. and-right (isRound (idRound x)) _ (and-right (weakIdOk n r x) _ (and-right (ltb last x) _ d)))
 
 weak-above : (l : List ℕ) (n r last x : ℕ) → (ltb last x && (weakIdOk n r x && heldId l x)) ≡ true → last < x
 weak-above l n r last x e = ltb-true last x (and-left (ltb last x) _ e)

@@ -20,7 +20,7 @@ use Rattle.protocol.specs.Journal.{among}
 use Rattle.replica.specs.State.{memberCount, leaderCount, journalCount, heldMask, heardMask, votesMask, timeoutsMask, noVotesMask, orderedMask}
 use Rattle.replica.specs.State.{leaderWord, journalWord, leaderList, journalList, heldId, orderedId}
 use Rattle.replica.specs.WellFormed.{eachRound, masksWithin}
-use Rattle.replica.proofs.Parents.{round-in}
+use Rattle.record.proofs.Rounds.{round-in}
 
 -- ---- ids
 

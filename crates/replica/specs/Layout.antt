@@ -4,12 +4,6 @@ use Prim.Native.Nat.{ℕ, _+_, _-_, _*_}
 abbrev pub stateSize : ℕ
 stateSize = 5864
 
-abbrev pub rounds : ℕ
-rounds = 32
-
-abbrev pub slots : ℕ
-slots = 16
-
 -- words 0 to 7
 abbrev pub memberCountAt : ℕ
 memberCountAt = 0

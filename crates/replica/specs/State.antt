@@ -3,9 +3,8 @@ use mathlib.Core.Bool.{Bool, cond, _&&_}
 use mathlib.Core.List.{List, [], _∷_}
 use Prim.Native.Nat.{ℕ, _+_, _-_, _^_}
 use lib.ListN.{getD, take, drop}
-use Rattle.record.specs.Members.{leader, has, idRound, idMember}
+use Rattle.record.specs.Members.{leader, has, idRound, idMember, isRound}
 use Rattle.record.specs.Layout.{bodySize}
-use Rattle.record.specs.Questions.{roundOk}
 use Rattle.protocol.specs.Dag.{Records, Dag, held}
 use Rattle.replica.specs.Layout.{memberCountAt, currentRoundAt, committedRoundAt, leaderCountAt, journalCountAt, heldAt, heardAt, votesAt, timeoutsAt, noVotesAt, orderedAt, leadersAt, journalAt, cellAt}
 
@@ -63,20 +62,20 @@ cell l r p = take bodySize (drop (cellAt r p) l)
 
 -- the vertices: the cells that are held
 unfoldable pub vertices : List ℕ → Records
-vertices l r p = cond (roundOk r && has (heldMask l r) p) (cell l r p) []
+vertices l r p = cond (isRound r && has (heldMask l r) p) (cell l r p) []
 
 -- The first messages. Of one that was heard the state keeps only whether it votes, so it stands here with a strong mask that is
 -- the previous leader's bit, or none.
 unfoldable pub firsts : List ℕ → Records
 firsts l r p =
-    cond (roundOk r && has (heardMask l r) p) (cond (has (votesMask l r) p) (2 ^ leader (memberCount l) (r - 1)) 0 ∷ []) []
+    cond (isRound r && has (heardMask l r) p) (cond (has (votesMask l r) p) (2 ^ leader (memberCount l) (r - 1)) 0 ∷ []) []
 
 abbrev pub dag : List ℕ → Dag
 dag l = record { vertex = vertices l; first = firsts l }
 
 -- the vertex with the id x is held, or ordered
 abbrev pub heldId : List ℕ → ℕ → Bool
-heldId l x = roundOk (idRound x) && has (heldMask l (idRound x)) (idMember x)
+heldId l x = isRound (idRound x) && has (heldMask l (idRound x)) (idMember x)
 
 abbrev pub orderedId : List ℕ → ℕ → Bool
-orderedId l x = roundOk (idRound x) && has (orderedMask l (idRound x)) (idMember x)
+orderedId l x = isRound (idRound x) && has (orderedMask l (idRound x)) (idMember x)

@@ -6,12 +6,12 @@ use lib.Bits.{bitAnd}
 use lib.Dec.{eqb, leb, ltb}
 use lib.ListN.{getD, take}
 use Rattle.record.specs.Below.{all}
-use Rattle.record.specs.Members.{legal, leader, has, within, idRound, idMember}
+use Rattle.record.specs.Members.{rounds, slots, legal, leader, has, within, idRound, idMember}
 use Rattle.record.specs.Refusals.{numberOf}
 use Rattle.record.specs.Layout.{bodySize}
 use Rattle.record.specs.Questions.{bodyRefusal}
 use Rattle.protocol.specs.Journal.{idLimit, among}
-use Rattle.replica.specs.Layout.{rounds, slots, zerosAt, zerosSize, leadersSize, journalSize, cellAt}
+use Rattle.replica.specs.Layout.{zerosAt, zerosSize, leadersSize, journalSize, cellAt}
 use Rattle.replica.specs.State.{memberCount, currentRound, committedRound, leaderCount, journalCount, heldMask, heardMask, votesMask, timeoutsMask, noVotesMask, orderedMask, leaderWord, journalWord, journalList, cell, heldId, orderedId}
 use Rattle.replica.specs.Parents.{parentsHeld}
 

@@ -2,18 +2,14 @@
 ghost use mathlib.Core.Path.{_≡_};
 ghost use Prim.Native.Nat.{_<_, _≤_};
 ghost use lib.ListN.{length};
-ghost use Rattle.record.specs.Members.{idRound};
-ghost use Rattle.record.specs.Questions.{roundOk};
+ghost use Rattle.record.specs.Members.{idRound, isRound};
 ghost use Rattle.replica.specs.Layout.{stateSize, masksAt, cellAt};
 ghost use Rattle.replica.specs.State.{heldMask, heardMask, votesMask, timeoutsMask, orderedMask, heldId, orderedId};
 use record::layout::wide;
 use record::members::Members;
+use record::members::ROUNDS;
 
 pub const STATE_SIZE: usize = 5864;
-
-pub const ROUNDS: u32 = 32;
-
-pub const SLOTS: u32 = 16;
 
 // The words of a round's cells.
 pub const ROUND_SIZE: usize = 160;
@@ -111,7 +107,7 @@ pub fn ordered_mask(state: &[u32], round: u32) -> u32
 
 // The number is the id of a vertex of rounds 1 to 32.
 pub fn is_id(x: u32) -> bool
-    ensures { λ r. ⌜ r ≡ roundOk (idRound x) ⌝ }
+    ensures { λ r. ⌜ r ≡ isRound (idRound x) ⌝ }
 {
     if x < 16 {
         return false;

@@ -1,5 +1,5 @@
 use mathlib.Core.Path.{sym}
-use Rattle.replica.proofs.Parents.{id-low, id-test}
+use Rattle.record.proofs.Rounds.{id-low, id-test}
 use Rattle.replica.proofs.layout.is_id.Statement.{statement}
 use Rattle.replica.proofs.layout.is_id.Tie as tie
 

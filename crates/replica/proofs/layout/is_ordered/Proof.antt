@@ -1,27 +1,21 @@
 -- The tests of the round, then the contracts of `ordered_mask` and `has`.
-use borrow.Author.Tests.{le-leb, lt-leb}
 use borrow.Author.Needs.{needs}
-use Rattle.record.specs.Questions.{roundOk}
+use Rattle.record.proofs.Rounds.{round-in, round-below, round-above}
 use Rattle.replica.proofs.layout.is_ordered.Statement.{statement}
 use Rattle.replica.proofs.layout.is_ordered.Tie as tie
 
 returns : tie.Need-returns
-unfolding roundOk
-returns c = simp (lt-leb _ _ (c .if1 .taken))
+returns c = simp (round-below _ (c .if1 .taken))
 
 returns-2 : tie.Need-returns-2
-unfolding roundOk
-returns-2 c =
-    let else1 : tie.Else1 = search in
-    simp (le-leb _ _ (else1 .if1 .left), lt-leb _ _ (c .if2 .taken))
+returns-2 c = simp (round-above _ (c .if2 .taken))
 
 returns-3 : tie.Need-returns-3
-unfolding roundOk
 returns-3 c =
     let after-ordered-mask : tie.After-ordered-mask = search in
     let else2 : tie.Else2 = search in
     let else1 : tie.Else1 = search in
-    simp (le-leb _ _ (else1 .if1 .left), le-leb _ _ (else2 .if2 .left)) (rw (after-ordered-mask .ordered-mask .ensures) at (c .has .ensures))
+    simp (round-in _ (else1 .if1 .left) (else2 .if2 .left)) (rw (after-ordered-mask .ordered-mask .ensures) at (c .has .ensures))
 
 pub is-ordered-spec : {M : Type 1} → statement M
 is-ordered-spec =

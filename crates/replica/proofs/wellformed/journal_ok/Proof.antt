@@ -3,7 +3,7 @@ use Prim.Native.Nat.{_-_, _≤_}
 use borrow.Author.Needs.{needs}
 use Rattle.record.specs.Members.{idRound}
 use Rattle.record.proofs.Booleans.{passed}
-use Rattle.record.proofs.Turn.{round-range}
+use Rattle.record.proofs.Rounds.{round-range}
 use Rattle.replica.specs.State.{journalWord}
 use Rattle.replica.proofs.Marks.{Reading, reading-start, reading-strange, reading-twice, reading-more, reading-decides, journal-long}
 use Rattle.replica.proofs.wellformed.journal_ok.Statement.{statement}

@@ -2,7 +2,7 @@
 use borrow.Author.Tests.{eq-eqb, ne-eqb}
 use borrow.Author.Needs.{needs}
 use Rattle.record.proofs.Booleans.{passed, failed, and-left}
-use Rattle.record.proofs.Turn.{round-range}
+use Rattle.record.proofs.Rounds.{round-range}
 use Rattle.replica.specs.WellFormed.{leaderOk}
 use Rattle.replica.proofs.wellformed.leader_ok.Statement.{statement}
 use Rattle.replica.proofs.wellformed.leader_ok.Tie as tie

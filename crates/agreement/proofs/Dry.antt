@@ -7,7 +7,7 @@ use Prim.Native.Nat.{ℕ, _-_, _<_}
 use native.Mathlib.Omega.{arith}
 use lib.Dec.{eqb, ltb}
 use lib.ListN.{length}
-use borrow.Author.Tests.{eqb-true, eqb-false, eq-eqb, lt-ltb, not-true}
+use borrow.Author.Tests.{eqb-true, eq-eqb, lt-ltb, not-true}
 use Rattle.record.specs.Below.{all}
 use Rattle.record.specs.Members.{legal, has, idRound, idMember, isRound}
 use Rattle.record.specs.Refusals.{numberOf, Question, firstNo}
@@ -16,7 +16,7 @@ use Rattle.record.specs.Questions.{recordQuestions, bodyRefusal}
 use Rattle.record.specs.Admitted.{Admitted}
 use Rattle.record.proofs.Booleans.{which, never, and-left, and-right, and-both, and-fails-left, cond-true}
 use Rattle.record.proofs.Below.{all-elim}
-use Rattle.record.proofs.Turn.{next, done, both-yes, admitted}
+use Rattle.record.proofs.Turn.{next, done, front-yes, numbered-law, admitted}
 use Rattle.protocol.specs.Dag.{Records, recordsOf, present, held}
 use Rattle.replica.specs.State.{memberCount, heldMask, heardMask, vertices, firsts}
 use Rattle.replica.specs.Parents.{isParent, parentsHeld}
@@ -81,22 +81,7 @@ heard-there : (l : List ℕ) (r p : ℕ) → (isRound r && has (heardMask l r) p
 unfolding firsts
 heard-there l r p e = ap present (cond-true _ _ e)
 
--- an admitted record's questions are passed over
-past-record : (n r p : ℕ) (body : List ℕ) (rest : List Question) → numberOf (bodyRefusal n r p body) ≡ 0
-    → firstNo rest ≡ firstNo (recordQuestions n r p body ++ rest)
-unfolding bodyRefusal
-past-record n r p body rest e =
-    let q4 = both-yes _ _ _ (eqb-false 4 0 refl) e in
-    let q5 = both-yes _ _ _ (eqb-false 5 0 refl) (q4 .1) in
-    let q6 = both-yes _ _ _ (eqb-false 6 0 refl) (q5 .1) in
-    let q7 = both-yes _ _ _ (eqb-false 7 0 refl) (q6 .1) in
-    let q8 = both-yes _ _ _ (eqb-false 8 0 refl) (q7 .1) in
-    let q9 = both-yes _ _ _ (eqb-false 9 0 refl) (q8 .1) in
-    let q10 = both-yes _ _ _ (eqb-false 10 0 refl) (q9 .1) in
-    let q11 = both-yes _ _ _ (eqb-false 11 0 refl) (q10 .1) in
-    next _ _ (q4 .0) (next _ _ (q5 .0) (next _ _ (q6 .0) (next _ _ (q7 .0) (next _ _ (q8 .0) (next _ _ (q9 .0) (next _ _ (q10 .0) (next _ _ (q11 .0) refl)))))))
-
--- and those of a formed state
+-- the questions of a formed state are passed over
 pub past-state : (l : List ℕ) (rest : List Question) → WellFormed l → firstNo rest ≡ firstNo (stateQuestions l ++ rest)
 past-state l rest S = next _ _ (eq-eqb (length l) 5864 (S .size)) (next _ _ (well-formed l S) refl)
 
@@ -111,7 +96,9 @@ module _ (n : ℕ) (l : List ℕ) (m : Model) (h : Holds n l m) (r p : ℕ) (bod
 
   -- the questions of the state and the record are passed over
   in-record : (rest : List Question) → firstNo rest ≡ firstNo (stateQuestions l ++ (recordQuestions (memberCount l) r p body ++ rest))
-  in-record rest = past-record (memberCount l) r p body rest (rw (h .members) ok) ∙ past-state l _ (h .formed)
+  in-record rest =
+      front-yes (recordQuestions (memberCount l) r p body) rest (numbered-law (memberCount l) r p .1 body) (rw (h .members) ok)
+      ∙ past-state l _ (h .formed)
 
   -- a parent is held in the model
   held-in : (y : ℕ) → parentsIn (recordsOf (m .vertices)) r body ≡ true → isParent r body y ≡ true

@@ -13,9 +13,9 @@ use Rattle.record.specs.Below.{all, any, count, select, least}
 use Rattle.record.specs.Members.{legal, leader, has, within, meets, isRound}
 use Rattle.record.specs.Refusals.{numberOf, Question, firstNo}
 use Rattle.record.specs.Layout.{roundOf, sourceOf, bodyOf, strongOf, timeoutsOf, noVotesOf, weakCountOf, weakOf}
-use Rattle.record.specs.Questions.{masksOk, strongOk, lacksLeader, quorumIf, timeoutsOk, noVotesOk, weakIdOk, rises, slotOk, weakOk, recordQuestions}
+use Rattle.record.specs.Questions.{masksOk, strongOk, lacksLeader, quorumIf, timeoutsOk, noVotesOk, weakIdOk, rises, slotOk, weakOk, signerQuestions, recordQuestions}
 use Rattle.record.specs.declared.refusal.Refusal.{Refusal}
-use Rattle.record.specs.declared.refusal.Refusal.the-variants.{None, MemberCount, PastEnd, Round, Source, Duplicate}
+use Rattle.record.specs.declared.refusal.Refusal.the-variants.{None, MemberCount, PastEnd, Duplicate}
 use Rattle.record.proofs.Booleans.{which, and-left, and-right, and-both, cond-true, cond-false}
 use Rattle.record.proofs.Turn.{next, stop, done}
 use Rattle.protocol.specs.Dag.{Records, committed}
@@ -112,7 +112,7 @@ shortFirst l rec =
 
 -- of a timeout or a no-vote
 shortNote : List ℕ → ℕ → ℕ → ℕ → Refusal
-shortNote l r p mask = firstNo ((isRound r, Round) ∷ (ltb p (memberCount l), Source) ∷ (not (has mask p), Duplicate) ∷ [])
+shortNote l r p mask = firstNo (signerQuestions (memberCount l) r p ++ ((not (has mask p), Duplicate) ∷ []))
 
 -- of asking for entries k and on of a list of so many
 shortList : ℕ → ℕ → Refusal
@@ -336,7 +336,7 @@ unfolding later rows computed shortAdmitted shortEnd shortSeen shortOf shortGive
     shortRun opened outcome legal leader
     has within meets
     firstNo strongOf timeoutsOf noVotesOf weakCountOf weakOf isRound masksOk strongOk lacksLeader quorumIf timeoutsOk noVotesOk weakIdOk rises
-    slotOk weakOk all any count select least committed path historyUpTo chain walk vertices firsts isParent missing parentsHeld passable
+    slotOk weakOk signerQuestions recordQuestions all any count select least committed path historyUpTo chain walk vertices firsts isParent missing parentsHeld passable
     highestPassable raiseRound appendLeader appendLeaders enter enterAll orderLeader orderLeaders line listed byList commitBy shortCommits
     committable addMember sameBody putVertex hear ones onesIn
 ends = refl

@@ -4,22 +4,20 @@ use mathlib.Core.Bool.{true, false, not}
 use mathlib.Core.List.{List, [], _∷_, _++_}
 use Prim.Native.Nat.{ℕ, _+_, _≤_, _<_}
 use native.Mathlib.Omega.{arith}
-use lib.Dec.{ltb}
 use lib.ListN.{length, take, drop, length-drop}
 use lib.Seq.{take-all}
-use borrow.Author.Tests.{eqb-false, eq-eqb, ne-eqb, lt-ltb, le-ltb, ltb-true}
+use borrow.Author.Tests.{eqb-false, eq-eqb, ne-eqb}
 use Rattle.record.specs.Below.{least}
-use Rattle.record.specs.Members.{legal, has, isRound}
-use Rattle.record.specs.Refusals.{numberOf, Question, firstNo}
+use Rattle.record.specs.Members.{rounds, slots, legal, has}
+use Rattle.record.specs.Refusals.{numberOf, Question, firstNo, numbered}
 use Rattle.record.specs.Layout.{roundOf, sourceOf, bodyOf}
-use Rattle.record.specs.Questions.{recordQuestions, bodyRefusal, recordRefusal}
+use Rattle.record.specs.Questions.{signerQuestions, recordQuestions, signerRefusal, bodyRefusal, recordRefusal}
 use Rattle.record.specs.declared.refusal.Refusal.{Refusal}
-use Rattle.record.specs.declared.refusal.Refusal.the-variants.{None, Round, Source, Duplicate, Conflict, MissingParent}
+use Rattle.record.specs.declared.refusal.Refusal.the-variants.{None, Duplicate, Conflict, MissingParent}
 use Rattle.record.proofs.Booleans.{and-both, and-fails-left, and-fails-right}
 use Rattle.record.proofs.Below.{any-intro, any-false, least-sat, least-off}
 use Rattle.record.proofs.Masks.{legal-range}
-use Rattle.record.proofs.Turn.{next, stop, done, both-yes}
-use Rattle.record.proofs.Rounds.{round-in, round-range, round-below, round-above}
+use Rattle.record.proofs.Turn.{next, stop, done, both-yes, front-no, front-yes, both-fronts, numbered-law, placed}
 use Rattle.record.proofs.Turn as turn
 use Rattle.protocol.specs.Journal.{idLimit}
 use Rattle.replica.specs.Layout.{stateSize}
@@ -27,42 +25,26 @@ use Rattle.replica.specs.State.{memberCount, heldMask}
 use Rattle.replica.specs.Parents.{missing, parentsHeld}
 use Rattle.replica.specs.Outcome.{told, refusedBy, admitted, outcome}
 use Rattle.replica.specs.Status.{stateQuestions}
-use Rattle.replica.proofs.StatusLaws.{numbered, front-no, front-yes, both-fronts, state-numbered, state-ok}
+use Rattle.replica.proofs.StatusLaws.{state-numbered, state-ok}
 use Rattle.replica.proofs.Formed.{WellFormed, formed}
 use Rattle.record.specs.Admitted.{Admitted}
 use Rattle.ordering.specs.Calls.{sameBody, placeQuestions, noteQuestions}
 
--- every question of a record has a refusal with a number
-pub record-numbered : (n r p : ℕ) (body : List ℕ) → numbered (recordQuestions n r p body) ≡ true
-unfolding numbered
-record-numbered n r p body = refl
+-- ---- the answers of a call that asks the state's questions, then those of a record or a signer, and then the rest
 
--- ---- the answers of a call with a record, whose last questions are rest
-
-module _ (l rec : List ℕ) (rest : List Question) where
-  abbrev asked : List Question
-  asked = stateQuestions l ++ (recordQuestions (memberCount l) (roundOf rec) (sourceOf rec) (bodyOf rec) ++ rest)
-
-  pub at-state : (why : Refusal) → why ≡ firstNo (stateQuestions l) → (numberOf why ≡ 0 → ⊥) → why ≡ firstNo asked
+module _ (l : List ℕ) (asked rest : List Question) where
+  at-state : (why : Refusal) → why ≡ firstNo (stateQuestions l) → (numberOf why ≡ 0 → ⊥) → why ≡ firstNo (stateQuestions l ++ (asked ++ rest))
   at-state why e h = e ∙ front-no (stateQuestions l) _ (λ d. h (ap numberOf e ∙ d))
 
-  pub past-state : (why r : Refusal) → why ≡ firstNo (stateQuestions l) → numberOf why ≡ 0
-      → r ≡ firstNo (recordQuestions (memberCount l) (roundOf rec) (sourceOf rec) (bodyOf rec) ++ rest) → r ≡ firstNo asked
-  past-state why r e h d = d ∙ front-yes (stateQuestions l) _ (state-numbered l) (sym (ap numberOf e) ∙ h)
+  module _ (why : Refusal) (e : why ≡ firstNo (stateQuestions l)) (h : numberOf why ≡ 0) (r : Refusal) (d : r ≡ firstNo asked) where
+    past-state : firstNo (asked ++ rest) ≡ firstNo (stateQuestions l ++ (asked ++ rest))
+    past-state = front-yes (stateQuestions l) _ (state-numbered l) (sym (ap numberOf e) ∙ h)
 
-  at-record : (why r : Refusal) → why ≡ firstNo (stateQuestions l) → numberOf why ≡ 0 → r ≡ recordRefusal (memberCount l) rec → (numberOf r ≡ 0 → ⊥)
-      → r ≡ firstNo asked
-  unfolding bodyRefusal
-  at-record why r e h d k = past-state why r e h (d
-      ∙ front-no (recordQuestions (memberCount l) (roundOf rec) (sourceOf rec) (bodyOf rec)) rest (λ x. k (ap numberOf d ∙ x)))
+    at-asked : (numberOf r ≡ 0 → ⊥) → r ≡ firstNo (stateQuestions l ++ (asked ++ rest))
+    at-asked k = d ∙ front-no asked rest (λ x. k (ap numberOf d ∙ x)) ∙ past-state
 
-  past-record : (why r s : Refusal) → why ≡ firstNo (stateQuestions l) → numberOf why ≡ 0 → r ≡ recordRefusal (memberCount l) rec → numberOf r ≡ 0
-      → s ≡ firstNo rest → s ≡ firstNo asked
-  unfolding bodyRefusal
-  past-record why r s e h d k f =
-      past-state why s e h
-      (f ∙ front-yes (recordQuestions (memberCount l) (roundOf rec) (sourceOf rec) (bodyOf rec)) rest
-      (record-numbered (memberCount l) (roundOf rec) (sourceOf rec) (bodyOf rec)) (sym (ap numberOf d) ∙ k))
+    past-asked : numbered asked ≡ true → numberOf r ≡ 0 → (s : Refusal) → s ≡ firstNo rest → s ≡ firstNo (stateQuestions l ++ (asked ++ rest))
+    past-asked n k s f = f ∙ front-yes asked rest n (sym (ap numberOf d) ∙ k) ∙ past-state
 
 -- what is known where the state's questions are passed; rest are the questions after the record's
 pub record StateKnown (l rec : List ℕ) (rest : List Question) : Type 0 where
@@ -80,9 +62,14 @@ pub record RecordKnown (l rec : List ℕ) (rest : List Question) : Type 0 where
   pub last : (s : Refusal) → s ≡ firstNo rest
       → s ≡ firstNo (stateQuestions l ++ (recordQuestions (memberCount l) (roundOf rec) (sourceOf rec) (bodyOf rec) ++ rest))
 
+-- the state's questions stop the call
+pub state-stops : (l rec : List ℕ) (rest : List Question) (why : Refusal) → why ≡ firstNo (stateQuestions l) → (numberOf why ≡ 0 → ⊥)
+    → why ≡ firstNo (stateQuestions l ++ (recordQuestions (memberCount l) (roundOf rec) (sourceOf rec) (bodyOf rec) ++ rest))
+state-stops l rec rest = at-state l (recordQuestions (memberCount l) (roundOf rec) (sourceOf rec) (bodyOf rec)) rest
+
 module _ (l rec : List ℕ) (rest : List Question) (why : Refusal) (e : why ≡ firstNo (stateQuestions l)) (h : numberOf why ≡ 0) where
   pub state-known : StateKnown l rec rest
-  state-known = record { size = state-ok l (sym (ap numberOf e) ∙ h) .0; stopped = λ r d k. at-record l rec rest why r e h d k }
+  state-known = record { size = state-ok l (sym (ap numberOf e) ∙ h) .0; stopped = λ r d k. at-asked l _ rest why e h r d k }
 
   pub record-known : (r : Refusal) → r ≡ recordRefusal (memberCount l) rec → numberOf r ≡ 0 → RecordKnown l rec rest
   record-known r d k =
@@ -96,7 +83,7 @@ module _ (l rec : List ℕ) (rest : List Question) (why : Refusal) (e : why ≡ 
         long = omega (arith, a .size, length-drop 2 rec);
         whole = w;
         body = rw w n;
-        last = λ t f. past-record l rec rest why r t e h d k f;
+        last = λ t f. past-asked l _ rest why e h r d (numbered-law (memberCount l) (roundOf rec) (sourceOf rec) .1 (bodyOf rec)) k t f;
       }
 
 -- ---- the smallest missing parent
@@ -146,47 +133,40 @@ heard-before mask p h = stop _ _ (ap not h)
 pub heard-first : (mask p : ℕ) → has mask p ≡ false → None ≡ firstNo ((not (has mask p), Duplicate) ∷ [])
 heard-first mask p h = next _ _ (ap not h) done
 
--- what is known of a note where the state's questions are passed: what still refuses it, and that nothing else does
+-- what is known of a note where the state's questions are passed
 pub record NoteKnown (l : List ℕ) (r p mask : ℕ) : Type 0 where
   pub size : length l ≡ stateSize
-  pub high : memberCount l ≤ 16
-  pub below : r < 1 → Round ≡ firstNo (noteQuestions l r p mask)
-  pub above : 32 < r → Round ≡ firstNo (noteQuestions l r p mask)
-  pub signer : 1 ≤ r → r ≤ 32 → memberCount l ≤ p → Source ≡ firstNo (noteQuestions l r p mask)
-  pub again : 1 ≤ r → r ≤ 32 → p < memberCount l → has mask p ≡ true → Duplicate ≡ firstNo (noteQuestions l r p mask)
-  pub new : 1 ≤ r → r ≤ 32 → p < memberCount l → has mask p ≡ false → None ≡ firstNo (noteQuestions l r p mask)
+  pub stopped : (s : Refusal) → s ≡ signerRefusal (memberCount l) r p → (numberOf s ≡ 0 → ⊥) → s ≡ firstNo (noteQuestions l r p mask)
+
+-- and where 5 and 6 are
+pub record SignerKnown (l : List ℕ) (r p mask : ℕ) : Type 0 where
+  pub size : length l ≡ stateSize
+  pub low : 1 ≤ r
+  pub high : r ≤ rounds
+  pub few : p < slots
+  pub again : has mask p ≡ true → Duplicate ≡ firstNo (noteQuestions l r p mask)
+  pub new : has mask p ≡ false → None ≡ firstNo (noteQuestions l r p mask)
 
 module _ (l : List ℕ) (r p mask : ℕ) (why : Refusal) (e : why ≡ firstNo (stateQuestions l)) where
-  pub note-state : (x : ℕ) → x ≡ numberOf why → (x ≡ 0 → ⊥) → why ≡ firstNo (noteQuestions l r p mask)
-  note-state x f h = e ∙ front-no (stateQuestions l) _ (λ d. h (f ∙ ap numberOf e ∙ d))
+  pub note-state : (numberOf why ≡ 0 → ⊥) → why ≡ firstNo (noteQuestions l r p mask)
+  note-state = at-state l (signerQuestions (memberCount l) r p) _ why e
 
-  past-note : (s : Refusal) → numberOf why ≡ 0
-      → s ≡ firstNo ((isRound r, Round) ∷ (ltb p (memberCount l), Source) ∷ (not (has mask p), Duplicate) ∷ [])
-      → s ≡ firstNo (noteQuestions l r p mask)
-  past-note s h d = d ∙ front-yes (stateQuestions l) _ (state-numbered l) (sym (ap numberOf e) ∙ h)
-
-  module _ (x : ℕ) (f : x ≡ numberOf why) (z : x ≡ 0) where
-    state-yes : numberOf why ≡ 0
-    state-yes = sym f ∙ z
-
-    round-no : isRound r ≡ false → Round ≡ firstNo (noteQuestions l r p mask)
-    round-no a = past-note Round state-yes (stop _ _ a)
-
-    round-yes : 1 ≤ r → r ≤ 32 → (s : Refusal) → s ≡ firstNo ((ltb p (memberCount l), Source) ∷ (not (has mask p), Duplicate) ∷ [])
-        → s ≡ firstNo (noteQuestions l r p mask)
-    round-yes a b s d = past-note s state-yes (next _ _ (round-in r a b) d)
-
+  module _ (h : numberOf why ≡ 0) where
     pub note-known : NoteKnown l r p mask
-    note-known =
-        let s = state-ok l (sym (ap numberOf e) ∙ state-yes) in
+    note-known = record { size = state-ok l (sym (ap numberOf e) ∙ h) .0; stopped = λ s d k. at-asked l _ _ why e h s d k }
+
+    pub signer-known : (s : Refusal) → s ≡ signerRefusal (memberCount l) r p → numberOf s ≡ 0 → SignerKnown l r p mask
+    signer-known s d k =
+        let t = state-ok l (sym (ap numberOf e) ∙ h) in
+        let w = placed (memberCount l) r p (sym (ap numberOf d) ∙ k) in
+        let last = past-asked l _ ((not (has mask p), Duplicate) ∷ []) why e h s d (numbered-law (memberCount l) r p .0) k in
         record {
-          size = s .0;
-          high = formed l (s .0) (s .1) .front .high;
-          below = λ k. round-no (round-below r k);
-          above = λ k. round-no (round-above r k);
-          signer = λ a b k. round-yes a b Source (stop _ _ (le-ltb p (memberCount l) k));
-          again = λ a b k d. round-yes a b Duplicate (next _ _ (lt-ltb p (memberCount l) k) (heard-before mask p d));
-          new = λ a b k d. round-yes a b None (next _ _ (lt-ltb p (memberCount l) k) (heard-first mask p d));
+          size = t .0;
+          low = w .round-low;
+          high = w .round-high;
+          few = omega (arith, w .member-low, formed l (t .0) (t .1) .front .high);
+          again = λ f. last Duplicate (heard-before mask p f);
+          new = λ f. last None (heard-first mask p f);
         }
 
 -- ---- outcomes
@@ -205,10 +185,9 @@ outcome-admitted why q l after e h = rw (← e, eq-eqb (numberOf why) 0 h)
 pub record-passed : (l : List ℕ) (r p : ℕ) (body : List ℕ) (rest : List Question)
     → numberOf (firstNo (stateQuestions l ++ (recordQuestions (memberCount l) r p body ++ rest))) ≡ 0
     → WellFormed l × Admitted (memberCount l) r p body × (numberOf (bodyRefusal (memberCount l) r p body) ≡ 0) × (numberOf (firstNo rest) ≡ 0)
-unfolding bodyRefusal
 record-passed l r p body rest e =
     let a = both-fronts (stateQuestions l) (recordQuestions (memberCount l) r p body ++ rest) (state-numbered l) e in
-    let b = both-fronts (recordQuestions (memberCount l) r p body) rest (record-numbered (memberCount l) r p body) (a .1) in
+    let b = both-fronts (recordQuestions (memberCount l) r p body) rest (numbered-law (memberCount l) r p .1 body) (a .1) in
     let s = state-ok l (a .0) in
     (formed l (s .0) (s .1), turn.admitted (memberCount l) r p body (b .0), b .0, b .1)
 
@@ -220,11 +199,11 @@ parents-passed l r p body e =
     both-yes _ _ _ (eqb-false 14 0 refl) (q13 .1) .0
 
 -- of a note: its round and signer
-pub note-passed : (l : List ℕ) (r p mask : ℕ) → numberOf (firstNo (noteQuestions l r p mask)) ≡ 0 → WellFormed l × (1 ≤ r) × (r ≤ 32) × (p < memberCount l)
+pub note-passed : (l : List ℕ) (r p mask : ℕ) → numberOf (firstNo (noteQuestions l r p mask)) ≡ 0
+    → WellFormed l × (1 ≤ r) × (r ≤ rounds) × (p < memberCount l)
 note-passed l r p mask e =
     let a = both-fronts (stateQuestions l) _ (state-numbered l) e in
+    let b = both-fronts (signerQuestions (memberCount l) r p) _ (numbered-law (memberCount l) r p .0) (a .1) in
     let s = state-ok l (a .0) in
-    let q5 = both-yes _ _ _ (eqb-false 5 0 refl) (a .1) in
-    let q6 = both-yes _ _ _ (eqb-false 6 0 refl) (q5 .1) in
-    let w = round-range r (q5 .0) in
-    (formed l (s .0) (s .1), w .0, w .1, ltb-true _ _ (q6 .0))
+    let w = placed (memberCount l) r p (b .0) in
+    (formed l (s .0) (s .1), w .round-low, w .round-high, w .member-low)

@@ -2,16 +2,16 @@
 use mathlib.Core.Bool.{Bool, cond, not, _&&_}
 use mathlib.Core.List.{List, [], _∷_, _++_}
 use Prim.Native.Nat.{ℕ, _+_, _-_}
-use lib.Dec.{eqb, ltb}
+use lib.Dec.{eqb}
 use lib.ListN.{getD, set, length}
 use lib.Seq.{paste}
 use Rattle.record.specs.Below.{all, least}
-use Rattle.record.specs.Members.{has, add, isRound}
+use Rattle.record.specs.Members.{has, add}
 use Rattle.record.specs.Refusals.{Question, firstNo}
 use Rattle.record.specs.Layout.{bodySize, roundOf, sourceOf, bodyOf}
-use Rattle.record.specs.Questions.{recordQuestions}
+use Rattle.record.specs.Questions.{signerQuestions, recordQuestions}
 use Rattle.record.specs.declared.refusal.Refusal.{Refusal}
-use Rattle.record.specs.declared.refusal.Refusal.the-variants.{Round, Source, Duplicate, Conflict, MissingParent}
+use Rattle.record.specs.declared.refusal.Refusal.the-variants.{Duplicate, Conflict, MissingParent}
 use Rattle.protocol.specs.Dag.{votes}
 use Rattle.protocol.specs.Journal.{idLimit}
 use Rattle.replica.specs.Layout.{masksAt, heldAt, heardAt, votesAt, timeoutsAt, noVotesAt, cellAt}
@@ -78,7 +78,7 @@ takeFirstMessage l rec = takeFirstBody l (roundOf rec) (sourceOf rec) (bodyOf re
 
 -- of a round and a signer, with the mask that the signer would join
 abbrev pub noteQuestions : List ℕ → ℕ → ℕ → ℕ → List Question
-noteQuestions l r p mask = stateQuestions l ++ ((isRound r, Round) ∷ (ltb p (memberCount l), Source) ∷ (not (has mask p), Duplicate) ∷ [])
+noteQuestions l r p mask = stateQuestions l ++ (signerQuestions (memberCount l) r p ++ ((not (has mask p), Duplicate) ∷ []))
 
 -- of the mask of that kind among its round's six
 abbrev pub noteRefusal : List ℕ → ℕ → ℕ → ℕ → Refusal

@@ -33,6 +33,7 @@ use record::layout::wide;
 use record::members::Members;
 use record::members::leader_of;
 use record::questions::check;
+use record::questions::check_signer;
 use record::refusal::Refusal;
 use record::refusal::number;
 use replica::answer::Answer;
@@ -230,14 +231,9 @@ fn check_note(state: &[u32], round: u32, signer: u32, kind: usize) -> Refusal
         return why;
     }
     let n = state[MEMBER_COUNT];
-    if round < 1 {
-        return Refusal::Round;
-    }
-    if 32 < round {
-        return Refusal::Round;
-    }
-    if n <= signer {
-        return Refusal::Source;
+    let refused = check_signer(n, round, signer);
+    if number(refused) != 0 {
+        return refused;
     }
     let at = masks_at(round) + kind;
     let mask = Members { bits: state[at], n };

@@ -15,7 +15,7 @@ use Rattle.record.specs.Members.{faulty, leader, within, meets, idRound,
 use Rattle.record.specs.Refusals.{numberOf}
 use Rattle.record.specs.Layout.{strongOf, timeoutsOf, noVotesOf, weakCountOf, weakOf}
 use Rattle.record.specs.Questions.{masksOk, strongOk, lacksLeader, quorumIf, timeoutsOk, noVotesOk, masksAdmitted, weakIdOk, rises, slotOk}
-use Rattle.record.specs.Questions.{weakOk, bodyRefusal}
+use Rattle.record.specs.Questions.{weakOk, signerQuestions, recordQuestions, bodyRefusal}
 use Rattle.record.proofs.Booleans.{which, and-left, and-right, and-both, and-fails-left, and-fails-right, bool-ext, cond-true, cond-false}
 use Rattle.record.proofs.Booleans.{or-left, or-right}
 use Rattle.record.proofs.Below.{all-intro, all-elim}
@@ -55,7 +55,7 @@ module _ (n round source : ℕ) (body : List ℕ) where
   -- a body that 4 to 6 do not refuse is admitted exactly if its masks and its weak ids are
   pub admitted-parts : 1 ≤ round → round ≤ 32 → source < n → length body ≡ 10
       → eqb (numberOf (bodyRefusal n round source body)) 0 ≡ (masksAdmitted n round source body && weakOk n round body)
-  unfolding masksAdmitted bodyRefusal
+  unfolding masksAdmitted recordQuestions signerQuestions
   admitted-parts low high member size = bool-ext there back
     where
       there : eqb (numberOf (bodyRefusal n round source body)) 0 ≡ true

@@ -1,23 +1,22 @@
 -- Laws of the questions in turn, and of a record that none refuses. Assumes nothing.
 use mathlib.Core.Path.{_≡_, refl, sym, ap, _∙_}
-use mathlib.Core.Bool.{Bool, true, false, cond, not, _&&_, and-true, and-false, true≢false, false≢true}
-use mathlib.Core.Logic.{_⊎_, inl, inr, ⊎-elim}
+use mathlib.Core.Bool.{Bool, true, false, not, _&&_, and-true, and-false, true≢false, false≢true}
 use mathlib.Core.List.{List, [], _∷_, _++_}
 use Prim.Native.Nat.{ℕ, _+_, _-_, _^_, _≤_, _<_}
 use native.Mathlib.Omega.{arith}
 use lib.Dec.{eqb, leb, ltb}
 use lib.ListN.{length, drop}
 use borrow.Author.Tests.{leb-true, ltb-true, lt-ltb, eqb-true, eqb-false, ne-eqb, eq-eqb, le-leb}
-use Rattle.record.specs.Below.{all, count}
+use Rattle.record.specs.Below.{count}
 use Rattle.record.specs.Members.{faulty, quorum, leader, has, within, meets, idRound, idMember}
-use Rattle.record.specs.Refusals.{numberOf, Question, firstNo}
+use Rattle.record.specs.Refusals.{numberOf, Question, firstNo, numbered}
 use Rattle.record.specs.Layout.{strongOf, timeoutsOf, noVotesOf, weakCountOf, weakOf}
 use Rattle.record.specs.Questions.{masksOk, strongOk, lacksLeader, quorumIf, timeoutsOk, noVotesOk, weakIdOk, rises, slotOk, weakOk}
-use Rattle.record.specs.Questions.{recordQuestions, bodyRefusal}
-use Rattle.record.specs.Admitted.{Admitted, AdmittedLaw}
+use Rattle.record.specs.Questions.{signerQuestions, recordQuestions, bodyRefusal}
+use Rattle.record.specs.Admitted.{SignerLaw, AdmittedLaw, NumberedLaw}
 use Rattle.record.specs.declared.refusal.Refusal.{Refusal}
 use Rattle.record.specs.declared.refusal.Refusal.the-variants.{None}
-use Rattle.record.proofs.Booleans.{which, and-left, and-right, and-both, cond-true, cond-false}
+use Rattle.record.proofs.Booleans.{never, and-left, and-right, and-both, cond-true, cond-false}
 use Rattle.record.proofs.Below.{all-elim}
 use Rattle.record.proofs.Rounds.{round-in, round-range}
 use Rattle.record.proofs.Masks.{within-lt, meets-count}
@@ -39,10 +38,36 @@ pub done : None ≡ firstNo []
 unfolding firstNo
 done = refl
 
+-- ---- the first no of two lists
+
+pub front-no : (xs ys : List Question) → (numberOf (firstNo xs) ≡ 0 → ⊥) → firstNo xs ≡ firstNo (xs ++ ys)
+unfolding firstNo
+front-no [] ys h = absurd (h refl)
+front-no ((true, why) ∷ xs) ys h = front-no xs ys h
+front-no ((false, why) ∷ xs) ys h = refl
+
+pub front-yes : (xs ys : List Question) → numbered xs ≡ true → numberOf (firstNo xs) ≡ 0 → firstNo ys ≡ firstNo (xs ++ ys)
+unfolding firstNo numbered
+front-yes [] ys n h = refl
+front-yes ((true, why) ∷ xs) ys n h = front-yes xs ys (and-right (not (eqb (numberOf why) 0)) _ n) h
+front-yes ((false, why) ∷ xs) ys n h = never (and-left (not (eqb (numberOf why) 0)) _ n) (ap not (eq-eqb (numberOf why) 0 h))
+
+-- if all are answered yes, so are those of both lists
+pub both-fronts : (xs ys : List Question) → numbered xs ≡ true → numberOf (firstNo (xs ++ ys)) ≡ 0 → (numberOf (firstNo xs) ≡ 0) × (numberOf (firstNo ys) ≡ 0)
+unfolding firstNo numbered
+both-fronts [] ys n h = (refl, h)
+both-fronts ((true, why) ∷ xs) ys n h = both-fronts xs ys (and-right (not (eqb (numberOf why) 0)) _ n) h
+both-fronts ((false, why) ∷ xs) ys n h = never (and-left (not (eqb (numberOf why) 0)) _ n) (ap not (eq-eqb (numberOf why) 0 h))
+
+-- the questions of a record and of a signer
+pub numbered-law : NumberedLaw
+unfolding numbered signerQuestions recordQuestions
+numbered-law n round source = (refl, λ body. refl)
+
 -- where questions 4 to 6 are answered yes, those from 7 on decide
 pub known : (n round source : ℕ) (body : List ℕ) {r : Refusal} → 1 ≤ round → round ≤ 32 → source < n → length body ≡ 10
     → r ≡ firstNo (drop 3 (recordQuestions n round source body)) → r ≡ bodyRefusal n round source body
-unfolding bodyRefusal
+unfolding recordQuestions signerQuestions
 known n round source body l h k e d =
     next _ _ (eq-eqb _ _ e) (next _ _ (round-in round l h) (next _ _ (lt-ltb source n k) d))
 
@@ -119,9 +144,18 @@ weak-count : (n round : ℕ) (body : List ℕ) → weakOk n round body ≡ true 
 unfolding weakOk
 weak-count n round body e = leb-true _ _ (and-left (leb (weakCountOf body) (faulty n)) _ e)
 
+-- A round and a signer with the number 0 are of the group.
+pub placed : SignerLaw
+unfolding signerQuestions
+placed n round signer e =
+    let q5 = both-yes _ _ _ (eqb-false 5 0 refl) e in
+    let q6 = both-yes _ _ _ (eqb-false 6 0 refl) (q5 .1) in
+    let r = round-range round (q5 .0) in
+    record { round-low = r .0; round-high = r .1; member-low = ltb-true _ _ (q6 .0) }
+
 -- A record with the number 0 is admitted.
 pub admitted : AdmittedLaw
-unfolding bodyRefusal timeoutsOk noVotesOk
+unfolding recordQuestions signerQuestions timeoutsOk noVotesOk
 admitted n round source body e =
     let q4 = both-yes _ _ _ (eqb-false 4 0 refl) e in
     let q5 = both-yes _ _ _ (eqb-false 5 0 refl) (q4 .1) in

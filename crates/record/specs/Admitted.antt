@@ -1,19 +1,26 @@
--- What crates above know of a record that no question of 4 to 11 refuses. They never open the questions.
+-- What crates above know of the questions 4 to 11. They never open them, but for `Worked` and `Witness` of `agreement`, which compute concrete records.
 use mathlib.Core.Path.{_≡_}
 use mathlib.Core.Bool.{true, false}
 use mathlib.Core.List.{List}
 use Prim.Native.Nat.{ℕ, _+_, _-_, _^_, _≤_, _<_}
 use lib.ListN.{length}
 use Rattle.record.specs.Below.{count}
-use Rattle.record.specs.Members.{faulty, quorum, leader, has, idRound, idMember}
-use Rattle.record.specs.Refusals.{numberOf}
+use Rattle.record.specs.Members.{rounds, faulty, quorum, leader, has, idRound, idMember}
+use Rattle.record.specs.Refusals.{numberOf, numbered}
 use Rattle.record.specs.Layout.{bodySize, strongOf, timeoutsOf, noVotesOf, weakCountOf, weakOf}
-use Rattle.record.specs.Questions.{bodyRefusal}
+use Rattle.record.specs.Questions.{signerQuestions, recordQuestions, signerRefusal, bodyRefusal}
 
+-- a round, and a member of the group
+pub record Placed (n round member : ℕ) : Type 0 where
+  pub round-low : 1 ≤ round
+  pub round-high : round ≤ rounds
+  pub member-low : member < n
+
+-- a record that no question refuses
 pub record Admitted (n round source : ℕ) (body : List ℕ) : Type 0 where
   pub size : length body ≡ bodySize
   pub round-low : 1 ≤ round
-  pub round-high : round ≤ 32
+  pub round-high : round ≤ rounds
   pub source-low : source < n
   pub strong-low : strongOf body < 2 ^ n
   pub timeouts-low : timeoutsOf body < 2 ^ n
@@ -32,6 +39,14 @@ pub record Admitted (n round source : ℕ) (body : List ℕ) : Type 0 where
   pub weak-high : (i : ℕ) → i < 5 → i < weakCountOf body → idRound (weakOf body i) + 2 ≤ round
   pub weak-rising : (i : ℕ) → i + 1 < 5 → i + 1 < weakCountOf body → weakOf body i < weakOf body (i + 1)
 
--- every record with the number 0 is so
+-- every round and signer with the number 0 is so, and every record
+abbrev pub SignerLaw : Type 0
+SignerLaw = (n round signer : ℕ) → numberOf (signerRefusal n round signer) ≡ 0 → Placed n round signer
+
 abbrev pub AdmittedLaw : Type 0
 AdmittedLaw = (n round source : ℕ) (body : List ℕ) → numberOf (bodyRefusal n round source body) ≡ 0 → Admitted n round source body
+
+-- the number 0 is no question's
+abbrev pub NumberedLaw : Type 0
+NumberedLaw = (n round source : ℕ) → (numbered (signerQuestions n round source) ≡ true)
+    × ((body : List ℕ) → numbered (recordQuestions n round source body) ≡ true)

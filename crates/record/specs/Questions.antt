@@ -1,6 +1,6 @@
 -- Questions 4 to 11 of document 01: what is asked of a record of which only the member count n is known.
 use mathlib.Core.Bool.{Bool, true, cond, not, _&&_}
-use mathlib.Core.List.{List, [], _∷_}
+use mathlib.Core.List.{List, [], _∷_, _++_}
 use Prim.Native.Nat.{ℕ, _+_, _-_}
 use lib.Dec.{eqb, leb, ltb}
 use lib.ListN.{length}
@@ -57,21 +57,27 @@ slotOk n round body i = cond (ltb i (weakCountOf body)) (rises body i && weakIdO
 unfoldable pub weakOk : ℕ → ℕ → List ℕ → Bool
 weakOk n round body = leb (weakCountOf body) (faulty n) && all weakSlots (slotOk n round body)
 
+-- 5 and 6, of a round and of the source of a record or the signer of a note
+unfoldable pub signerQuestions : ℕ → ℕ → ℕ → List Question
+signerQuestions n round signer = (isRound round, Round) ∷ (ltb signer n, Source) ∷ []
+
 -- The questions in turn. Question 4 is asked of the body: a record has 12 words exactly if its body has ten.
-abbrev pub recordQuestions : ℕ → ℕ → ℕ → List ℕ → List Question
+unfoldable pub recordQuestions : ℕ → ℕ → ℕ → List ℕ → List Question
 recordQuestions n round source body =
     (eqb (length body) bodySize, RecordSize)
-    ∷ (isRound round, Round)
-    ∷ (ltb source n, Source)
-    ∷ (masksOk n body, MaskBits)
+    ∷ (signerQuestions n round source
+    ++ ((masksOk n body, MaskBits)
     ∷ (strongOk n round (strongOf body), Strong)
     ∷ (timeoutsOk n round body, Timeouts)
     ∷ (noVotesOk n round source body, NoVotes)
     ∷ (weakOk n round body, Weak)
-    ∷ []
+    ∷ []))
 
--- the refusal of a body whose round and source are given, and of a whole record
-unfoldable pub bodyRefusal : ℕ → ℕ → ℕ → List ℕ → Refusal
+-- the refusal of a round and a signer, of a body whose round and source are given, and of a whole record
+abbrev pub signerRefusal : ℕ → ℕ → ℕ → Refusal
+signerRefusal n round signer = firstNo (signerQuestions n round signer)
+
+abbrev pub bodyRefusal : ℕ → ℕ → ℕ → List ℕ → Refusal
 bodyRefusal n round source body = firstNo (recordQuestions n round source body)
 
 abbrev pub recordRefusal : ℕ → List ℕ → Refusal

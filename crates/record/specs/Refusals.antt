@@ -1,7 +1,8 @@
 -- What an answer says: each refusal's number, the id that it carries, and the first question that is answered no.
-use mathlib.Core.Bool.{Bool, true, false}
+use mathlib.Core.Bool.{Bool, true, false, not, _&&_}
 use mathlib.Core.List.{List, [], _∷_}
 use Prim.Native.Nat.{ℕ}
+use lib.Dec.{eqb}
 use Rattle.record.specs.declared.refusal.Refusal.{Refusal}
 use Rattle.record.specs.declared.refusal.Refusal.the-variants.{None, StateSize, MemberCount, Malformed, RecordSize, Round, Source, MaskBits, Strong, Timeouts, NoVotes, Weak, Duplicate, Conflict, MissingParent, PastEnd}
 
@@ -52,3 +53,8 @@ unfoldable pub firstNo : List Question → Refusal
 firstNo [] = None
 firstNo ((true, why) ∷ rest) = firstNo rest
 firstNo ((false, why) ∷ rest) = why
+
+-- every question has a refusal with a number other than 0
+unfoldable pub numbered : List Question → Bool
+numbered [] = true
+numbered (q ∷ rest) = not (eqb (numberOf (q .1)) 0) && numbered rest

@@ -5,7 +5,7 @@ ghost use Prim.Native.Nat.{_<_, _≤_};
 ghost use lib.Dec.{eqb};
 ghost use lib.ListN.{length};
 ghost use Rattle.record.specs.Members.{within, meets};
-ghost use Rattle.record.specs.Questions.{strongOk, lacksLeader, quorumIf, masksAdmitted, weakIdOk, rises, slotOk, weakOk, bodyRefusal, recordRefusal, termsOf};
+ghost use Rattle.record.specs.Questions.{strongOk, lacksLeader, quorumIf, masksAdmitted, weakIdOk, rises, slotOk, weakOk, signerRefusal, bodyRefusal, recordRefusal, termsOf};
 use super::layout::BODY;
 use super::layout::BODY_SIZE;
 use super::layout::NO_VOTES;
@@ -24,6 +24,7 @@ use super::members::is_round;
 use super::members::is_within;
 use super::members::leader_of;
 use super::refusal::Refusal;
+use super::refusal::number;
 
 // What the questions need of the group and the round, worked out once for all records of a round.
 pub struct Terms {
@@ -223,6 +224,19 @@ fn check_known(terms: Terms, round: u32, source: u32, body: &[u32]) -> Refusal
     Refusal::None
 }
 
+// 5 and 6 in turn, of a round and a source or signer.
+pub fn check_signer(n: u32, round: u32, signer: u32) -> Refusal
+    ensures { λ r. ⌜ r ≡ signerRefusal n round signer ⌝ }
+{
+    if !is_round(round) {
+        return Refusal::Round;
+    }
+    if n <= signer {
+        return Refusal::Source;
+    }
+    Refusal::None
+}
+
 // 4 to 11 in turn, of a body whose round and source are given.
 pub fn check_body(n: u32, round: u32, source: u32, body: &[u32]) -> Refusal
     ensures { λ r. ⌜ r ≡ bodyRefusal n round source (now (body .entry)) ⌝ }
@@ -230,11 +244,9 @@ pub fn check_body(n: u32, round: u32, source: u32, body: &[u32]) -> Refusal
     if body.len() != BODY_SIZE {
         return Refusal::RecordSize;
     }
-    if !is_round(round) {
-        return Refusal::Round;
-    }
-    if n <= source {
-        return Refusal::Source;
+    let why = check_signer(n, round, source);
+    if number(why) != 0 {
+        return why;
     }
     check_known(terms_of(n, round), round, source, body)
 }

@@ -15,7 +15,7 @@ use Rattle.record.specs.Refusals.{numberOf, firstNo}
 use Rattle.record.specs.declared.refusal.Refusal.{Refusal}
 use Rattle.record.specs.declared.refusal.Refusal.the-variants.{None, PastEnd}
 use Rattle.record.proofs.Booleans.{which, cond-true, cond-false}
-use Rattle.record.proofs.Turn.{both-yes, next, stop, done}
+use Rattle.record.proofs.Turn.{both-yes, next, stop, done, front-no, front-yes, both-fronts}
 use Rattle.replica.specs.State.{leaderCount, journalCount}
 use Rattle.replica.specs.WellFormed.{wellFormed}
 use Rattle.replica.specs.Outcome.{Outcome, told, refusedBy, unchanged}
@@ -24,7 +24,7 @@ use Rattle.replica.specs.Place.{Part, cut}
 use Rattle.replica.specs.Lists.{askList, spanIf, handList, Handed, HandOverLaw}
 use Rattle.replica.specs.declared.answer.Answer.{Answer}
 use Rattle.replica.proofs.Clauses.{counts}
-use Rattle.replica.proofs.StatusLaws.{front-no, front-yes, state-numbered, state-ok, both-fronts}
+use Rattle.replica.proofs.StatusLaws.{state-numbered, state-ok}
 
 -- ---- asking
 

@@ -1,5 +1,5 @@
 -- `check_first` meets its contract. Assumes nothing.
-use Rattle.ordering.proofs.Turns.{at-state, StateKnown, state-known, RecordKnown, record-known, heard-before, heard-first}
+use Rattle.ordering.proofs.Turns.{state-stops, StateKnown, state-known, RecordKnown, record-known, heard-before, heard-first}
 use Rattle.replica.specs.State.{heardMask}
 use Rattle.record.specs.Members.{has}
 use Rattle.record.specs.Layout.{roundOf, sourceOf}
@@ -36,7 +36,7 @@ known c =
 returns : tie.Need-returns
 returns c =
     let a : tie.After-check-state = search in
-    at-state (words (search)) (rec (search)) (rest (search)) _ (a .check-state .ensures) (λ d. c .if1 .taken (cc))
+    state-stops (words (search)) (rec (search)) (rest (search)) _ (a .check-state .ensures) (λ d. c .if1 .taken (cc))
 
 shared-slice-read-n : tie.Need-shared-slice-read-n
 shared-slice-read-n c = let k = state (search) in search needs

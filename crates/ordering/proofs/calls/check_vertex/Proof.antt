@@ -1,5 +1,5 @@
 -- `check_vertex` meets its contract. Assumes nothing.
-use Rattle.ordering.proofs.Turns.{at-state, StateKnown, state-known, RecordKnown, record-known}
+use Rattle.ordering.proofs.Turns.{state-stops, StateKnown, state-known, RecordKnown, record-known}
 use Rattle.ordering.specs.Calls.{placeQuestions}
 use Rattle.record.specs.Layout.{roundOf, sourceOf, bodyOf}
 use Rattle.record.specs.Refusals.{Question}
@@ -32,7 +32,7 @@ known c =
 returns : tie.Need-returns
 returns c =
     let a : tie.After-check-state = search in
-    at-state (words (search)) (rec (search)) (rest (search)) _ (a .check-state .ensures) (λ d. c .if1 .taken (cc))
+    state-stops (words (search)) (rec (search)) (rest (search)) _ (a .check-state .ensures) (λ d. c .if1 .taken (cc))
 
 shared-slice-read-n : tie.Need-shared-slice-read-n
 shared-slice-read-n c = let k = state (search) in search needs

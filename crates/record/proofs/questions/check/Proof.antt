@@ -1,5 +1,5 @@
 use lib.ListN.{length, length-drop, drop}
-use Rattle.record.specs.Questions.{bodyRefusal}
+use Rattle.record.specs.Questions.{recordQuestions}
 use Rattle.record.proofs.Turn.{stop}
 use borrow.Author.Tests.{ne-eqb}
 use lib.ListN.{length-drop, drop}
@@ -10,7 +10,7 @@ use Rattle.record.proofs.questions.check.Statement.{statement}
 use Rattle.record.proofs.questions.check.Tie as tie
 
 returns : tie.Need-returns
-unfolding bodyRefusal
+unfolding recordQuestions
 returns c =
     let start : tie.Start = search in
     stop _ _ (ne-eqb (length (drop 2 (start .args .rec .now))) 10 (λ e. c .if1 .taken (omega (arith, length-drop 2 (start .args .rec .now), e))))

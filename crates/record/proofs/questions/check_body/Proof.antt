@@ -1,51 +1,36 @@
-use mathlib.Core.Path.{refl}
-use Rattle.record.specs.Questions.{bodyRefusal}
-use Rattle.record.proofs.Booleans.{passed, failed}
-use Rattle.record.proofs.Turn.{next, stop}
-use Rattle.record.proofs.Rounds.{round-range}
-use borrow.Author.Tests.{le-ltb, eq-eqb, ne-eqb}
-use native.Mathlib.Omega.{arith}
+-- Question 4 by itself, 5 and 6 as `check_signer` answers them; then the others decide.
+use Rattle.record.specs.Questions.{recordQuestions}
+use Rattle.record.specs.Admitted.{Placed}
+use Rattle.record.proofs.Turn.{next, stop, front-no, placed}
+use mathlib.Core.Path.{refl, _∙_}
+use borrow.Author.Tests.{eq-eqb, ne-eqb}
 use borrow.Author.Needs.{needs}
 use Rattle.record.proofs.questions.check_body.Statement.{statement}
 use Rattle.record.proofs.questions.check_body.Tie as tie
 
 returns : tie.Need-returns
-unfolding bodyRefusal
+unfolding recordQuestions
 returns c = stop _ _ (ne-eqb _ _ (c .if1 .taken))
 
 returns-2 : tie.Need-returns-2
-unfolding bodyRefusal
+unfolding recordQuestions
 returns-2 c =
-    let after-is-round : tie.After-is-round = search in
     let else1 : tie.Else1 = search in
-    next _ _ (eq-eqb _ _ (else1 .if1 .left)) (stop _ _ (failed (after-is-round .is-round .ensures) (c .if2 .taken)))
+    let a : tie.After-check-signer = search in
+    next _ _ (eq-eqb _ _ (else1 .if1 .left)) (a .check-signer .ensures ∙ front-no _ _ (λ d. c .if2 .taken (cc)))
 
-returns-3 : tie.Need-returns-3
-unfolding bodyRefusal
-returns-3 c =
-    let else2 : tie.Else2 = search in
-    let after-is-round : tie.After-is-round = search in
-    let else1 : tie.Else1 = search in
-    next _ _ (eq-eqb _ _ (else1 .if1 .left))
-    (next _ _ (passed (after-is-round .is-round .ensures) (else2 .if2 .left)) (stop _ _ (le-ltb _ _ (c .if3 .taken))))
-
-terms-of-requires : tie.Need-terms-of-requires
-terms-of-requires c κs =
-    let else2 : tie.Else2 = search in
-    let after-is-round : tie.After-is-round = search in
-    let h = round-range _ (passed (after-is-round .is-round .ensures) (else2 .if2 .left)) in (omega arith, h .0)
+-- 5 and 6 are answered yes
+known : (c : tie.Else2) → let a = (let s : tie.Start = search in s .args) in Placed (a .n) (a .round) (a .source)
+known c = placed _ _ _ (cc)
 
 check-known-requires : tie.Need-check-known-requires
 check-known-requires c κs =
-    let else3 : tie.Else3 = search in
-    let else2 : tie.Else2 = search in
-    let after-is-round : tie.After-is-round = search in
+    let k = known (search) in
     let else1 : tie.Else1 = search in
-    let h = round-range _ (passed (after-is-round .is-round .ensures) (else2 .if2 .left)) in
-    rw (c .terms-of .ensures) (refl, h .0, h .1, else3 .if3 .left, else1 .if1 .left)
+    rw (c .terms-of .ensures) (refl, k .round-low, k .round-high, k .member-low, else1 .if1 .left)
 
-returns-4 : tie.Need-returns-4
-returns-4 c =
+returns-3 : tie.Need-returns-3
+returns-3 c =
     let after-terms-of : tie.After-terms-of = search in
     rw (after-terms-of .terms-of .ensures) at (c .check-known .ensures)
 
@@ -55,8 +40,8 @@ check-body-spec =
     (tie.spec
     returns
     (λ c κs. search needs)
+    (λ c κs. search needs)
     returns-2
-    returns-3
-    terms-of-requires
+    (λ c κs. let k = known (search) in search needs)
     check-known-requires
-    returns-4)
+    returns-3)

@@ -1,5 +1,5 @@
 -- Questions 4 to 6 are answered yes by what is required; each later test that passes leaves the questions after it, and one that fails gives its refusal.
-use Rattle.record.specs.Questions.{masksOk, strongOk, timeoutsOk, noVotesOk, recordQuestions, bodyRefusal}
+use Rattle.record.specs.Questions.{masksOk, strongOk, timeoutsOk, noVotesOk, signerQuestions, recordQuestions, bodyRefusal}
 use Rattle.record.specs.Layout.{strongOf, timeoutsOf, noVotesOf}
 use Rattle.record.specs.Refusals.{firstNo}
 use Rattle.record.specs.declared.questions.Terms.{Terms}
@@ -53,18 +53,23 @@ no-votes c =
     rw (l .lacks-leader .ensures, ap (λ (t : Terms). t .leader) (s .pre .0)) at (c .no-votes-ok .ensures)
 
 from-strong : (c : tie.Else1) → Left (search) 4
+unfolding recordQuestions signerQuestions
 from-strong c r d = from-masks (search) r (next _ _ (passed (masks (search)) (c .if1 .left)) d)
 
 from-timeouts : (c : tie.Else2) → Left (search) 5
+unfolding recordQuestions signerQuestions
 from-timeouts c r d = from-strong (search) r (next _ _ (passed (strong (search)) (c .if2 .left)) d)
 
 from-no-votes : (c : tie.Else3) → Left (search) 6
+unfolding recordQuestions signerQuestions
 from-no-votes c r d = from-timeouts (search) r (next _ _ (passed (timeouts (search)) (c .if3 .left)) d)
 
 from-weak : (c : tie.Else4) → Left (search) 7
+unfolding recordQuestions signerQuestions
 from-weak c r d = from-no-votes (search) r (next _ _ (passed (no-votes (search)) (c .if4 .left)) d)
 
 pub check-known-spec : {M : Type 1} → statement M
+unfolding recordQuestions signerQuestions
 check-known-spec =
     tie.close
     (tie.spec

@@ -23,7 +23,7 @@ use Rattle.replica.specs.Parents.{isParent, parentsHeld}
 use Rattle.replica.specs.Status.{stateQuestions}
 use Rattle.replica.proofs.Formed.{WellFormed, well-formed}
 use Rattle.replica.proofs.Dags.{held-vertex, held-id}
-use Rattle.replica.proofs.Parents.{parent-cases, parents-intro, weak-five}
+use Rattle.replica.proofs.ParentLaws.{parent-cases, parents-intro, weak-five}
 use Rattle.record.proofs.Rounds.{round-in}
 use Rattle.ordering.specs.Calls.{sameBody, vertexQuestions, firstQuestions, takeBody, takeFirstBody}
 use Rattle.agreement.specs.Call.{Call, opening, vertex, firstMessage, timeout, noVote, status, askLeaderList, askJournalList, handLeaderList}

@@ -23,7 +23,7 @@ use Rattle.record.proofs.Turn.{admitted}
 use Rattle.protocol.specs.Journal.{idLimit}
 use Rattle.replica.specs.State.{heldId}
 use Rattle.replica.specs.Parents.{isParent, missing, parentsHeld}
-use Rattle.replica.proofs.Parents.{strong-parent, weak-parent, parent-cases, weak-five, first-held}
+use Rattle.replica.proofs.ParentLaws.{strong-parent, weak-parent, parent-cases, weak-five, first-held}
 use Rattle.ordering.specs.Search.{parentAt, groupSize}
 
 -- the groups below g have been looked at, and all their parents are held

@@ -46,14 +46,7 @@ unfolding all
 all-cong zero s t h = refl
 all-cong (suc k) s t h = ap₂ _&&_ (all-cong k s t (λ i l. h i (omega arith))) (h k (omega arith))
 
--- two tests at once, and the numbers below a + b as those below a and b more
-pub all-and : (k : ℕ) (s t : ℕ → Bool) → all k (λ i. s i && t i) ≡ (all k s && all k t)
-all-and k s t = bool-ext
-    (λ e. and-both (all-intro k s (λ i l. and-left (s i) (t i) (all-elim k (λ i. s i && t i) e i l)))
-    (all-intro k t (λ i l. and-right (s i) (t i) (all-elim k (λ i. s i && t i) e i l))))
-    (λ e. all-intro k (λ i. s i && t i)
-    (λ i l. and-both (all-elim k s (and-left (all k s) (all k t) e) i l) (all-elim k t (and-right (all k s) (all k t) e) i l)))
-
+-- the numbers below a + b as those below a and b more
 pub all-join : (a b : ℕ) (t : ℕ → Bool) → all (a + b) t ≡ (all a t && all b (λ i. t (a + i)))
 all-join a b t = bool-ext
     (λ e. and-both (all-intro a t (λ i l. all-elim (a + b) t e i (omega arith)))

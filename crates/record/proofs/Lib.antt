@@ -2,6 +2,7 @@ pub mod Booleans
 pub mod Below
 pub mod Masks
 pub mod Rounds
-pub mod Parts
 pub mod Turn
+pub mod Parts
+pub mod Weak
 pub mod Claims

@@ -1,28 +1,23 @@
--- Laws of questions 7 to 10 together and of question 11 in parts, for programs that do not ask them in turn. Assumes nothing.
+-- Laws of questions 7 to 10 together, and of 7 to 11, for programs that do not ask them in turn. Assumes nothing.
 use mathlib.Core.Path.{_≡_, refl, sym, ap, _∙_}
-use mathlib.Core.Bool.{Bool, true, false, cond, _&&_, _||_}
-use mathlib.Core.Logic.{_⊎_, inl, inr}
+use mathlib.Core.Bool.{Bool, true, false, not, _&&_}
 use mathlib.Core.List.{List}
-use Prim.Native.Nat.{ℕ, _+_, _-_, _≤_, _<_}
+use Prim.Native.Nat.{ℕ, _≤_, _<_}
 use native.Mathlib.Omega.{arith}
 use lib.Bits.{bitOr}
-use lib.Dec.{eqb, leb, ltb}
+use lib.Dec.{eqb}
 use lib.ListN.{length}
 use lib.Pow.{pow-pos}
-use borrow.Author.Tests.{eqb-true, eqb-false, eq-eqb, ne-eqb, le-leb, lt-leb, lt-ltb, ltb-true}
-use Rattle.record.specs.Below.{all}
-use Rattle.record.specs.Members.{faulty, leader, within, meets, idRound, idMember}
+use borrow.Author.Tests.{eqb-true, eqb-false, eq-eqb}
+use Rattle.record.specs.Members.{leader, within, meets}
 use Rattle.record.specs.Refusals.{numberOf}
-use Rattle.record.specs.Layout.{strongOf, timeoutsOf, noVotesOf, weakCountOf, weakOf}
-use Rattle.record.specs.Questions.{masksOk, strongOk, lacksLeader, quorumIf, timeoutsOk, noVotesOk, masksAdmitted, weakIdOk, rises, slotOk}
-use Rattle.record.specs.Questions.{weakOk, signerQuestions, recordQuestions, bodyRefusal}
-use Rattle.record.proofs.Booleans.{which, and-left, and-right, and-both, and-fails-left, and-fails-right, bool-ext, cond-true, cond-false}
-use Rattle.record.proofs.Booleans.{or-left, or-right}
-use Rattle.record.proofs.Below.{all-intro, all-elim}
+use Rattle.record.specs.Layout.{strongOf, timeoutsOf, noVotesOf}
+use Rattle.record.specs.Questions.{masksOk, strongOk, lacksLeader, quorumIf, timeoutsOk, noVotesOk, masksAdmitted}
+use Rattle.record.specs.Questions.{weakOk, signerQuestions, recordQuestions, bodyRefusal, Known}
+use Rattle.record.specs.declared.questions.Terms.{Terms}
+use Rattle.record.proofs.Booleans.{and-left, and-right, and-both, and-fails-left, and-fails-right, bool-ext, passed, failed}
 use Rattle.record.proofs.Masks.{or-zero, lt-within}
 use Rattle.record.proofs.Turn.{next, done, known, both-yes}
-
--- ---- the masks
 
 module _ (n round source : ℕ) (body : List ℕ) where
   pub masks-strong : strongOk n round (strongOf body) ≡ false → masksAdmitted n round source body ≡ false
@@ -85,54 +80,14 @@ module _ (n round source : ℕ) (body : List ℕ) where
           (next _ _ (and-right (masksOk n body && (strongOk n round (strongOf body) && (timeoutsOk n round body && noVotesOk n round source body))) _
           e) done))))))))
 
--- ---- the weak ids
+-- ---- the test of a body of which 4 to 6 are answered yes
 
--- question 11: not too many, those in use pass, and the other slots are 0
-pub weak-parts : (n round : ℕ) (body : List ℕ) → weakCountOf body ≤ 5
-    → weakOk n round body
-    ≡ (leb (weakCountOf body) (faulty n)
-    && (all (weakCountOf body) (λ i. rises body i && weakIdOk n round (weakOf body i)) && all 5 (λ i. ltb i (weakCountOf body) || eqb (weakOf body i) 0)))
-unfolding weakOk slotOk
-weak-parts n round body few = ap (λ (b : Bool). leb (weakCountOf body) (faulty n) && b) (bool-ext
-    (λ e. and-both
-    (all-intro (weakCountOf body) _ (λ i l. sym (cond-true _ _ (lt-ltb i (weakCountOf body) l)) ∙ all-elim 5 (slotOk n round body) e i (omega arith)))
-    (all-intro 5 _ (λ i l. unused i (all-elim 5 (slotOk n round body) e i l) (which (ltb i (weakCountOf body))))))
-    (λ e. all-intro 5 (slotOk n round body) (λ i l. slot i
-    (all-elim (weakCountOf body) (λ i. rises body i && weakIdOk n round (weakOf body i)) (and-left _ _ e) i)
-    (all-elim 5 (λ i. ltb i (weakCountOf body) || eqb (weakOf body i) 0)
-    (and-right (all (weakCountOf body) (λ i. rises body i && weakIdOk n round (weakOf body i))) _ e) i l)
-    (which (ltb i (weakCountOf body))))))
-  where
-    unused : (i : ℕ) → cond (ltb i (weakCountOf body)) (rises body i && weakIdOk n round (weakOf body i)) (eqb (weakOf body i) 0) ≡ true
-        → (ltb i (weakCountOf body) ≡ true) ⊎ (ltb i (weakCountOf body) ≡ false) → (ltb i (weakCountOf body) || eqb (weakOf body i) 0) ≡ true
-    unused i e (inl h) = or-left (eqb (weakOf body i) 0) h
-    unused i e (inr h) = or-right (ltb i (weakCountOf body)) (sym (cond-false _ _ h) ∙ e)
+module _ (t : Terms) (round source : ℕ) (body : List ℕ) (k : Known t round source body) (m : Bool) (e : m ≡ masksAdmitted (t .n) round source body) where
+  decides : eqb (numberOf (bodyRefusal (t .n) round source body)) 0 ≡ (masksAdmitted (t .n) round source body && weakOk (t .n) round body)
+  decides = admitted-parts (t .n) round source body (k .round-low) (k .round-high) (k .source-low) (k .size)
 
-    slot : (i : ℕ) → (i < weakCountOf body → (rises body i && weakIdOk n round (weakOf body i)) ≡ true)
-        → (ltb i (weakCountOf body) || eqb (weakOf body i) 0) ≡ true
-        → (ltb i (weakCountOf body) ≡ true) ⊎ (ltb i (weakCountOf body) ≡ false)
-        → cond (ltb i (weakCountOf body)) (rises body i && weakIdOk n round (weakOf body i)) (eqb (weakOf body i) 0) ≡ true
-    slot i u z (inl h) = cond-true _ _ h ∙ u (ltb-true i (weakCountOf body) h)
-    slot i u z (inr h) = cond-false _ _ h ∙ sym (ap (λ (b : Bool). b || eqb (weakOf body i) 0) h) ∙ z
+  pub masks-no : not m ≡ true → false ≡ eqb (numberOf (bodyRefusal (t .n) round source body)) 0
+  masks-no h = sym (decides ∙ and-fails-left _ (failed e h))
 
-pub weak-many : (n round : ℕ) (body : List ℕ) → faulty n < weakCountOf body → weakOk n round body ≡ false
-unfolding weakOk
-weak-many n round body h = and-fails-left _ (lt-leb (weakCountOf body) (faulty n) h)
-
--- a weak id that passes by itself, and one that is of too high a round
-pub weak-id-in : (n round x : ℕ) → idMember x < n → 1 ≤ idRound x → idRound x + 2 ≤ round → weakIdOk n round x ≡ true
-unfolding weakIdOk
-weak-id-in n round x a b d = and-both (lt-ltb (idMember x) n a) (and-both (le-leb 1 (idRound x) b) (le-leb (idRound x + 2) round d))
-
-pub weak-id-high : (n round x : ℕ) → round < idRound x + 2 → weakIdOk n round x ≡ false
-unfolding weakIdOk
-weak-id-high n round x h = and-fails-right (ltb (idMember x) n) (and-fails-right (leb 1 (idRound x)) (lt-leb (idRound x + 2) round h))
-
--- the first weak id rises above nothing, and each later one above the one before
-pub rises-first : (body : List ℕ) → rises body 0 ≡ true
-unfolding rises
-rises-first body = refl
-
-pub rises-later : (body : List ℕ) (i : ℕ) → 1 ≤ i → rises body i ≡ ltb (weakOf body (i - 1)) (weakOf body i)
-unfolding rises
-rises-later body i l = cond-false true _ (ne-eqb i 0 (λ d. omega arith))
+  pub weak-decides : not m ≡ false → (w : Bool) → w ≡ weakOk (t .n) round body → w ≡ eqb (numberOf (bodyRefusal (t .n) round source body)) 0
+  weak-decides h w d = d ∙ sym (decides ∙ rw (passed e h))

@@ -1,6 +1,8 @@
 -- The words of a record: round, source, and a body of ten words.
+use mathlib.Core.Bool.{cond}
 use mathlib.Core.List.{List}
 use Prim.Native.Nat.{ℕ, _+_}
+use lib.Dec.{leb}
 use lib.ListN.{getD, drop}
 
 abbrev pub recordSize : ℕ
@@ -42,6 +44,10 @@ tagOf body = getD body 3 0
 -- how many weak ids are used
 unfoldable pub weakCountOf : List ℕ → ℕ
 weakCountOf body = getD body 4 0
+
+-- how many slots that is: all, where the count is above their number
+unfoldable pub usedSlots : List ℕ → ℕ
+usedSlots body = cond (leb (weakCountOf body) weakSlots) (weakCountOf body) weakSlots
 
 -- the weak id in slot i
 unfoldable pub weakOf : List ℕ → ℕ → ℕ

@@ -1,11 +1,12 @@
 -- Questions 4 to 11 of document 01: what is asked of a record of which only the member count n is known.
+use mathlib.Core.Path.{_≡_}
 use mathlib.Core.Bool.{Bool, true, cond, not, _&&_}
 use mathlib.Core.List.{List, [], _∷_, _++_}
-use Prim.Native.Nat.{ℕ, _+_, _-_}
+use Prim.Native.Nat.{ℕ, _+_, _-_, _≤_, _<_}
 use lib.Dec.{eqb, leb, ltb}
 use lib.ListN.{length}
 use Rattle.record.specs.Below.{all}
-use Rattle.record.specs.Members.{isRound, faulty, leader, has, within, meets, idRound, idMember}
+use Rattle.record.specs.Members.{rounds, isRound, faulty, leader, has, within, meets, idRound, idMember}
 use Rattle.record.specs.Refusals.{Question, firstNo}
 use Rattle.record.specs.Layout.{bodySize, weakSlots, roundOf, sourceOf, bodyOf, strongOf, timeoutsOf, noVotesOf, weakCountOf, weakOf}
 use Rattle.record.specs.declared.questions.Terms.{Terms}
@@ -13,8 +14,11 @@ use Rattle.record.specs.declared.refusal.Refusal.{Refusal}
 use Rattle.record.specs.declared.refusal.Refusal.the-variants.{RecordSize, Round, Source, MaskBits, Strong, Timeouts, NoVotes, Weak}
 
 -- 7: no mask has a bit at n or above
+abbrev pub allWithin : ℕ → ℕ → ℕ → ℕ → Bool
+allWithin n strong timeouts noVotes = within n strong && (within n timeouts && within n noVotes)
+
 unfoldable pub masksOk : ℕ → List ℕ → Bool
-masksOk n body = within n (strongOf body) && (within n (timeoutsOf body) && within n (noVotesOf body))
+masksOk n body = allWithin n (strongOf body) (timeoutsOf body) (noVotesOf body)
 
 -- 8: the strong mask is 0 in round 1, and a quorum later
 unfoldable pub strongOk : ℕ → ℕ → ℕ → Bool
@@ -49,9 +53,12 @@ weakIdOk n round x = ltb (idMember x) n && (leb 1 (idRound x) && leb (idRound x 
 unfoldable pub rises : List ℕ → ℕ → Bool
 rises body i = cond (eqb i 0) true (ltb (weakOf body (i - 1)) (weakOf body i))
 
--- slot i: a weak id where it is used, 0 where not
+-- slot i: a weak id that rises where it is used, 0 where not
+abbrev pub usedOk : ℕ → ℕ → List ℕ → ℕ → Bool
+usedOk n round body i = rises body i && weakIdOk n round (weakOf body i)
+
 unfoldable pub slotOk : ℕ → ℕ → List ℕ → ℕ → Bool
-slotOk n round body i = cond (ltb i (weakCountOf body)) (rises body i && weakIdOk n round (weakOf body i)) (eqb (weakOf body i) 0)
+slotOk n round body i = cond (ltb i (weakCountOf body)) (usedOk n round body i) (eqb (weakOf body i) 0)
 
 -- 11: at most f weak ids are used, and each slot is as it should be
 unfoldable pub weakOk : ℕ → ℕ → List ℕ → Bool
@@ -86,3 +93,11 @@ recordRefusal n rec = bodyRefusal n (roundOf rec) (sourceOf rec) (bodyOf rec)
 -- what the questions need of n and the round, as `Terms`
 abbrev pub termsOf : ℕ → ℕ → Terms
 termsOf n round = record { n = n; previous = leader n (round - 1); leader = leader n round }
+
+-- a body of which 4 to 6 are answered yes, with the terms of its round
+pub record Known (terms : Terms) (round source : ℕ) (body : List ℕ) : Type 0 where
+  pub terms-of : terms ≡ termsOf (terms .n) round
+  pub round-low : 1 ≤ round
+  pub round-high : round ≤ rounds
+  pub source-low : source < terms .n
+  pub size : length body ≡ bodySize

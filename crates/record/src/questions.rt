@@ -1,11 +1,15 @@
 // Questions 4 to 11: each a small function, and the checks that ask them in turn.
 ghost use mathlib.Core.Path.{_≡_};
-ghost use mathlib.Core.Bool.{_&&_};
+ghost use mathlib.Core.Bool.{_&&_, _||_};
 ghost use Prim.Native.Nat.{_<_, _≤_};
-ghost use lib.Dec.{eqb};
+ghost use lib.Dec.{eqb, ltb};
 ghost use lib.ListN.{length};
-ghost use Rattle.record.specs.Members.{within, meets};
-ghost use Rattle.record.specs.Questions.{strongOk, lacksLeader, quorumIf, masksAdmitted, weakIdOk, rises, slotOk, weakOk, signerRefusal, bodyRefusal, recordRefusal, termsOf};
+ghost use Rattle.record.specs.Below.{all};
+ghost use Rattle.record.specs.Members.{rounds, meets};
+ghost use Rattle.record.specs.Refusals.{numberOf};
+ghost use Rattle.record.specs.Layout.{bodySize, weakSlots, usedSlots, weakOf};
+ghost use Rattle.record.specs.Questions.{allWithin, strongOk, lacksLeader, quorumIf, masksAdmitted, weakIdOk, usedOk, weakOk};
+ghost use Rattle.record.specs.Questions.{signerRefusal, bodyRefusal, recordRefusal, termsOf, Known};
 use super::layout::BODY;
 use super::layout::BODY_SIZE;
 use super::layout::NO_VOTES;
@@ -19,6 +23,7 @@ use super::layout::WEAK_COUNT;
 use super::layout::WEAK_SLOTS;
 use super::layout::wide;
 use super::members::Members;
+use super::members::SLOTS;
 use super::members::faulty_of;
 use super::members::is_round;
 use super::members::is_within;
@@ -55,7 +60,7 @@ pub fn terms_of(n: u32, round: u32) -> Terms
 
 // 7
 fn masks_ok(n: u32, strong: u32, timeouts: u32, no_votes: u32) -> bool
-    ensures { λ r. ⌜ r ≡ (within n strong && (within n timeouts && within n «no_votes»)) ⌝ }
+    ensures { λ r. ⌜ r ≡ allWithin n strong timeouts «no_votes» ⌝ }
 {
     is_within(n, strong | (timeouts | no_votes))
 }
@@ -73,7 +78,7 @@ fn strong_ok(n: u32, round: u32, strong: u32) -> bool
 
 // The strong mask lacks the previous leader.
 fn lacks_leader(terms: Terms, round: u32, strong: u32) -> bool
-    requires { ⌜ (terms ≡ termsOf (terms .n) round) × (round ≤ 32) ⌝ }
+    requires { ⌜ (terms ≡ termsOf (terms .n) round) × (round ≤ rounds) ⌝ }
     ensures { λ r. ⌜ r ≡ lacksLeader (terms .n) round strong ⌝ }
 {
     if round < 2 {
@@ -107,54 +112,46 @@ fn no_votes_ok(terms: Terms, source: u32, lack: bool, no_votes: u32) -> bool
     no_votes == 0
 }
 
-fn weak_id_ok(n: u32, round: u32, x: u32) -> bool
-    ensures { λ r. ⌜ r ≡ weakIdOk n round x ⌝ }
+// 11, of the weak id x: it is above the last one, of a member below n, and at least two rounds below the record.
+fn weak_id_ok(n: u32, round: u32, last: u32, x: u32) -> bool
+    requires { ⌜ 15 ≤ last ⌝ }
+    ensures { λ r. ⌜ r ≡ (ltb last x && weakIdOk n round x) ⌝ }
 {
-    if n <= x % 16 {
+    if x <= last {
         return false;
     }
-    if x / 16 < 1 {
+    if n <= x % SLOTS {
         return false;
     }
-    x / 16 + 2 <= round
+    x / SLOTS + 2 <= round
 }
 
-fn rises_at(body: &[u32], i: usize) -> bool
-    requires { ⌜ (length (now body) ≡ 10) × (i < 5) ⌝ }
-    ensures { λ r. ⌜ r ≡ rises (now (body .entry)) i ⌝ }
+// So for so many weak ids. The one before the first is 15, below every id.
+fn weak_ids_ok(n: u32, round: u32, body: &[u32], count: usize) -> bool
+    requires { ⌜ (length (now body) ≡ bodySize) × (count ≤ weakSlots) ⌝ }
+    ensures { λ r. ⌜ r ≡ all count (usedOk n round (now (body .entry))) ⌝ }
 {
-    if i == 0 {
-        return true;
-    }
-    body[WEAK + (i - 1)] < body[WEAK + i]
-}
-
-fn slot_ok(n: u32, round: u32, body: &[u32], i: usize) -> bool
-    requires { ⌜ (length (now body) ≡ 10) × (i < 5) ⌝ }
-    ensures { λ r. ⌜ r ≡ slotOk n round (now (body .entry)) i ⌝ }
-{
-    let x = body[WEAK + i];
-    if wide(body[WEAK_COUNT]) <= i {
-        return x == 0;
-    }
-    if !rises_at(body, i) {
-        return false;
-    }
-    weak_id_ok(n, round, x)
-}
-
-// 11
-fn weak_ok(n: u32, round: u32, body: &[u32]) -> bool
-    requires { ⌜ length (now body) ≡ 10 ⌝ }
-    ensures { λ r. ⌜ r ≡ weakOk n round (now (body .entry)) ⌝ }
-{
-    let most = faulty_of(n);
-    if most < body[WEAK_COUNT] {
-        return false;
-    }
+    let mut last: u32 = 15;
     let mut i: usize = 0;
+    while i < count {
+        let x = body[WEAK + i];
+        if !weak_id_ok(n, round, last, x) {
+            return false;
+        }
+        last = x;
+        i += 1;
+    }
+    true
+}
+
+// The slots from so many on are 0.
+fn slots_zero(body: &[u32], count: usize) -> bool
+    requires { ⌜ (length (now body) ≡ bodySize) × (count ≤ weakSlots) ⌝ }
+    ensures { λ r. ⌜ r ≡ all weakSlots (λ i. ltb i count || eqb (weakOf (now (body .entry)) i) 0) ⌝ }
+{
+    let mut i: usize = count;
     while i < WEAK_SLOTS {
-        if !slot_ok(n, round, body, i) {
+        if body[WEAK + i] != 0 {
             return false;
         }
         i += 1;
@@ -162,23 +159,63 @@ fn weak_ok(n: u32, round: u32, body: &[u32]) -> bool
     true
 }
 
-// 7, 9 and 10, of masks that lack the previous leader.
-fn certificates_ok(terms: Terms, source: u32, strong: u32, timeouts: u32, no_votes: u32) -> bool
-    ensures { λ r. ⌜ r ≡ ((within (terms .n) strong && (within (terms .n) timeouts && within (terms .n) «no_votes»)) && (meets (terms .n) timeouts && quorumIf (terms .n) (eqb source (terms .leader)) «no_votes»)) ⌝ }
+// The same. Most records have no weak id or one: for them the words are joined before they are tested.
+fn unused_zero(body: &[u32], count: usize) -> bool
+    requires { ⌜ (length (now body) ≡ bodySize) × (count ≤ weakSlots) ⌝ }
+    ensures { λ r. ⌜ r ≡ all weakSlots (λ i. ltb i count || eqb (weakOf (now (body .entry)) i) 0) ⌝ }
 {
-    if !masks_ok(terms.n, strong, timeouts, no_votes) {
+    let joined = body[WEAK + 1] | body[WEAK + 2] | body[WEAK + 3] | body[WEAK + 4];
+    if count == 0 {
+        return joined | body[WEAK] == 0;
+    }
+    if count == 1 {
+        return joined == 0;
+    }
+    slots_zero(body, count)
+}
+
+// How many slots are used. Only a group of more than 16 members may use more weak ids than there are slots.
+fn used_slots(body: &[u32]) -> usize
+    requires { ⌜ length (now body) ≡ bodySize ⌝ }
+    ensures { λ r. ⌜ r ≡ usedSlots (now (body .entry)) ⌝ }
+{
+    let count = wide(body[WEAK_COUNT]);
+    if WEAK_SLOTS < count {
+        return WEAK_SLOTS;
+    }
+    count
+}
+
+// 11
+fn weak_ok(n: u32, round: u32, body: &[u32]) -> bool
+    requires { ⌜ length (now body) ≡ bodySize ⌝ }
+    ensures { λ r. ⌜ r ≡ weakOk n round (now (body .entry)) ⌝ }
+{
+    let most = faulty_of(n);
+    if most < body[WEAK_COUNT] {
         return false;
     }
+    let count = used_slots(body);
+    if !weak_ids_ok(n, round, body, count) {
+        return false;
+    }
+    unused_zero(body, count)
+}
+
+// 9 and 10, of masks that lack the previous leader.
+fn certificates_ok(terms: Terms, source: u32, timeouts: u32, no_votes: u32) -> bool
+    ensures { λ r. ⌜ r ≡ (meets (terms .n) timeouts && quorumIf (terms .n) (eqb source (terms .leader)) «no_votes») ⌝ }
+{
     if !quorum_if(terms.n, true, timeouts) {
         return false;
     }
     no_votes_ok(terms, source, true, no_votes)
 }
 
-// Whether 7 to 10 are all answered yes, of a body of which 4 to 6 are known to be, with the round's terms. Most masks have the
-// previous leader: for them the other two masks are tested at once.
-pub fn masks_admitted(terms: Terms, round: u32, source: u32, body: &[u32]) -> bool
-    requires { ⌜ (terms ≡ termsOf (terms .n) round) × (1 ≤ round) × (round ≤ 32) × (length (now body) ≡ 10) ⌝ }
+// 7 to 10, of a body of which 4 to 6 are known to be answered yes. Most masks have the previous leader: for them the other two masks
+// are tested at once.
+fn masks_admitted(terms: Terms, round: u32, source: u32, body: &[u32]) -> bool
+    requires { ⌜ Known terms round source (now body) ⌝ }
     ensures { λ r. ⌜ r ≡ masksAdmitted (terms .n) round source (now (body .entry)) ⌝ }
 {
     let strong = body[STRONG];
@@ -188,7 +225,10 @@ pub fn masks_admitted(terms: Terms, round: u32, source: u32, body: &[u32]) -> bo
         return false;
     }
     if lacks_leader(terms, round, strong) {
-        return certificates_ok(terms, source, strong, timeouts, no_votes);
+        if !masks_ok(terms.n, strong, timeouts, no_votes) {
+            return false;
+        }
+        return certificates_ok(terms, source, timeouts, no_votes);
     }
     if timeouts | no_votes != 0 {
         return false;
@@ -196,9 +236,20 @@ pub fn masks_admitted(terms: Terms, round: u32, source: u32, body: &[u32]) -> bo
     is_within(terms.n, strong)
 }
 
-// 7 to 11 in turn, of a body of which 4 to 6 are known to be answered yes, with the round's terms.
+// Whether 5 to 11 are all answered yes, of a body of which 4 to 6 are known to be.
+pub fn is_admitted(terms: Terms, round: u32, source: u32, body: &[u32]) -> bool
+    requires { ⌜ Known terms round source (now body) ⌝ }
+    ensures { λ r. ⌜ r ≡ eqb (numberOf (bodyRefusal (terms .n) round source (now (body .entry)))) 0 ⌝ }
+{
+    if !masks_admitted(terms, round, source, body) {
+        return false;
+    }
+    weak_ok(terms.n, round, body)
+}
+
+// 7 to 11 in turn, of a body of which 4 to 6 are known to be answered yes.
 fn check_known(terms: Terms, round: u32, source: u32, body: &[u32]) -> Refusal
-    requires { ⌜ (terms ≡ termsOf (terms .n) round) × (1 ≤ round) × (round ≤ 32) × (source < terms .n) × (length (now body) ≡ 10) ⌝ }
+    requires { ⌜ Known terms round source (now body) ⌝ }
     ensures { λ r. ⌜ r ≡ bodyRefusal (terms .n) round source (now (body .entry)) ⌝ }
 {
     let n = terms.n;

@@ -10,17 +10,16 @@ use lib.ListN.{length, getD, take, drop, length-drop}
 use lib.Seq.{length-take-le}
 use Rattle.record.specs.Below.{all}
 use Rattle.record.specs.Members.{legal, has}
-use Rattle.record.specs.Refusals.{numberOf}
-use Rattle.record.specs.Questions.{bodyRefusal}
+use Rattle.record.specs.Questions.{termsOf, Known}
+use Rattle.record.specs.declared.questions.Terms.{Terms}
 use Rattle.record.proofs.Booleans.{which, cond-true, cond-false, and-fails-left, passed, failed}
 use Rattle.record.proofs.Below.{all-none, all-cong, all-join}
 use Rattle.record.proofs.Masks.{has-zero, has-bound, legal-range}
 use Rattle.replica.specs.Layout.{cellAt}
 use Rattle.replica.specs.State.{memberCount, heldMask, cell}
-use Rattle.replica.specs.Parents.{parentsHeld}
-use Rattle.replica.specs.WellFormed.{eachRound, masksWithin, cellOk}
+use Rattle.replica.specs.WellFormed.{eachRound, masksWithin, recordOk, cellOk}
+use Rattle.replica.specs.Inner.{Grouped}
 use Rattle.replica.proofs.Laws.{blank, part-zero}
-use Rattle.replica.proofs.Parents.{recordPasses}
 use Rattle.replica.proofs.Words.{masks-small, round-elim}
 
 -- the lent part is the cell
@@ -36,7 +35,7 @@ cell-empty l r p e = cond-false _ _ e
 
 -- a held cell, whose record decides
 pub cell-held : (l : List ℕ) (r p : ℕ) (body : List ℕ) → has (heldMask l r) p ≡ true → body ≡ cell l r p
-    → (eqb (numberOf (bodyRefusal (memberCount l) r p body)) 0 && parentsHeld l r body) ≡ cellOk l r p
+    → recordOk l r p body ≡ cellOk l r p
 unfolding cellOk
 cell-held l r p body h e = rw e (sym (cond-true _ _ h))
 
@@ -48,9 +47,13 @@ words-part l at end a k e f h =
     rw (d, e) (part-zero l a k h)
 
 -- the part is as long as a body
-pub cell-long : (l : List ℕ) (r p at : ℕ) → length l ≡ 5864 → r ≤ 32 → p < 16 → at ≡ cellAt r p → length (take ((at + 10) - at) (drop at l)) ≡ 10
+cell-long : (l : List ℕ) (r p at : ℕ) → length l ≡ 5864 → r ≤ 32 → p < 16 → at ≡ cellAt r p → length (take ((at + 10) - at) (drop at l)) ≡ 10
 cell-long l r p at size high few place =
     ap length (cell-part l at (cellAt r p) place) ∙ length-take-le 10 (drop (cellAt r p) l) (omega (arith, length-drop (cellAt r p) l))
+
+-- the terms are those of the group
+pub terms-count : (l : List ℕ) (t : Terms) (r : ℕ) → t ≡ termsOf (memberCount l) r → t .n ≡ memberCount l
+terms-count l t r e = rw e
 
 module _ (l : List ℕ) (r p at h : ℕ) (b : Bool) (place : at ≡ cellAt r p) (mask : h ≡ heldMask l r) (bit : b ≡ has h p) where
   -- nobody holds the cell
@@ -58,11 +61,18 @@ module _ (l : List ℕ) (r p at h : ℕ) (b : Bool) (place : at ≡ cellAt r p) 
   cell-blank size high few t z e =
       e ∙ words-part l at (at + 10) (cellAt r p) 10 place (omega arith) (omega arith) ∙ sym (cell-empty l r p (failed (rw mask at bit) t))
 
-  -- or it is held: its member is one of the group, and its record decides
-  pub cell-member : not b ≡ false → eachRound (masksWithin l) ≡ true → 1 ≤ r → r ≤ 32 → p < memberCount l
-  cell-member t w low high = has-bound _ _ _ (masks-small l r (round-elim (masksWithin l) w r low high) .held) (passed (rw mask at bit) t)
+  -- or it is held: of its record 4 to 6 are answered yes, and it decides
+  pub cell-known : not b ≡ false → Grouped l → 1 ≤ r → r ≤ 32 → p < 16 → (t : Terms) → t ≡ termsOf (memberCount l) r
+      → Known t r p (take ((at + 10) - at) (drop at l))
+  cell-known held g low high few t e = rw e (record {
+    terms-of = refl;
+    round-low = low;
+    round-high = high;
+    source-low = has-bound _ _ _ (masks-small l r (round-elim (masksWithin l) (g .masks) r low high) .held) (passed (rw mask at bit) held);
+    size = cell-long l r p at (g .size) high few place;
+  })
 
-  pub cell-decides : not b ≡ false → (z : Bool) → z ≡ recordPasses l r p (take ((at + 10) - at) (drop at l)) → z ≡ cellOk l r p
+  pub cell-decides : not b ≡ false → (z : Bool) → z ≡ recordOk l r p (take ((at + 10) - at) (drop at l)) → z ≡ cellOk l r p
   cell-decides t z e = e ∙ cell-held l r p _ (passed (rw mask at bit) t) (cell-part l at _ place)
 
 -- ---- cells that nobody holds, together

@@ -1,12 +1,11 @@
 pub mod Laws
 pub mod Clauses
-pub mod Parents
+pub mod ParentLaws
 pub mod Cells
 pub mod OpeningLaws
 pub mod StatusLaws
 pub mod ListLaws
 pub mod Words
-pub mod Weak
 pub mod Marks
 pub mod Formed
 pub mod Dags

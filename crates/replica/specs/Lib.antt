@@ -2,6 +2,7 @@ pub mod Layout
 pub mod State
 pub mod Parents
 pub mod WellFormed
+pub mod Inner
 pub mod Outcome
 pub mod Opening
 pub mod Status

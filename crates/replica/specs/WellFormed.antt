@@ -34,10 +34,13 @@ masksWithin l r =
     && within (memberCount l) (orderedMask l r)))))
 
 -- a held record passes questions 5 to 11 and 14, and a cell not held is zero
+abbrev pub recordOk : List ℕ → ℕ → ℕ → List ℕ → Bool
+recordOk l r p body = eqb (numberOf (bodyRefusal (memberCount l) r p body)) 0 && parentsHeld l r body
+
 unfoldable pub cellOk : List ℕ → ℕ → ℕ → Bool
 cellOk l r p =
     cond (has (heldMask l r) p)
-    (eqb (numberOf (bodyRefusal (memberCount l) r p (cell l r p))) 0 && parentsHeld l r (cell l r p))
+    (recordOk l r p (cell l r p))
     (all bodySize (λ i. eqb (getD l (cellAt r p + i) 0) 0))
 
 -- entry i of the leader list is a held leader's vertex, of a higher round than the entry before

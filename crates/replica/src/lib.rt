@@ -3,5 +3,6 @@ pub mod answer;
 pub mod layout;
 pub mod lists;
 pub mod opening;
+pub mod parents;
 pub mod status;
 pub mod wellformed;

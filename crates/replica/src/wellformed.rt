@@ -1,18 +1,17 @@
 // The test of question 3: a function for each clause of well-formedness.
 ghost use mathlib.Core.Path.{_≡_};
-ghost use mathlib.Core.Bool.{true, _&&_, _||_};
-ghost use Prim.Native.Nat.{ℕ, _+_, _-_, _*_, _<_, _≤_};
-ghost use lib.Dec.{eqb, ltb};
+ghost use mathlib.Core.Bool.{true};
+ghost use Prim.Native.Nat.{_+_, _-_, _*_, _<_, _≤_};
+ghost use lib.Dec.{eqb};
 ghost use lib.ListN.{length, getD, take, drop};
 ghost use Rattle.record.specs.Below.{all};
-ghost use Rattle.record.specs.Members.{legal};
-ghost use Rattle.record.specs.Refusals.{numberOf};
-ghost use Rattle.record.specs.Layout.{weakCountOf, weakOf};
-ghost use Rattle.record.specs.Questions.{weakIdOk, rises, weakOk, bodyRefusal, termsOf};
+ghost use Rattle.record.specs.Members.{rounds, slots, legal};
+ghost use Rattle.record.specs.Questions.{Known};
 ghost use Rattle.replica.specs.Layout.{stateSize};
-ghost use Rattle.replica.specs.State.{memberCount, committedRound, leaderCount, heldMask, heardMask, votesMask, orderedMask, heldId};
-ghost use Rattle.replica.specs.Parents.{parentsHeld};
-ghost use Rattle.replica.specs.WellFormed.{eachRound, subset, masksWithin, cellOk, leaderOk, lastLeaderRound, leadersOk, journalOk, restZero, every, clauses, wellFormed};
+ghost use Rattle.replica.specs.State.{memberCount, committedRound, leaderCount, heldMask, heardMask, votesMask, orderedMask};
+ghost use Rattle.replica.specs.WellFormed.{eachRound, subset, masksWithin, recordOk, cellOk, leaderOk, lastLeaderRound, leadersOk, journalOk};
+ghost use Rattle.replica.specs.WellFormed.{restZero, every, clauses, wellFormed};
+ghost use Rattle.replica.specs.Inner.{Grouped, GroupedRound};
 use super::layout::CELLS;
 use super::layout::COMMITTED_ROUND;
 use super::layout::CURRENT_ROUND;
@@ -39,21 +38,17 @@ use super::layout::is_id;
 use super::layout::masks_at;
 use super::layout::ordered_mask;
 use super::layout::votes_mask;
+use super::parents::parents_held;
 use record::layout::BODY_SIZE;
-use record::layout::STRONG;
-use record::layout::WEAK;
-use record::layout::WEAK_COUNT;
-use record::layout::WEAK_SLOTS;
 use record::layout::wide;
 use record::members::Members;
 use record::members::ROUNDS;
-use record::members::faulty_of;
 use record::members::is_legal;
 use record::members::is_within;
 use record::members::leader_of;
 use record::members::power;
 use record::questions::Terms;
-use record::questions::masks_admitted;
+use record::questions::is_admitted;
 use record::questions::terms_of;
 
 // Every word of the part is 0. The words are joined before they are tested, so that no word costs a branch.
@@ -148,115 +143,20 @@ fn ordered_held(state: &[u32]) -> bool
     true
 }
 
-// Question 14, of the strong parents.
-fn strong_held(state: &[u32], round: u32, strong: u32) -> bool
-    requires { ⌜ (length (now state) ≡ stateSize) × (1 ≤ round) × (round ≤ 32) ⌝ }
-    ensures { λ r. ⌜ r ≡ (ltb round 2 || subset strong (heldMask (now (state .entry)) (round - 1))) ⌝ }
-{
-    if round < 2 {
-        return true;
-    }
-    strong & held_mask(state, round - 1) == strong
-}
-
-// Questions 11 and 14, of the weak id x: it is above the last one, of a round from 1 to the record's round less 2, and held.
-fn weak_id_ok(state: &[u32], n: u32, round: u32, last: u32, x: u32) -> bool
-    requires { ⌜ (length (now state) ≡ stateSize) × (n ≡ memberCount (now state)) × (eachRound (masksWithin (now state)) ≡ true) × (1 ≤ round) × (round ≤ 32) × (15 ≤ last) ⌝ }
-    ensures { λ r. ⌜ r ≡ (ltb last x && (weakIdOk n round x && heldId (now (state .entry)) x)) ⌝ }
-{
-    if x <= last {
-        return false;
-    }
-    if 16 * (round - 1) <= x {
-        return false;
-    }
-    let held = Members {
-        bits: held_mask(state, x / 16),
-        n,
-    };
-    held.has(x % 16)
-}
-
-// So for so many weak ids. The one before the first is 15, below every id.
-fn weak_ids_ok(state: &[u32], n: u32, round: u32, body: &[u32], count: usize) -> bool
-    requires { ⌜ (length (now state) ≡ stateSize) × (n ≡ memberCount (now state)) × (eachRound (masksWithin (now state)) ≡ true) × (1 ≤ round) × (round ≤ 32) × (length (now body) ≡ 10) × (count ≤ 5) ⌝ }
-    ensures { λ r. ⌜ r ≡ all count (λ i. (rises (now (body .entry)) i && weakIdOk n round (weakOf (now (body .entry)) i)) && heldId (now (state .entry)) (weakOf (now (body .entry)) i)) ⌝ }
-{
-    let mut last: u32 = 15;
-    let mut i: usize = 0;
-    while i < count {
-        let x = body[WEAK + i];
-        if !weak_id_ok(state, n, round, last, x) {
-            return false;
-        }
-        last = x;
-        i += 1;
-    }
-    true
-}
-
-// The slots of weak ids from so many on are 0.
-fn slots_zero(body: &[u32], count: usize) -> bool
-    requires { ⌜ (length (now body) ≡ 10) × (count ≤ 5) ⌝ }
-    ensures { λ r. ⌜ r ≡ all 5 (λ i. ltb i count || eqb (weakOf (now (body .entry)) i) 0) ⌝ }
-{
-    let mut i: usize = count;
-    while i < WEAK_SLOTS {
-        if body[WEAK + i] != 0 {
-            return false;
-        }
-        i += 1;
-    }
-    true
-}
-
-// The same. Most records have no weak id or one: for them the words are joined before they are tested.
-fn unused_zero(body: &[u32], count: usize) -> bool
-    requires { ⌜ (length (now body) ≡ 10) × (count ≤ 5) ⌝ }
-    ensures { λ r. ⌜ r ≡ all 5 (λ i. ltb i count || eqb (weakOf (now (body .entry)) i) 0) ⌝ }
-{
-    let joined = body[WEAK + 1] | body[WEAK + 2] | body[WEAK + 3] | body[WEAK + 4];
-    if count == 0 {
-        return joined | body[WEAK] == 0;
-    }
-    if count == 1 {
-        return joined == 0;
-    }
-    slots_zero(body, count)
-}
-
-// Questions 11 and 14, of the weak ids: at most f are used and pass, and the words beyond them are 0.
-fn weak_ok(state: &[u32], n: u32, round: u32, body: &[u32]) -> bool
-    requires { ⌜ (length (now state) ≡ stateSize) × (n ≡ memberCount (now state)) × (legal n ≡ true) × (eachRound (masksWithin (now state)) ≡ true) × (1 ≤ round) × (round ≤ 32) × (length (now body) ≡ 10) ⌝ }
-    ensures { λ r. ⌜ r ≡ (weakOk n round (now (body .entry)) && all (weakCountOf (now (body .entry))) (λ i. heldId (now (state .entry)) (weakOf (now (body .entry)) i))) ⌝ }
-{
-    if faulty_of(n) < body[WEAK_COUNT] {
-        return false;
-    }
-    let count = wide(body[WEAK_COUNT]);
-    if !weak_ids_ok(state, n, round, body, count) {
-        return false;
-    }
-    unused_zero(body, count)
-}
-
-// The record passes questions 7 to 11 and 14.
+// The record passes questions 5 to 11 and 14.
 fn record_ok(state: &[u32], terms: Terms, round: u32, source: u32, body: &[u32]) -> bool
-    requires { ⌜ (length (now state) ≡ stateSize) × (terms ≡ termsOf (memberCount (now state)) round) × (legal (memberCount (now state)) ≡ true) × (eachRound (masksWithin (now state)) ≡ true) × (1 ≤ round) × (round ≤ 32) × (source < memberCount (now state)) × (length (now body) ≡ 10) ⌝ }
-    ensures { λ r. ⌜ r ≡ (eqb (numberOf (bodyRefusal (memberCount (now (state .entry))) round source (now (body .entry)))) 0 && parentsHeld (now (state .entry)) round (now (body .entry))) ⌝ }
+    requires { ⌜ Grouped (now state) × (terms .n ≡ memberCount (now state)) × Known terms round source (now body) ⌝ }
+    ensures { λ r. ⌜ r ≡ recordOk (now (state .entry)) round source (now (body .entry)) ⌝ }
 {
-    if !masks_admitted(terms, round, source, body) {
+    if !is_admitted(terms, round, source, body) {
         return false;
     }
-    if !strong_held(state, round, body[STRONG]) {
-        return false;
-    }
-    weak_ok(state, terms.n, round, body)
+    parents_held(state, round, body)
 }
 
 // A held record passes questions 5 to 11 and 14, and a cell not held is zero.
 fn cell_ok(state: &[u32], terms: Terms, round: u32, member: u32) -> bool
-    requires { ⌜ (length (now state) ≡ stateSize) × (terms ≡ termsOf (memberCount (now state)) round) × (legal (memberCount (now state)) ≡ true) × (eachRound (masksWithin (now state)) ≡ true) × (1 ≤ round) × (round ≤ 32) × (member < 16) ⌝ }
+    requires { ⌜ GroupedRound (now state) terms round × (member < slots) ⌝ }
     ensures { λ r. ⌜ r ≡ cellOk (now (state .entry)) round member ⌝ }
 {
     let at = cell_at(round, member);
@@ -273,7 +173,7 @@ fn cell_ok(state: &[u32], terms: Terms, round: u32, member: u32) -> bool
 
 // The cells of the members pass.
 fn members_ok(state: &[u32], n: u32, round: u32) -> bool
-    requires { ⌜ (length (now state) ≡ stateSize) × (n ≡ memberCount (now state)) × (legal n ≡ true) × (eachRound (masksWithin (now state)) ≡ true) × (1 ≤ round) × (round ≤ 32) ⌝ }
+    requires { ⌜ Grouped (now state) × (n ≡ memberCount (now state)) × (1 ≤ round) × (round ≤ rounds) ⌝ }
     ensures { λ r. ⌜ r ≡ all n (cellOk (now (state .entry)) round) ⌝ }
 {
     let terms = terms_of(n, round);
@@ -314,7 +214,7 @@ fn rest_cells_zero(state: &[u32], n: u32, start: usize) -> bool
 
 // Cells that nobody holds are tested together: all of a round that holds none, and those from n on.
 fn round_cells_ok(state: &[u32], round: u32) -> bool
-    requires { ⌜ (length (now state) ≡ stateSize) × (legal (memberCount (now state)) ≡ true) × (eachRound (masksWithin (now state)) ≡ true) × (1 ≤ round) × (round ≤ 32) ⌝ }
+    requires { ⌜ Grouped (now state) × (1 ≤ round) × (round ≤ rounds) ⌝ }
     ensures { λ r. ⌜ r ≡ all 16 (cellOk (now (state .entry)) round) ⌝ }
 {
     let n = state[MEMBER_COUNT];
@@ -330,7 +230,7 @@ fn round_cells_ok(state: &[u32], round: u32) -> bool
 }
 
 fn cells_ok(state: &[u32]) -> bool
-    requires { ⌜ (length (now state) ≡ stateSize) × (legal (memberCount (now state)) ≡ true) × (eachRound (masksWithin (now state)) ≡ true) ⌝ }
+    requires { ⌜ Grouped (now state) ⌝ }
     ensures { λ r. ⌜ r ≡ eachRound (λ r. all 16 (cellOk (now (state .entry)) r)) ⌝ }
 {
     let mut i: u32 = 0;
@@ -408,7 +308,7 @@ fn all_marked(state: &[u32], marks: [u32; 32]) -> bool
 
 // Each entry is an id and, in the marks of its round, new; it is marked there. In the end the marks are the ordered masks.
 fn journal_ok(state: &[u32]) -> bool
-    requires { ⌜ (length (now state) ≡ stateSize) × (legal (memberCount (now state)) ≡ true) × (eachRound (masksWithin (now state)) ≡ true) ⌝ }
+    requires { ⌜ Grouped (now state) ⌝ }
     ensures { λ r. ⌜ r ≡ journalOk (now (state .entry)) ⌝ }
 {
     let n = state[MEMBER_COUNT];

@@ -27,7 +27,8 @@ check-known-requires : tie.Need-check-known-requires
 check-known-requires c κs =
     let k = known (search) in
     let else1 : tie.Else1 = search in
-    rw (c .terms-of .ensures) (refl, k .round-low, k .round-high, k .member-low, else1 .if1 .left)
+    rw (c .terms-of .ensures)
+    (record { terms-of = refl; round-low = k .round-low; round-high = k .round-high; source-low = k .member-low; size = else1 .if1 .left })
 
 returns-3 : tie.Need-returns-3
 returns-3 c =

@@ -30,7 +30,7 @@ Left s k =
     → r ≡ bodyRefusal (n s) (round s) (s .args .source) (body s)
 
 from-masks : (c : tie.Start) → Left c 3
-from-masks c r = known _ _ _ _ (c .pre .1) (c .pre .2) (c .pre .3) (c .pre .4)
+from-masks c r = known _ _ _ _ (c .pre .round-low) (c .pre .round-high) (c .pre .source-low) (c .pre .size)
 
 -- what each test asks
 masks : (c : tie.After-masks-ok) → c .masks-ok .result ≡ masksOk (n (search)) (body (search))
@@ -50,7 +50,7 @@ unfolding noVotesOk strongOf noVotesOf
 no-votes c =
     let s : tie.Start = search in
     let l : tie.After-lacks-leader = search in
-    rw (l .lacks-leader .ensures, ap (λ (t : Terms). t .leader) (s .pre .0)) at (c .no-votes-ok .ensures)
+    rw (l .lacks-leader .ensures, ap (λ (t : Terms). t .leader) (s .pre .terms-of)) at (c .no-votes-ok .ensures)
 
 from-strong : (c : tie.Else1) → Left (search) 4
 unfolding recordQuestions signerQuestions

@@ -23,7 +23,7 @@ loop-holds c = (omega arith, all-none _)
 round-cells-ok-requires : tie.Need-round-cells-ok-requires Inv-loop μ-loop
 round-cells-ok-requires c κs =
     let start : tie.Start Inv-loop μ-loop = search in
-    (start .pre .0, start .pre .1, start .pre .2, omega arith, omega arith)
+    (start .pre, omega arith, omega arith)
 
 returns : tie.Need-returns Inv-loop μ-loop
 returns c =

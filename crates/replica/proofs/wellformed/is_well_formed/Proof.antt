@@ -4,6 +4,11 @@ use Rattle.replica.proofs.Clauses.{head-no, body-no, leaders-no, journa
 use Rattle.replica.proofs.wellformed.is_well_formed.Statement.{statement}
 use Rattle.replica.proofs.wellformed.is_well_formed.Tie as tie
 
+journal-ok-requires : tie.Need-journal-ok-requires
+journal-ok-requires c κs =
+    let b : tie.After-body-ok = search in
+    record { size = search needs; group = search head-legal; masks = body-masks _ _ (b .body-ok .ensures) (search) }
+
 rest-zero-requires : tie.Need-rest-zero-requires
 rest-zero-requires c κs =
     let a : tie.After-leaders-ok = search in
@@ -20,7 +25,7 @@ is-well-formed-spec =
     (λ c. search body-no)
     (λ c κs. search head-legal)
     (λ c. search leaders-no)
-    (λ c κs. let b : tie.After-body-ok = search in (search needs, search head-legal, body-masks _ _ (b .body-ok .ensures) (search)))
+    journal-ok-requires
     (λ c. search journal-no)
     rest-zero-requires
     (λ c. search rest-decides))

@@ -5,7 +5,6 @@ use mathlib.Core.Bool.{true}
 use Prim.Native.Nat.{_≤_, _<_, _-_}
 use native.Mathlib.Omega.{arith}
 use Rattle.record.specs.Below.{all}
-use Rattle.record.specs.Members.{legal}
 use Rattle.record.specs.Questions.{termsOf}
 use Rattle.record.proofs.Below.{all-none}
 use Rattle.record.proofs.Masks.{legal-range}
@@ -21,8 +20,8 @@ Inv-loop state n round terms p₀ p = (p ≤ n) × (terms ≡ termsOf (memberCou
 abbrev μ-loop : tie.MeasureT-loop
 μ-loop state n round terms p₀ p = n - p
 
-known : (c : tie.Start Inv-loop μ-loop) → (0 < c .args .n) × (c .args .n ≤ 16) × (legal (memberCount (c .args .state .now)) ≡ true)
-known c = let g = legal-range _ (c .pre .2) in (omega arith, omega arith, cc)
+known : (c : tie.Start Inv-loop μ-loop) → (0 < c .args .n) × (c .args .n ≤ 16)
+known c = let g = legal-range _ (c .pre .0 .group) in (omega arith, omega arith)
 
 pub members-ok-spec : {M : Type 1} → statement M
 members-ok-spec =

@@ -6,12 +6,12 @@ use Prim.Native.Nat.{_-_, _≤_}
 use native.Mathlib.Omega.{arith}
 use lib.Dec.{eqb, ltb}
 use borrow.Author.Tests.{eq-eqb, ne-eqb, lt-ltb, le-ltb}
 use Rattle.record.specs.Below.{all}
 use Rattle.record.specs.Layout.{weakOf}
 use Rattle.record.proofs.Booleans.{or-left, or-right}
 use Rattle.record.proofs.Below.{all-intro, all-more, all-stop}
-use Rattle.replica.proofs.wellformed.slots_zero.Statement.{statement}
-use Rattle.replica.proofs.wellformed.slots_zero.Tie as tie
+use Rattle.record.proofs.questions.slots_zero.Statement.{statement}
+use Rattle.record.proofs.questions.slots_zero.Tie as tie
 
 abbrev Inv-loop : tie.InvT-loop
 Inv-loop body count i₀ i = (count ≤ i) × (i ≤ 5) × (all i (λ k. ltb k count || eqb (weakOf body k) 0) ≡ true)

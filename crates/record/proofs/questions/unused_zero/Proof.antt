@@ -1,9 +1,9 @@
 -- `none-used` and `one-used` of `Weak`.
 use Rattle.record.specs.Layout.{weakOf}
-use Rattle.replica.proofs.Weak.{none-used, one-used}
+use Rattle.record.proofs.Weak.{none-used, one-used}
 use borrow.Author.Needs.{needs}
-use Rattle.replica.proofs.wellformed.unused_zero.Statement.{statement}
-use Rattle.replica.proofs.wellformed.unused_zero.Tie as tie
+use Rattle.record.proofs.questions.unused_zero.Statement.{statement}
+use Rattle.record.proofs.questions.unused_zero.Tie as tie
 
 returns : tie.Need-returns
 unfolding weakOf

@@ -1,32 +1,33 @@
 -- Laws of the parents of an admitted record, and when all of them are held. Assumes nothing.
 use mathlib.Core.Path.{_≡_, refl, sym, ap, _∙_}
-use mathlib.Core.Bool.{Bool, true, false, not, _&&_, _||_, true≢false}
+use mathlib.Core.Bool.{Bool, true, false, not, _&&_, true≢false}
 use mathlib.Core.Logic.{_⊎_, inl, inr, ⊎-elim}
 use mathlib.Core.List.{List}
 use Prim.Native.Nat.{ℕ, _+_, _-_, _^_, _≤_, _<_}
 use native.Mathlib.Nat.{lt-of-lt-of-le}
 use native.Mathlib.Omega.{arith}
-use lib.Dec.{eqb, ltb}
+use lib.Bits.{bitAnd}
+use lib.Dec.{eqb}
 use lib.ListN.{length}
 use lib.Pow.{pow-mono}
-use borrow.Author.Tests.{eqb-true, eq-eqb, ltb-true, ltb-false, not-true, not-false}
+use borrow.Author.Tests.{eqb-true, eq-eqb, ne-eqb, not-true, not-false}
 use Rattle.record.specs.Below.{all, any}
-use Rattle.record.specs.Members.{legal, has, idOf, idRound, idMember, isRound}
-use Rattle.record.specs.Layout.{strongOf, weakCountOf, weakOf}
+use Rattle.record.specs.Members.{rounds, legal, has, idOf, idRound, idMember, isRound}
+use Rattle.record.specs.Layout.{bodySize, weakSlots, strongOf, weakCountOf, weakOf}
 use Rattle.record.specs.Refusals.{numberOf}
-use Rattle.record.specs.Questions.{masksAdmitted, weakOk, bodyRefusal, termsOf}
+use Rattle.record.specs.Questions.{bodyRefusal}
 use Rattle.record.specs.declared.questions.Terms.{Terms}
 use Rattle.record.specs.Admitted.{Admitted}
-use Rattle.record.proofs.Booleans.{which, never, and-left, and-right, and-both, and-fails-left, or-left, or-right, or-cases, bool-ext, passed, failed}
+use Rattle.record.proofs.Booleans.{never, and-left, and-right, and-both, and-fails-left, or-left, or-right, or-cases, bool-ext, passed, failed}
 use Rattle.record.proofs.Below.{all-intro, all-elim, any-intro, any-elim, any-false, any-off}
 use Rattle.record.proofs.Masks.{has-zero, legal-range}
 use Rattle.record.proofs.Rounds.{round-in}
 use Rattle.record.proofs.Turn.{admitted}
-use Rattle.record.proofs.Parts.{admitted-parts}
 use Rattle.protocol.specs.Journal.{idLimit}
 use Rattle.replica.specs.State.{memberCount, heldMask, heldId}
 use Rattle.replica.specs.Parents.{isParent, missing, parentsHeld}
-use Rattle.replica.specs.WellFormed.{subset}
+use Rattle.replica.specs.WellFormed.{subset, recordOk}
+use Rattle.replica.specs.Inner.{Grouped, AdmittedIn}
 use Rattle.replica.proofs.Laws.{subset-has, has-subset}
 
 -- ---- who is a parent
@@ -116,81 +117,49 @@ module _ (n r p : ℕ) (l body : List ℕ) (group : legal n ≡ true) (a : Admit
           and-both (round-in (idRound y) (omega arith) (omega (arith, a .round-high)))
           (rw x at (subset-has (strongOf body) (heldMask l (r - 1)) (idMember y) e h))
 
--- ---- of a record of which questions 4 to 6 are answered yes
+-- ---- the test of question 14, of an admitted record
 
-module _ (n r p : ℕ) (l body : List ℕ) (group : legal n ≡ true) (low : 1 ≤ r) (high : r ≤ 32) (member : p < n) (size : length body ≡ 10) where
-  -- its masks are refused
-  masks-refused : masksAdmitted n r p body ≡ false → (eqb (numberOf (bodyRefusal n r p body)) 0 && parentsHeld l r body) ≡ false
-  masks-refused e = and-fails-left (parentsHeld l r body) (admitted-parts n r p body low high member size ∙ and-fails-left (weakOk n r body) e)
+module _ (l : List ℕ) (r : ℕ) (body : List ℕ) (A : AdmittedIn l r body) where
+  known : Admitted (memberCount l) r (A .source) body
+  known = admitted (memberCount l) r (A .source) body (A .admitted)
 
-  -- or they are admitted: the strong parents and the weak ids decide
-  masks-passed : masksAdmitted n r p body ≡ true
-      → ((ltb r 2 || subset (strongOf body) (heldMask l (r - 1))) && (weakOk n r body && all (weakCountOf body) (λ i. heldId l (weakOf body i))))
-      ≡ (eqb (numberOf (bodyRefusal n r p body)) 0 && parentsHeld l r body)
-  masks-passed e = bool-ext there back
-    where
-      strong : Bool
-      strong = ltb r 2 || subset (strongOf body) (heldMask l (r - 1))
+  -- what is asked of the words
+  pub parents-size : length body ≡ bodySize
+  parents-size = known .size
 
-      weak : Bool
-      weak = all (weakCountOf body) (λ i. heldId l (weakOf body i))
+  pub parents-round : r ≤ rounds
+  parents-round = known .round-high
 
-      passes : eqb (numberOf (bodyRefusal n r p body)) 0 ≡ weakOk n r body
-      passes = admitted-parts n r p body low high member size ∙ rw e
+  pub parents-few : weakCountOf body ≤ weakSlots
+  parents-few = weak-five (memberCount l) r (A .source) l body (A .group) known
 
-      none : Admitted n r p body → r < 2 → weak ≡ true
-      none a f = all-intro (weakCountOf body) (λ i. heldId l (weakOf body i)) (λ i b.
-          absurd (omega (arith, weak-five n r p l body group a, a .weak-high i (omega (arith, weak-five n r p l body group a)) b)))
+  -- there are none, or the strong mask and then the weak ids decide
+  pub parents-none : r < 2 → true ≡ parentsHeld l r body
+  parents-none h = sym (first-held (memberCount l) r (A .source) l body (A .group) known h)
 
-      held-by : Admitted n r p body → (ltb r 2 ≡ true) ⊎ (ltb r 2 ≡ false) → parentsHeld l r body ≡ (strong && weak)
-      held-by a (inl f) = first-held n r p l body group a (ltb-true r 2 f) ∙ sym (and-both (or-left _ f) (none a (ltb-true r 2 f)))
-      held-by a (inr f) = later-held n r p l body group a (ltb-false r 2 f)
-          ∙ ap (λ (b : Bool). (b || subset (strongOf body) (heldMask l (r - 1))) && weak) (sym f)
+  module _ (low : 2 ≤ r) (m : ℕ) (e : m ≡ heldMask l (r - 1)) where
+    decides : parentsHeld l r body ≡ (subset (strongOf body) m && all (weakCountOf body) (λ i. heldId l (weakOf body i)))
+    decides = rw e (later-held (memberCount l) r (A .source) l body (A .group) known low)
 
-      there : (strong && (weakOk n r body && weak)) ≡ true → (eqb (numberOf (bodyRefusal n r p body)) 0 && parentsHeld l r body) ≡ true
-      there d =
-          let w = and-right strong _ d in
-          let z = passes ∙ and-left (weakOk n r body) _ w in
-          let a = admitted n r p body (eqb-true _ 0 z) in
-          and-both z (held-by a (which (ltb r 2)) ∙ and-both (and-left strong _ d) (and-right (weakOk n r body) _ w))
+    pub strong-no : (bitAnd (strongOf body) m ≡ strongOf body → ⊥) → false ≡ parentsHeld l r body
+    strong-no h = sym (decides ∙ and-fails-left _ (ne-eqb _ _ h))
 
-      back : (eqb (numberOf (bodyRefusal n r p body)) 0 && parentsHeld l r body) ≡ true → (strong && (weakOk n r body && weak)) ≡ true
-      back d =
-          let z = and-left (eqb (numberOf (bodyRefusal n r p body)) 0) _ d in
-          let a = admitted n r p body (eqb-true _ 0 z) in
-          let h = sym (held-by a (which (ltb r 2))) ∙ and-right (eqb (numberOf (bodyRefusal n r p body)) 0) _ d in
-          and-both (and-left strong _ h) (and-both (sym passes ∙ z) (and-right strong _ h))
+    pub weak-decides : bitAnd (strongOf body) m ≡ strongOf body → (z : Bool) → z ≡ all (weakCountOf body) (λ i. heldId l (weakOf body i))
+        → z ≡ parentsHeld l r body
+    weak-decides h z d = d ∙ sym (decides ∙ rw (eq-eqb _ _ h))
 
--- ---- the test of a record, with the terms of its round
+-- ---- the test of a record: it is admitted, and then its parents decide
 
-abbrev pub recordPasses : List ℕ → ℕ → ℕ → List ℕ → Bool
-recordPasses l r p body = eqb (numberOf (bodyRefusal (memberCount l) r p body)) 0 && parentsHeld l r body
+module _ (l : List ℕ) (t : Terms) (r p : ℕ) (body : List ℕ) (e : t .n ≡ memberCount l) (m : Bool)
+    (em : m ≡ eqb (numberOf (bodyRefusal (t .n) r p body)) 0) where
+  asked : m ≡ eqb (numberOf (bodyRefusal (memberCount l) r p body)) 0
+  asked = rw e at em
 
-module _ (l : List ℕ) (t : Terms) (r : ℕ) (e : t ≡ termsOf (memberCount l) r) where
-  -- the terms are those of the group
-  pub terms-same : t ≡ termsOf (t .n) r
-  terms-same = rw e
+  pub record-no : not m ≡ true → false ≡ recordOk l r p body
+  record-no h = sym (and-fails-left _ (failed asked h))
 
-  pub terms-count : t .n ≡ memberCount l
-  terms-count = rw e
+  pub record-in : not m ≡ false → Grouped l → AdmittedIn l r body
+  record-in h g = record { size = g .size; group = g .group; source = p; admitted = eqb-true _ 0 (passed asked h) }
 
-  pub terms-legal : legal (memberCount l) ≡ true → legal (t .n) ≡ true
-  terms-legal g = rw e g
-
-  -- the masks, the strong parents and the weak ids decide, one after the other
-  module _ (p : ℕ) (body : List ℕ) (group : legal (memberCount l) ≡ true) (low : 1 ≤ r) (high : r ≤ 32) (member : p < memberCount l)
-      (size : length body ≡ 10) (m : Bool) (em : m ≡ masksAdmitted (t .n) r p body) where
-    pub masks-no : not m ≡ true → false ≡ recordPasses l r p body
-    masks-no h = sym (masks-refused _ r p l body group low high member size (rw terms-count at (failed em h)))
-
-    module _ (pm : not m ≡ false) (s : Bool) (es : s ≡ (ltb r 2 || subset (strongOf body) (heldMask l (r - 1)))) where
-      decides : ((ltb r 2 || subset (strongOf body) (heldMask l (r - 1)))
-          && (weakOk (memberCount l) r body && all (weakCountOf body) (λ i. heldId l (weakOf body i)))) ≡ recordPasses l r p body
-      decides = masks-passed (memberCount l) r p l body group low high member size (rw terms-count at (passed em pm))
-
-      pub strong-no : not s ≡ true → false ≡ recordPasses l r p body
-      strong-no h = sym (sym decides ∙ and-fails-left _ (failed es h))
-
-      pub weak-decides : not s ≡ false → (w : Bool) → w ≡ (weakOk (t .n) r body && all (weakCountOf body) (λ i. heldId l (weakOf body i)))
-          → w ≡ recordPasses l r p body
-      weak-decides h w ew = rw terms-count at ew ∙ rw (passed es h) at decides
+  pub parents-decide : not m ≡ false → (z : Bool) → z ≡ parentsHeld l r body → z ≡ recordOk l r p body
+  parents-decide h z d = d ∙ sym (rw (passed asked h))

@@ -1,16 +1,16 @@
 -- Invariant: the first i weak ids pass, and the last one is that of the slot before, 15 at first (`Risen` of `Weak`).
 use Prim.Native.Nat.{_-_}
 use borrow.Author.Needs.{needs}
 use Rattle.record.specs.Layout.{weakOf}
-use Rattle.replica.proofs.Weak.{Risen, risen-start, risen-stop, risen-more, risen-end}
-use Rattle.replica.proofs.wellformed.weak_ids_ok.Statement.{statement}
-use Rattle.replica.proofs.wellformed.weak_ids_ok.Tie as tie
+use Rattle.record.proofs.Weak.{Risen, risen-start, risen-stop, risen-more, risen-end}
+use Rattle.record.proofs.questions.weak_ids_ok.Statement.{statement}
+use Rattle.record.proofs.questions.weak_ids_ok.Tie as tie
 
 abbrev Inv-loop : tie.InvT-loop
-Inv-loop state n round body count last₀ i₀ last i = Risen state n round body count last i
+Inv-loop n round body count last₀ i₀ last i = Risen n round body count last i
 
 abbrev μ-loop : tie.MeasureT-loop
-μ-loop state n round body count last₀ i₀ last i = count - i
+μ-loop n round body count last₀ i₀ last i = count - i
 
 pub weak-ids-ok-spec : {M : Type 1} → statement M
 unfolding weakOf

@@ -1,0 +1,63 @@
+-- Invariant: the first i weak ids are held.
+use mathlib.Core.Path.{_≡_}
+use mathlib.Core.Bool.{true}
+use Prim.Native.Nat.{_≤_, _-_}
+use native.Mathlib.Omega.{arith}
+use borrow.Author.Needs.{needs}
+use Rattle.record.specs.Below.{all}
+use Rattle.record.specs.Layout.{weakCountOf, weakOf}
+use Rattle.record.proofs.Below.{all-none}
+use Rattle.replica.specs.State.{heldId}
+use Rattle.replica.proofs.Laws.{all-no, all-yes, all-end}
+use Rattle.replica.proofs.parents.weak_held.Statement.{statement}
+use Rattle.replica.proofs.parents.weak_held.Tie as tie
+
+abbrev Inv-loop : tie.InvT-loop
+Inv-loop state body n count i₀ i = (i ≤ count) × (count ≡ weakCountOf body) × (all i (λ k. heldId state (weakOf body k)) ≡ true)
+
+abbrev μ-loop : tie.MeasureT-loop
+μ-loop state body n count i₀ i = count - i
+
+loop-holds : tie.Need-loop-holds Inv-loop μ-loop
+unfolding weakCountOf
+loop-holds c = let w : tie.After-wide Inv-loop μ-loop = search in (omega arith, w .wide .ensures, all-none _)
+
+returns : tie.Need-returns Inv-loop μ-loop
+unfolding weakOf
+returns c =
+    let d : tie.After-is-held Inv-loop μ-loop = search in
+    let s : tie.Start Inv-loop μ-loop = search in
+    all-no _ (λ k. heldId (s .args .state .now) (weakOf (s .args .body .now) k)) _ _ (omega arith) (d .is-held .ensures) (c .if1 .taken)
+
+loop-again : tie.Need-loop-again Inv-loop μ-loop
+unfolding weakOf
+loop-again c =
+    let d : tie.After-is-held Inv-loop μ-loop = search in
+    let a : tie.At-loop Inv-loop μ-loop = search in
+    (omega arith, a .loop .inv .1, all-yes _ _ _ (a .loop .inv .2) (d .is-held .ensures) (c .if1 .left))
+
+returns-2 : tie.Need-returns-2 Inv-loop μ-loop
+returns-2 c =
+    let a : tie.At-loop Inv-loop μ-loop = search in
+    all-end _ _ (a .loop .i) (omega arith) (omega arith) (a .loop .inv .2)
+
+pub weak-held-spec : {M : Type 1} → statement M
+unfolding weakCountOf
+weak-held-spec =
+    tie.close
+    (tie.spec
+    Inv-loop
+    μ-loop
+    (λ c. search needs)
+    (λ c. search needs)
+    (λ c κs. search needs)
+    loop-holds
+    (λ c. search needs)
+    (λ c. search needs)
+    (λ c. search needs)
+    (λ c κs. search needs)
+    returns
+    (λ c. search needs)
+    (λ c. search needs)
+    loop-again
+    returns-2)

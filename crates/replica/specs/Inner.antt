@@ -1,0 +1,33 @@
+-- What the inner functions of the test of question 3 ask of what they are lent. No claim rests on it.
+use mathlib.Core.Path.{_≡_}
+use mathlib.Core.Bool.{true}
+use mathlib.Core.List.{List}
+use Prim.Native.Nat.{ℕ, _≤_}
+use lib.ListN.{length}
+use Rattle.record.specs.Members.{rounds, legal}
+use Rattle.record.specs.Refusals.{numberOf}
+use Rattle.record.specs.Questions.{bodyRefusal, termsOf}
+use Rattle.record.specs.declared.questions.Terms.{Terms}
+use Rattle.replica.specs.Layout.{stateSize}
+use Rattle.replica.specs.State.{memberCount}
+use Rattle.replica.specs.WellFormed.{eachRound, masksWithin}
+
+-- the words of a state whose member count is legal and whose masks lie within it
+pub record Grouped (l : List ℕ) : Type 0 where
+  pub size : length l ≡ stateSize
+  pub group : legal (memberCount l) ≡ true
+  pub masks : eachRound (masksWithin l) ≡ true
+
+-- such words, and a round with its terms
+pub record GroupedRound (l : List ℕ) (terms : Terms) (r : ℕ) : Type 0 where
+  pub words : Grouped l
+  pub terms-of : terms ≡ termsOf (memberCount l) r
+  pub low : 1 ≤ r
+  pub high : r ≤ rounds
+
+-- the words of a state, and the body of a record of round r that its group admits
+pub record AdmittedIn (l : List ℕ) (r : ℕ) (body : List ℕ) : Type 0 where
+  pub size : length l ≡ stateSize
+  pub group : legal (memberCount l) ≡ true
+  pub source : ℕ
+  pub admitted : numberOf (bodyRefusal (memberCount l) r source body) ≡ 0

@@ -1,0 +1,49 @@
+// Question 14: whether all parents of an admitted record are held.
+ghost use mathlib.Core.Path.{_≡_};
+ghost use Prim.Native.Nat.{_≤_};
+ghost use lib.ListN.{length};
+ghost use Rattle.record.specs.Below.{all};
+ghost use Rattle.record.specs.Layout.{bodySize, weakSlots, weakCountOf, weakOf};
+ghost use Rattle.replica.specs.Layout.{stateSize};
+ghost use Rattle.replica.specs.State.{heldId};
+ghost use Rattle.replica.specs.Parents.{parentsHeld};
+ghost use Rattle.replica.specs.Inner.{AdmittedIn};
+use super::layout::MEMBER_COUNT;
+use super::layout::held_mask;
+use super::layout::is_held;
+use record::layout::STRONG;
+use record::layout::WEAK;
+use record::layout::WEAK_COUNT;
+use record::layout::wide;
+
+// The weak ids that are used are held.
+fn weak_held(state: &[u32], body: &[u32]) -> bool
+    requires { ⌜ (length (now state) ≡ stateSize) × (length (now body) ≡ bodySize) × (weakCountOf (now body) ≤ weakSlots) ⌝ }
+    ensures { λ r. ⌜ r ≡ all (weakCountOf (now (body .entry))) (λ i. heldId (now (state .entry)) (weakOf (now (body .entry)) i)) ⌝ }
+{
+    let n = state[MEMBER_COUNT];
+    let count = wide(body[WEAK_COUNT]);
+    let mut i: usize = 0;
+    while i < count {
+        if !is_held(state, n, body[WEAK + i]) {
+            return false;
+        }
+        i += 1;
+    }
+    true
+}
+
+// A record of round 1 has no parents. A later one has its strong parents held where their mask lies within the held one.
+pub fn parents_held(state: &[u32], round: u32, body: &[u32]) -> bool
+    requires { ⌜ AdmittedIn (now state) round (now body) ⌝ }
+    ensures { λ r. ⌜ r ≡ parentsHeld (now (state .entry)) round (now (body .entry)) ⌝ }
+{
+    if round < 2 {
+        return true;
+    }
+    let strong = body[STRONG];
+    if strong & held_mask(state, round - 1) != strong {
+        return false;
+    }
+    weak_held(state, body)
+}

@@ -1,21 +1,19 @@
 -- The DAG of a state: which vertices it holds, that they are well formed, and the votes of its first messages. Assumes nothing.
-use mathlib.Core.Path.{_≡_, refl, sym, ap, _∙_}
-use mathlib.Core.Bool.{true, false, not, _&&_}
-use mathlib.Core.Logic.{_⊎_, inl, inr, ⊎-elim}
+use mathlib.Core.Path.{_≡_, refl, sym, _∙_}
+use mathlib.Core.Bool.{true, false, _&&_}
+use mathlib.Core.Logic.{_⊎_, inl, inr}
 use mathlib.Core.List.{List, [], _∷_}
 use Prim.Native.Nat.{ℕ, suc, _+_, _-_, _≤_, _<_}
 use native.Mathlib.Nat.{not-suc-le-zero}
 use native.Mathlib.Numerals.{sub-one}
 use native.Mathlib.Omega.{arith}
-use lib.Dec.{eqb}
 use lib.ListN.{length, getD, drop}
 use lib.Seq.{getD-drop, getD-take}
-use borrow.Author.Tests.{eq-eqb, not-true}
+use borrow.Author.Tests.{eq-eqb}
 use Rattle.record.specs.Members.{leader, has, idOf, idRound, idMember, isRound}
 use Rattle.record.specs.Layout.{strongOf, weakCountOf, weakOf}
 use Rattle.record.specs.Admitted.{Admitted}
-use Rattle.record.proofs.Booleans.{which, never, and-left, and-right, and-both, or-left, or-right}
-use Rattle.record.proofs.Below.{any-intro, any-off}
+use Rattle.record.proofs.Booleans.{which, never, and-left, and-right, and-both}
 use Rattle.record.proofs.Masks.{has-zero, has-one, has-bound}
 use Rattle.record.proofs.Turn.{admitted}
 use Rattle.record.proofs.Rounds.{round-in, round-range}
@@ -26,7 +24,8 @@ use Rattle.protocol.proofs.Paths.{parent-present, weak-present}
 use Rattle.protocol.proofs.History.{id-round, id-member}
 use Rattle.replica.specs.Layout.{stateSize, cellAt}
 use Rattle.replica.specs.State.{memberCount, heldMask, heardMask, votesMask, cell, vertices, firsts, heldId}
-use Rattle.replica.specs.Parents.{isParent, missing, parentsHeld}
+use Rattle.replica.specs.Parents.{isParent}
+use Rattle.replica.proofs.ParentLaws.{strong-parent, weak-parent, parents-elim}
 use Rattle.replica.proofs.Formed.{WellFormed, length-part}
 
 -- ---- the vertices
@@ -75,25 +74,6 @@ module _ (l : List ℕ) (size : length l ≡ stateSize) where
       go (inl e) = let w = round-range r (and-left _ _ e) in (w .0, w .1, and-right (isRound r) _ e)
       go (inr e) = never h (rw e)
 
--- ---- parents
-
--- question 14, as a fact and back
-pub parent-held : (l : List ℕ) (r : ℕ) (body : List ℕ) → parentsHeld l r body ≡ true → (y : ℕ) → y < idLimit → isParent r body y ≡ true → heldId l y ≡ true
-unfolding parentsHeld missing
-parent-held l r body e y k h = ⊎-elim (λ d. d) (λ d. never (and-both h (ap not d)) (any-off idLimit (missing l r body) (not-true _ e) y k)) (which (heldId l y))
-
--- the parents of a body, by its strong mask and by its weak ids
-strong-parent : (r m : ℕ) (body : List ℕ) → 1 ≤ r → m < 16 → has (strongOf body) m ≡ true → isParent r body (idOf (r - 1) m) ≡ true
-unfolding isParent
-strong-parent r m body a k h = or-left _ (and-both (eq-eqb (idRound (idOf (r - 1) m) + 1) r (omega arith)) (rw (id-member (r - 1) m k) h))
-
--- a weak one
-weak-parent : (r i : ℕ) (body : List ℕ) → i < weakCountOf body → isParent r body (weakOf body i) ≡ true
-unfolding isParent
-weak-parent r i body k =
-    or-right (eqb (idRound (weakOf body i) + 1) r && has (strongOf body) (idMember (weakOf body i)))
-    (any-intro (weakCountOf body) (λ j. eqb (weakOf body j) (weakOf body i)) i k (eq-eqb (weakOf body i) _ refl))
-
 -- ---- a formed state
 
 module _ (l : List ℕ) (S : WellFormed l) where
@@ -114,7 +94,7 @@ module _ (l : List ℕ) (S : WellFormed l) where
       let w = in-mask l (S .size) r p h in
       let m : p < 16 = omega (arith, in-group r p (w .0) (w .1) (w .2), S .front .high) in
       sym (held-id l (S .size) y)
-      ∙ parent-held l r (cell l r p) (S .cells .parents r p (w .0) (w .1) m (w .2)) y k (rw (vertex-cell l (S .size) r p h) at d)
+      ∙ parents-elim l r (cell l r p) (S .cells .parents r p (w .0) (w .1) m (w .2)) y k (rw (vertex-cell l (S .size) r p h) at d)
 
   -- The vertices of a formed state are well formed.
   pub dag-well-formed : ValidVertices (memberCount l) (vertices l)
@@ -127,7 +107,8 @@ module _ (l : List ℕ) (S : WellFormed l) where
           let k : m < 16 = omega (arith, has-bound (memberCount l) (strongOf (vertices l r p)) m (a .strong-low) s, S .front .high) in
           let b : 1 ≤ r = a .round-low in
           let c : r ≤ 32 = a .round-high in
-          rw (id-round (r - 1) m k, id-member (r - 1) m k) at (parent r p (idOf (r - 1) m) h (omega arith) (strong-parent r m (vertices l r p) b k s))
+          rw (id-round (r - 1) m k, id-member (r - 1) m k) at (parent r p (idOf (r - 1) m) h (omega arith)
+          (strong-parent r (vertices l r p) (idOf (r - 1) m) (omega arith) (rw (id-member (r - 1) m k) s)))
 
       weak : (r p i : ℕ) → i < weakCountOf (vertices l r p)
           → held (vertices l) (idRound (weakOf (vertices l r p) i)) (idMember (weakOf (vertices l r p) i)) ≡ true
@@ -135,7 +116,7 @@ module _ (l : List ℕ) (S : WellFormed l) where
           let h : held (vertices l) r p ≡ true = weak-present _ i m in
           let a = admits r p h in
           let k : i < 5 = omega (arith, a .weak-few, S .front .high) in
-          parent r p (weakOf (vertices l r p) i) h (omega (arith, a .weak-high i k m, a .round-high)) (weak-parent r i (vertices l r p) m)
+          parent r p (weakOf (vertices l r p) i) h (omega (arith, a .weak-high i k m, a .round-high)) (weak-parent r (vertices l r p) i m)
 
   -- the words of a vertex and of its cell are the same, for a cell not held is zero
   pub vertex-words : (r p i : ℕ) → 1 ≤ r → r ≤ 32 → p < 16 → i < 10 → getD (vertices l r p) i 0 ≡ getD l (cellAt r p + i) 0

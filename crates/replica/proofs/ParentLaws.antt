@@ -6,11 +6,10 @@ use mathlib.Core.List.{List}
 use Prim.Native.Nat.{ℕ, _+_, _-_, _^_, _≤_, _<_}
 use native.Mathlib.Nat.{lt-of-lt-of-le}
 use native.Mathlib.Omega.{arith}
-use lib.Bits.{bitAnd}
 use lib.Dec.{eqb}
 use lib.ListN.{length}
 use lib.Pow.{pow-mono}
-use borrow.Author.Tests.{eqb-true, eq-eqb, ne-eqb, not-true, not-false}
+use borrow.Author.Tests.{eqb-true, eq-eqb, not-true, not-false}
 use Rattle.record.specs.Below.{all, any}
 use Rattle.record.specs.Members.{rounds, legal, has, idOf, idRound, idMember, isRound}
 use Rattle.record.specs.Layout.{bodySize, weakSlots, strongOf, weakCountOf, weakOf}
@@ -137,16 +136,15 @@ module _ (l : List ℕ) (r : ℕ) (body : List ℕ) (A : AdmittedIn l r body) wh
   pub parents-none : r < 2 → true ≡ parentsHeld l r body
   parents-none h = sym (first-held (memberCount l) r (A .source) l body (A .group) known h)
 
-  module _ (low : 2 ≤ r) (m : ℕ) (e : m ≡ heldMask l (r - 1)) where
-    decides : parentsHeld l r body ≡ (subset (strongOf body) m && all (weakCountOf body) (λ i. heldId l (weakOf body i)))
-    decides = rw e (later-held (memberCount l) r (A .source) l body (A .group) known low)
+  module _ (low : 2 ≤ r) (s : Bool) (e : s ≡ subset (strongOf body) (heldMask l (r - 1))) where
+    decides : parentsHeld l r body ≡ (subset (strongOf body) (heldMask l (r - 1)) && all (weakCountOf body) (λ i. heldId l (weakOf body i)))
+    decides = later-held (memberCount l) r (A .source) l body (A .group) known low
 
-    pub strong-no : (bitAnd (strongOf body) m ≡ strongOf body → ⊥) → false ≡ parentsHeld l r body
-    strong-no h = sym (decides ∙ and-fails-left _ (ne-eqb _ _ h))
+    pub strong-no : not s ≡ true → false ≡ parentsHeld l r body
+    strong-no h = sym (decides ∙ and-fails-left _ (failed e h))
 
-    pub weak-decides : bitAnd (strongOf body) m ≡ strongOf body → (z : Bool) → z ≡ all (weakCountOf body) (λ i. heldId l (weakOf body i))
-        → z ≡ parentsHeld l r body
-    weak-decides h z d = d ∙ sym (decides ∙ rw (eq-eqb _ _ h))
+    pub weak-decides : not s ≡ false → (z : Bool) → z ≡ all (weakCountOf body) (λ i. heldId l (weakOf body i)) → z ≡ parentsHeld l r body
+    weak-decides h z d = d ∙ sym (decides ∙ rw (passed e h))
 
 -- ---- the test of a record: it is admitted, and then its parents decide
 

@@ -1,12 +1,14 @@
 // Question 14: whether all parents of an admitted record are held.
 ghost use mathlib.Core.Path.{_≡_};
-ghost use Prim.Native.Nat.{_≤_};
+ghost use Prim.Native.Nat.{_-_, _≤_};
 ghost use lib.ListN.{length};
 ghost use Rattle.record.specs.Below.{all};
+ghost use Rattle.record.specs.Members.{rounds};
 ghost use Rattle.record.specs.Layout.{bodySize, weakSlots, weakCountOf, weakOf};
 ghost use Rattle.replica.specs.Layout.{stateSize};
-ghost use Rattle.replica.specs.State.{heldId};
+ghost use Rattle.replica.specs.State.{heldMask, heldId};
 ghost use Rattle.replica.specs.Parents.{parentsHeld};
+ghost use Rattle.replica.specs.WellFormed.{subset};
 ghost use Rattle.replica.specs.Inner.{AdmittedIn};
 use super::layout::MEMBER_COUNT;
 use super::layout::held_mask;
@@ -15,6 +17,14 @@ use record::layout::STRONG;
 use record::layout::WEAK;
 use record::layout::WEAK_COUNT;
 use record::layout::wide;
+
+// The strong parents, in the round before, are held.
+fn strong_held(state: &[u32], round: u32, strong: u32) -> bool
+    requires { ⌜ (length (now state) ≡ stateSize) × (2 ≤ round) × (round ≤ rounds) ⌝ }
+    ensures { λ r. ⌜ r ≡ subset strong (heldMask (now (state .entry)) (round - 1)) ⌝ }
+{
+    strong & held_mask(state, round - 1) == strong
+}
 
 // The weak ids that are used are held.
 fn weak_held(state: &[u32], body: &[u32]) -> bool
@@ -33,7 +43,7 @@ fn weak_held(state: &[u32], body: &[u32]) -> bool
     true
 }
 
-// A record of round 1 has no parents. A later one has its strong parents held where their mask lies within the held one.
+// A record of round 1 has no parents.
 pub fn parents_held(state: &[u32], round: u32, body: &[u32]) -> bool
     requires { ⌜ AdmittedIn (now state) round (now body) ⌝ }
     ensures { λ r. ⌜ r ≡ parentsHeld (now (state .entry)) round (now (body .entry)) ⌝ }
@@ -41,8 +51,7 @@ pub fn parents_held(state: &[u32], round: u32, body: &[u32]) -> bool
     if round < 2 {
         return true;
     }
-    let strong = body[STRONG];
-    if strong & held_mask(state, round - 1) != strong {
+    if !strong_held(state, round, body[STRONG]) {
         return false;
     }
     weak_held(state, body)

@@ -19,7 +19,6 @@ parents-held-spec =
     (tie.spec
     (λ c. search parents-none)
     (λ c. let k = known (search) in search needs)
-    (λ c. let k = known (search) in search needs)
     (λ c κs. let k = known (search) in search needs)
     (λ c. search strong-no)
     (λ c κs. let k = known (search) in search needs)

@@ -11,7 +11,8 @@ use Rattle.record.specs.Below.{all, count}
 use Rattle.record.specs.Members.{legal, leader, has, within, meets, isRound}
 use Rattle.record.specs.Refusals.{firstNo}
 use Rattle.record.specs.Layout.{roundOf, sourceOf, bodyOf, strongOf, timeoutsOf, noVotesOf, weakCountOf, weakOf}
-use Rattle.record.specs.Questions.{masksOk, strongOk, lacksLeader, quorumIf, timeoutsOk, noVotesOk, weakIdOk, rises, slotOk, weakOk, signerQuestions, recordQuestions}
+use Rattle.record.specs.Questions.{masksOk, strongOk, lacksLeader, quorumIf, timeoutsOk, noVotesOk, weakIdOk, rises, slotOk, weakOk}
+use Rattle.record.specs.Questions.{signerQuestions, recordQuestions}
 use Rattle.record.proofs.Booleans.{which, never, and-left, and-right, and-both}
 use Rattle.protocol.specs.Dag.{Records, recordsOf, present, votes}
 use Rattle.protocol.specs.Chain.{leaders}
@@ -110,7 +111,8 @@ same-records l m e d = records-ext (recordsOf l) (recordsOf m) (λ r p. go r p (
 -- every call is taken
 all-taken : (i : Bool) → allTaken 4 (empty 4) (callsOf i) ≡ true
 unfolding callsOf vertexOf firstOf early late allTaken taken parentsIn recordsOf legal leader has within meets strongOf timeoutsOf noVotesOf
-    weakCountOf weakOf signerQuestions recordQuestions firstNo isRound masksOk strongOk lacksLeader quorumIf timeoutsOk noVotesOk weakIdOk rises slotOk weakOk all ones
+    weakCountOf weakOf signerQuestions recordQuestions
+    firstNo isRound masksOk strongOk lacksLeader quorumIf timeoutsOk noVotesOk weakIdOk rises slotOk weakOk all ones
 all-taken true = refl
 all-taken false = refl
 

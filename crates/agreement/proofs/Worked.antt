@@ -13,7 +13,8 @@ use Rattle.record.specs.Below.{all, any, count, select, least}
 use Rattle.record.specs.Members.{legal, leader, has, within, meets, isRound}
 use Rattle.record.specs.Refusals.{numberOf, Question, firstNo}
 use Rattle.record.specs.Layout.{roundOf, sourceOf, bodyOf, strongOf, timeoutsOf, noVotesOf, weakCountOf, weakOf}
-use Rattle.record.specs.Questions.{masksOk, strongOk, lacksLeader, quorumIf, timeoutsOk, noVotesOk, weakIdOk, rises, slotOk, weakOk, signerQuestions, recordQuestions}
+use Rattle.record.specs.Questions.{masksOk, strongOk, lacksLeader, quorumIf, timeoutsOk, noVotesOk, weakIdOk, rises, slotOk, weakOk}
+use Rattle.record.specs.Questions.{signerQuestions, recordQuestions}
 use Rattle.record.specs.declared.refusal.Refusal.{Refusal}
 use Rattle.record.specs.declared.refusal.Refusal.the-variants.{None, MemberCount, PastEnd, Duplicate}
 use Rattle.record.proofs.Booleans.{which, and-left, and-right, and-both, cond-true, cond-false}
@@ -336,7 +337,8 @@ unfolding later rows computed shortAdmitted shortEnd shortSeen shortOf shortGive
     shortRun opened outcome legal leader
     has within meets
     firstNo strongOf timeoutsOf noVotesOf weakCountOf weakOf isRound masksOk strongOk lacksLeader quorumIf timeoutsOk noVotesOk weakIdOk rises
-    slotOk weakOk signerQuestions recordQuestions all any count select least committed path historyUpTo chain walk vertices firsts isParent missing parentsHeld passable
+    slotOk weakOk signerQuestions recordQuestions
+    all any count select least committed path historyUpTo chain walk vertices firsts isParent missing parentsHeld passable
     highestPassable raiseRound appendLeader appendLeaders enter enterAll orderLeader orderLeaders line listed byList commitBy shortCommits
     committable addMember sameBody putVertex hear ones onesIn
 ends = refl

@@ -14,6 +14,7 @@ use Rattle.record.specs.Questions.{bodyRefusal}
 use Rattle.record.specs.declared.refusal.Refusal.{Refusal}
 use Rattle.record.proofs.Booleans.{which, never, cond-true, cond-false}
 use Rattle.record.proofs.Turn.{next, done, both-yes}
+use Rattle.replica.specs.Layout.{stateSize, leadersAt, journalAt}
 use Rattle.replica.specs.State.{memberCount, leaderCount, journalCount, heldMask, heardMask, leaderList, journalList}
 use Rattle.replica.specs.Parents.{parentsHeld}
 use Rattle.replica.specs.WellFormed.{wellFormed}
@@ -86,9 +87,10 @@ open-yes l n e = go (decided (firstNo (openQuestions l n)))
     go (inr d) = absurd (d (sym (number-no (firstNo (openQuestions l n)) l (opened n) d) ∙ e))
 
 -- a state's words and a member count of the five: answer 0
-pub open-taken : (l : List ℕ) (n : ℕ) → length l ≡ 5864 → legal n ≡ true → openState l n .number ≡ 0
+pub open-taken : (l : List ℕ) (n : ℕ) → length l ≡ stateSize → legal n ≡ true → openState l n .number ≡ 0
 unfolding openState
-open-taken l n size e = number-yes (firstNo (openQuestions l n)) l (opened n) (ap numberOf (sym (next _ _ (eq-eqb (length l) 5864 size) (next _ _ e done))))
+open-taken l n size e = number-yes (firstNo (openQuestions l n)) l (opened n)
+    (ap numberOf (sym (next _ _ (eq-eqb (length l) stateSize size) (next _ _ e done))))
 
 -- with another member count: the words stay
 pub open-no : (l : List ℕ) (n : ℕ) → legal n ≡ false → openState l n .words ≡ l
@@ -97,16 +99,16 @@ open-no l n e = words-no (firstNo (openQuestions l n)) l (opened n) (λ d. never
 
 -- ---- handing over from entry 0
 
-module _ (l : List ℕ) (size : length l ≡ 5864) (formed : wellFormed l ≡ true) where
+module _ (l : List ℕ) (size : length l ≡ stateSize) (formed : wellFormed l ≡ true) where
   -- the number is 0
   from-start : (first count : ℕ) → handList l 0 first count .number ≡ 0
   from-start first count = ap (λ (s : Span). s .number) (span-some (askList l 0 count .number) first 0 count
-      (ap numberOf (sym (next _ _ (eq-eqb (length l) 5864 size) (next _ _ formed (next _ _ (le-leb 0 count (omega arith)) done))))))
+      (ap numberOf (sym (next _ _ (eq-eqb (length l) stateSize size) (next _ _ formed (next _ _ (le-leb 0 count (omega arith)) done))))))
 
   -- the leader list
   pub hand-leaders : leadersIn l ≡ leaderList l
-  hand-leaders = hand-over l 0 .0 .given (from-start 200 (leaderCount l))
+  hand-leaders = hand-over l 0 .0 .given (from-start leadersAt (leaderCount l))
 
   -- the journal
   pub hand-journal : journalIn l ≡ journalList l
-  hand-journal = hand-over l 0 .1 .given (from-start 232 (journalCount l))
+  hand-journal = hand-over l 0 .1 .given (from-start journalAt (journalCount l))

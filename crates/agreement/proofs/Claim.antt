@@ -3,19 +3,19 @@ use mathlib.Core.Path.{_≡_, refl, sym, ap, _∙_}
 use mathlib.Core.Bool.{Bool, true, false}
 use mathlib.Core.Logic.{_⊎_, inl, inr, ⊎-elim}
 use mathlib.Core.List.{List, [], _∷_, List·Memᴰ·tail}
-use Prim.Native.Nat.{ℕ, zero, suc, _-_, _≤_, _<_}
+use Prim.Native.Nat.{ℕ, zero, suc, _+_, _-_, _≤_, _<_}
 use native.Mathlib.Omega.{arith}
 use borrow.Author.Tests.{not-true}
-use Rattle.record.specs.Members.{legal, leader}
+use Rattle.record.specs.Members.{legal, leader, votedRounds}
 use Rattle.record.specs.Refusals.{numberOf, firstNo}
-use Rattle.record.specs.Layout.{roundOf, sourceOf, bodyOf}
+use Rattle.record.specs.Layout.{roundOf, sourceOf, bodyOf, weakSlots}
 use Rattle.record.specs.declared.refusal.Refusal.{Refusal}
 use Rattle.record.proofs.Booleans.{and-left, and-right}
 use Rattle.protocol.specs.Dag.{recordsOf, present, votes, committed}
 use Rattle.protocol.proofs.Commit.{committed-cong}
 use Rattle.protocol.proofs.Agreement.{agreement}
-use Rattle.replica.specs.Layout.{timeoutsAt, noVotesAt}
-use Rattle.replica.specs.State.{committedRound, timeoutsMask, noVotesMask, leaderList, journalList, vertices, firsts, dag}
+use Rattle.replica.specs.Layout.{masksAt, timeoutsKind, noVotesKind, orderedKind}
+use Rattle.replica.specs.State.{committedRound, leaderList, journalList, vertices, firsts, dag, addMember}
 use Rattle.replica.specs.Outcome.{outcome}
 use Rattle.replica.specs.Opening.{opened, openState}
 use Rattle.replica.proofs.Formed.{well-formed}
@@ -23,9 +23,10 @@ use Rattle.protocol.specs.Chain.{leaders}
 use Rattle.protocol.specs.Journal.{journal}
 use Rattle.replica.proofs.Opened.{opened-members, opened-word, opened-leaders, opened-journal, opened-vertices, opened-firsts, opened-formed}
 use Rattle.commits.specs.Commit.{raiseRound, commitAll}
-use Rattle.ordering.specs.Calls.{addMember, putVertex, hear, vertexQuestions, firstQuestions, noteQuestions, takeBody, takeFirstBody, takeTimeout, takeNoVote}
+use Rattle.ordering.specs.Calls.{putVertex, hear, vertexQuestions, firstQuestions, noteRefusal, takeBody, takeFirstBody, takeTimeout, takeNoVote}
 use Rattle.commits.proofs.Steps.{not-led}
-use Rattle.ordering.proofs.Marks.{formed-raise, formed-timeout, formed-no-vote}
+use Rattle.ordering.proofs.Marks.{formed-raise}
+use Rattle.ordering.proofs.Kept.{formed-noted}
 use Rattle.agreement.specs.Call.{Call, opening, vertex, firstMessage, timeout, noVote, status, askLeaderList, askJournalList, handLeaderList}
 use Rattle.agreement.specs.Call.{handJournalList, outcomeOf, run, allowed, allAllowed}
 use Rattle.agreement.specs.Model.{Model, empty, admit, follow, modelOf, dagOf}
@@ -97,24 +98,17 @@ opened-follows n g =
 -- ---- a call, and all calls
 
 module _ (n : ℕ) (a b : Model) (honest : ℕ → Bool) (g : legal n ≡ true) (P : Premises n a b honest) where
-  -- a note that was admitted
-  timeout-follows : (l : List ℕ) (m : Model) (r p : ℕ) → Follows n l m → numberOf (firstNo (noteQuestions l r p (timeoutsMask l r))) ≡ 0
-      → Follows n (raiseRound (addMember l (timeoutsAt r) p)) m
-  timeout-follows l m r p f e =
-      let w = note-passed l r p (timeoutsMask l r) e in
-      let k : List ℕ = addMember l (timeoutsAt r) p in
-      let S = formed-timeout l (f .holds .formed) r p (w .1) (w .2) (w .3) in
-      follows-alike n k (raiseRound k) m (raise-calm k) (formed-raise k S) (raise-alike k)
-      (follows-alike n l k m (note-calm l r 3 p (w .1) (w .2) (omega arith)) S (note-alike l r 3 p (w .1) (w .2) (omega arith) (omega arith)) f)
+  -- a timeout or a no-vote that was admitted, whose masks are the round's 3 and 4
+  note-follows : (l : List ℕ) (m : Model) (r p i : ℕ) → timeoutsKind ≤ i → i < orderedKind → Follows n l m → numberOf (noteRefusal l r p i) ≡ 0
+      → Follows n (addMember l (masksAt r + i) p) m
+  note-follows l m r p i from to f e =
+      let w = note-passed l r p _ e in
+      follows-alike n l (addMember l (masksAt r + i) p) m (note-calm l r i p (w .1) (w .2) (omega arith)) (formed-noted l (f .holds .formed) r p i from to e)
+      (note-alike l r i p (w .1) (w .2) from (omega arith)) f
 
-  -- a no-vote
-  no-vote-follows : (l : List ℕ) (m : Model) (r p : ℕ) → Follows n l m → numberOf (firstNo (noteQuestions l r p (noVotesMask l r))) ≡ 0
-      → Follows n (addMember l (noVotesAt r) p) m
-  no-vote-follows l m r p f e =
-      let w = note-passed l r p (noVotesMask l r) e in
-      follows-alike n l (addMember l (noVotesAt r) p) m (note-calm l r 4 p (w .1) (w .2) (omega arith))
-      (formed-no-vote l (f .holds .formed) r p (w .1) (w .2) (w .3))
-      (note-alike l r 4 p (w .1) (w .2) (omega arith) (omega arith)) f
+  -- the round rule
+  raise-follows : (l : List ℕ) (m : Model) → Follows n l m → Follows n (raiseRound l) m
+  raise-follows l m f = follows-alike n l (raiseRound l) m (raise-calm l) (formed-raise l (f .holds .formed)) (raise-alike l) f
 
   -- the model does not change
   noted : (why : Refusal) (l after : List ℕ) (m : Model) → Follows n l m → (numberOf why ≡ 0 → Follows n after m) → Follows n (outcome why l after .words) m
@@ -151,9 +145,8 @@ module _ (n : ℕ) (a b : Model) (honest : ℕ → Bool) (g : legal n ≡ true) 
       go (inl e) j = rw (words-yes why l after e, number-yes why l after e) (first-follows n a b honest g P l m rec (f .holds) e i
           (rw (number-yes why l after e) at j))
       go (inr d) j = rw (words-no why l after d, number-no why l after d, first-out rec (numberOf why) m d) f
-  step (timeout r p) l m ok f i j = noted (firstNo (noteQuestions l r p (timeoutsMask l r))) l (raiseRound (addMember l (timeoutsAt r) p)) m f
-      (timeout-follows l m r p f)
-  step (noVote r p) l m ok f i j = noted (firstNo (noteQuestions l r p (noVotesMask l r))) l (addMember l (noVotesAt r) p) m f (no-vote-follows l m r p f)
+  step (timeout r p) l m ok f i j = noted _ l _ m f (λ e. raise-follows _ m (note-follows l m r p timeoutsKind (omega arith) (omega arith) f e))
+  step (noVote r p) l m ok f i j = noted _ l _ m f (note-follows l m r p noVotesKind (omega arith) (omega arith) f)
   step status l m ok f i j = f
   step (askLeaderList k) l m ok f i j = f
   step (askJournalList k) l m ok f i j = f
@@ -175,7 +168,7 @@ module _ (n : ℕ) (a b : Model) (honest : ℕ → Bool) (g : legal n ≡ true) 
 
   module _ (l : List ℕ) (m : Model) (count : m .n ≡ n) (f : Follows n l m) where
     -- no round of the model is left to commit
-    over-model : (q : ℕ) → committedRound l < q → q ≤ 31 → committed n (dagOf m) q ≡ false
+    over-model : (q : ℕ) → committedRound l < q → q ≤ votedRounds → committed n (dagOf m) q ≡ false
     over-model q x y = sym (committed-cong n (dag l) (dagOf m) (f .holds .vertex) (alike (f .holds)) q) ∙ f .over q x y
 
     -- the lists are the model's

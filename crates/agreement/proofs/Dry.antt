@@ -9,9 +9,9 @@ use lib.Dec.{eqb, ltb}
 use lib.ListN.{length}
 use borrow.Author.Tests.{eqb-true, eq-eqb, lt-ltb, not-true}
 use Rattle.record.specs.Below.{all}
-use Rattle.record.specs.Members.{legal, has, idRound, idMember, isRound}
+use Rattle.record.specs.Members.{legal, has, idRound, idMember, isRound, slots}
 use Rattle.record.specs.Refusals.{numberOf, Question, firstNo}
-use Rattle.record.specs.Layout.{roundOf, sourceOf, bodyOf, strongOf, weakCountOf, weakOf}
+use Rattle.record.specs.Layout.{roundOf, sourceOf, bodyOf, strongOf, weakCountOf, weakOf, weakSlots}
 use Rattle.record.specs.Questions.{recordQuestions, bodyRefusal}
 use Rattle.record.specs.Admitted.{Admitted}
 use Rattle.record.proofs.Booleans.{which, never, and-left, and-right, and-both, and-fails-left, cond-true}
@@ -25,6 +25,7 @@ use Rattle.replica.proofs.Formed.{WellFormed, well-formed}
 use Rattle.replica.proofs.Dags.{held-vertex, held-id}
 use Rattle.replica.proofs.ParentLaws.{parent-cases, parents-intro, weak-five}
 use Rattle.record.proofs.Rounds.{round-in}
+use Rattle.replica.specs.Layout.{stateSize}
 use Rattle.ordering.specs.Calls.{sameBody, vertexQuestions, firstQuestions, takeBody, takeFirstBody}
 use Rattle.agreement.specs.Call.{Call, opening, vertex, firstMessage, timeout, noVote, status, askLeaderList, askJournalList, handLeaderList}
 use Rattle.agreement.specs.Call.{handJournalList, outcomeOf, allowed, allAllowed}
@@ -40,8 +41,8 @@ use Rattle.agreement.proofs.Claim.{admit-more, step}
 -- all parents of a body of round r are in v
 unfoldable pub parentsIn : Records → ℕ → List ℕ → Bool
 parentsIn v r body =
-    all 16 (λ q. not (has (strongOf body) q) || held v (r - 1) q)
-    && all 5 (λ i. not (ltb i (weakCountOf body)) || held v (idRound (weakOf body i)) (idMember (weakOf body i)))
+    all slots (λ q. not (has (strongOf body) q) || held v (r - 1) q)
+    && all weakSlots (λ i. not (ltb i (weakCountOf body)) || held v (idRound (weakOf body i)) (idMember (weakOf body i)))
 
 -- the call is taken, or does not concern the model
 unfoldable pub taken : ℕ → Model → Call → Bool
@@ -83,7 +84,7 @@ heard-there l r p e = ap present (cond-true _ _ e)
 
 -- the questions of a formed state are passed over
 pub past-state : (l : List ℕ) (rest : List Question) → WellFormed l → firstNo rest ≡ firstNo (stateQuestions l ++ rest)
-past-state l rest S = next _ _ (eq-eqb (length l) 5864 (S .size)) (next _ _ (well-formed l S) refl)
+past-state l rest S = next _ _ (eq-eqb (length l) stateSize (S .size)) (next _ _ (well-formed l S) refl)
 
 module _ (n : ℕ) (l : List ℕ) (m : Model) (h : Holds n l m) (r p : ℕ) (body : List ℕ) (ok : numberOf (bodyRefusal n r p body) ≡ 0) where
   -- the vertices
@@ -109,20 +110,20 @@ module _ (n : ℕ) (l : List ℕ) (m : Model) (h : Holds n l m) (r p : ℕ) (bod
       let z : r - 1 ≡ idRound y = omega (arith, w .0) in
       ap (λ (t : ℕ). held v t (idMember y)) (sym z)
       ∙ imp-elim (has (strongOf body) (idMember y)) _
-      (all-elim 16 (λ q. not (has (strongOf body) q) || held v (r - 1) q) (and-left _ _ e) (idMember y) (omega arith)) (w .1))
+      (all-elim slots (λ q. not (has (strongOf body) q) || held v (r - 1) q) (and-left _ _ e) (idMember y) (omega arith)) (w .1))
       (λ w.
-      let k : w .0 < 5 = omega (arith, w .1, weak-five (memberCount l) r p l body (h .formed .front .members) A) in
+      let k : w .0 < weakSlots = omega (arith, w .1, weak-five (memberCount l) r p l body (h .formed .front .members) A) in
       ap (λ (t : ℕ). held v (idRound t) (idMember t)) (sym (w .2))
       ∙ imp-elim (ltb (w .0) (weakCountOf body)) _
-      (all-elim 5 (λ i. not (ltb i (weakCountOf body)) || held v (idRound (weakOf body i)) (idMember (weakOf body i)))
-      (and-right (all 16 (λ q. not (has (strongOf body) q) || held v (r - 1) q)) _ e) (w .0) k) (lt-ltb (w .0) (weakCountOf body) (w .1)))
+      (all-elim weakSlots (λ i. not (ltb i (weakCountOf body)) || held v (idRound (weakOf body i)) (idMember (weakOf body i)))
+      (and-right (all slots (λ q. not (has (strongOf body) q) || held v (r - 1) q)) _ e) (w .0) k) (lt-ltb (w .0) (weakCountOf body) (w .1)))
       (parent-cases r body y d)
 
   -- a vertex has the number 0
   vertex-passes : held (recordsOf (m .vertices)) r p ≡ false → parentsIn (recordsOf (m .vertices)) r body ≡ true
       → numberOf (firstNo (vertexQuestions l r p body)) ≡ 0
   vertex-passes new there =
-      let few : p < 16 = omega (arith, A .source-low, h .formed .front .high) in
+      let few : p < slots = omega (arith, A .source-low, h .formed .front .high) in
       let free : (isRound r && has (heldMask l r) p) ≡ false = sym (held-vertex l (h .formed .size) r p few) ∙ ap present (h .vertex r p) ∙ new in
       let off : has (heldMask l r) p ≡ false = rw (round-in r (A .round-low) (A .round-high)) at free in
       let parents : parentsHeld l r body ≡ true = parents-intro l r body

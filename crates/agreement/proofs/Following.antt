@@ -8,9 +8,9 @@ use native.Mathlib.Omega.{arith}
 use lib.Dec.{eqb, ltb}
 use lib.ListN.{length}
 use borrow.Author.Tests.{ltb-true, ltb-false}
-use Rattle.record.specs.Members.{legal, has, isRound}
+use Rattle.record.specs.Members.{legal, has, isRound, rounds, slots, votedRounds}
 use Rattle.record.specs.Refusals.{numberOf, firstNo}
-use Rattle.record.specs.Layout.{roundOf, sourceOf, bodyOf}
+use Rattle.record.specs.Layout.{roundOf, sourceOf, bodyOf, bodySize}
 use Rattle.record.specs.Admitted.{Admitted}
 use Rattle.record.proofs.Booleans.{which, never, and-fails-right, cond-false}
 use Rattle.record.proofs.Below.{least-sat, least-off}
@@ -58,7 +58,7 @@ alike h r p = let e : suc r - 1 ≡ r = omega arith in rw e at (h .vote (suc r) 
 
 -- no round is left to commit
 abbrev pub Over : ℕ → List ℕ → Type 0
-Over n l = (q : ℕ) → committedRound l < q → q ≤ 31 → committed n (dag l) q ≡ false
+Over n l = (q : ℕ) → committedRound l < q → q ≤ votedRounds → committed n (dag l) q ≡ false
 
 pub record Follows (n : ℕ) (l : List ℕ) (m : Model) : Type 0 where
   pub holds : Holds n l m
@@ -144,20 +144,20 @@ module _ (n : ℕ) (a b : Model) (honest : ℕ → Bool) (g : legal n ≡ true) 
     raised = let w = committable-round l q c in rw (commit-round l (h .formed) q (w .0) (w .1) (w .3)) (w .0)
 
   -- all commits: then no round is left
-  pub commits : (k : ℕ) (l : List ℕ) (m : Model) → Either a b m → Holds n l m → 31 ≤ k + committedRound l → Follows n (commitUpTo l k) m
+  pub commits : (k : ℕ) (l : List ℕ) (m : Model) → Either a b m → Holds n l m → votedRounds ≤ k + committedRound l → Follows n (commitUpTo l k) m
   unfolding commitUpTo
   commits zero l m i h e = record { holds = h; over = λ q x y. absurd (omega arith) }
-  commits (suc k) l m i h e = go (which (ltb (lowest l) 32)) (commits k (commit l (lowest l)) m i)
+  commits (suc k) l m i h e = go (which (ltb (lowest l) rounds)) (commits k (commit l (lowest l)) m i)
     where
-      go : (ltb (lowest l) 32 ≡ true) ⊎ (ltb (lowest l) 32 ≡ false)
-          → (Holds n (commit l (lowest l)) m → 31 ≤ k + committedRound (commit l (lowest l)) → Follows n (commitUpTo (commit l (lowest l)) k) m)
+      go : (ltb (lowest l) rounds ≡ true) ⊎ (ltb (lowest l) rounds ≡ false)
+          → (Holds n (commit l (lowest l)) m → votedRounds ≤ k + committedRound (commit l (lowest l)) → Follows n (commitUpTo (commit l (lowest l)) k) m)
           → Follows n (commitUpTo l (suc k)) m
       go (inl d) ih =
-          let c = least-sat 32 (committable l) (ltb-true _ _ d) in
+          let c = least-sat rounds (committable l) (ltb-true _ _ d) in
           rw d (ih (commit-holds l m i h (lowest l) c) (omega (arith, raised l m i h (lowest l) c)))
       go (inr d) ih = rw d (record {
         holds = h;
-        over = λ q x y. committable-at l n q (sym (h .members)) x y ∙ least-off 32 (committable l) q (omega (arith, ltb-false (lowest l) 32 d));
+        over = λ q x y. committable-at l n q (sym (h .members)) x y ∙ least-off rounds (committable l) q (omega (arith, ltb-false (lowest l) rounds d));
       })
 
   -- ---- an admitted vertex
@@ -177,7 +177,7 @@ module _ (n : ℕ) (a b : Model) (honest : ℕ → Bool) (g : legal n ≡ true) 
     A = admitted (memberCount l) (roundOf rec) (sourceOf rec) (bodyOf rec) (vertex-yes l (roundOf rec) (sourceOf rec) (bodyOf rec) ok .0)
 
     -- its source is a member
-    few : sourceOf rec < 16
+    few : sourceOf rec < slots
     few = omega (arith, A .source-low, h .formed .front .high)
 
     -- the state stays formed
@@ -203,7 +203,7 @@ module _ (n : ℕ) (a b : Model) (honest : ℕ → Bool) (g : legal n ≡ true) 
         (λ s q e. put-other l (roundOf rec) (sourceOf rec) (bodyOf rec) (h .formed .size) (A .round-low) (A .round-high) few (A .size) small s q e
         ∙ h .vertex s q ∙ sym (records-there rec (m .vertices) s q e))
       where
-        small : (t : ℕ) → 1 ≤ t → t ≤ 32 → heldMask l t < 2 ^ 16
+        small : (t : ℕ) → 1 ≤ t → t ≤ rounds → heldMask l t < 2 ^ slots
         small t x y = legal-pow (memberCount l) (heldMask l t) (h .formed .front .members) (h .formed .masks .held-low t x y)
 
     -- the state holds it then
@@ -225,8 +225,8 @@ module _ (n : ℕ) (a b : Model) (honest : ℕ → Bool) (g : legal n ≡ true) 
         stay = put-firsts l (roundOf rec) (sourceOf rec) (bodyOf rec) (h .formed .size) (A .round-low) (A .round-high) few (A .size)
 
     -- and follows the model after all commits
-    pub vertex-follows : Either a b m → Either a b more → Follows n (commitUpTo (raiseRound put) 31) more
-    vertex-follows i j = commits 31 (raiseRound put) more j
+    pub vertex-follows : Either a b m → Either a b more → Follows n (commitUpTo (raiseRound put) votedRounds) more
+    vertex-follows i j = commits votedRounds (raiseRound put) more j
         (holds-alike n put (raiseRound put) more (raise-calm put) (formed-raise put put-formed) (raise-alike put) (vertex-holds i j)) (omega arith)
 
   -- ---- an admitted first message
@@ -277,7 +277,7 @@ module _ (n : ℕ) (a b : Model) (honest : ℕ → Bool) (g : legal n ≡ true) 
         ∙ sym (long (bodyOf rec) (B .size)) ∙ ap present (sym (records-here rec (m .firsts))))
         (λ s q e. ap present (other s q e) ∙ h .first s q ∙ ap present (sym (records-there rec (m .firsts) s q e)))
       where
-        long : (body : List ℕ) → length body ≡ 10 → present body ≡ true
+        long : (body : List ℕ) → length body ≡ bodySize → present body ≡ true
         long [] e = absurd (omega arith)
         long (w ∷ body) e = refl
 
@@ -306,5 +306,5 @@ module _ (n : ℕ) (a b : Model) (honest : ℕ → Bool) (g : legal n ≡ true) 
         }
 
     -- and follows the model after all commits
-    pub first-follows : Either a b m → Either a b further → Follows n (commitUpTo after 31) further
-    first-follows i j = commits 31 after further j (first-holds i j) (omega arith)
+    pub first-follows : Either a b m → Either a b further → Follows n (commitUpTo after votedRounds) further
+    first-follows i j = commits votedRounds after further j (first-holds i j) (omega arith)

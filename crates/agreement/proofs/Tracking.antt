@@ -18,6 +18,7 @@ use Rattle.protocol.proofs.Chain.{chain-none, chain-self}
 use Rattle.protocol.proofs.Journal.{extend-none}
 use Rattle.protocol.proofs.Commit.{Within, committed-stays, up-to-highest, last-committed, last-low}
 use Rattle.protocol.proofs.Agreement.{growth}
+use Rattle.record.specs.Members.{votedRounds}
 
 -- c is a committed round of d or 0, and the lists are those of its chain
 pub record At (n : ℕ) (d : Dag) (c : ℕ) (L J : List ℕ) : Type 0 where
@@ -34,7 +35,7 @@ at-open n d = record {
 }
 
 -- the last round, where none from c on is committed
-pub at-round : (n : ℕ) (d : Dag) (c : ℕ) → Settled n d c → c ≤ 31 → ((q : ℕ) → c < q → q ≤ 31 → committed n d q ≡ false) → c ≡ last n d
+pub at-round : (n : ℕ) (d : Dag) (c : ℕ) → Settled n d c → c ≤ votedRounds → ((q : ℕ) → c < q → q ≤ votedRounds → committed n d q ≡ false) → c ≡ last n d
 at-round n d c s high none = go (which (leb (last n d) c)) (which (leb c 0))
   where
     go : (leb (last n d) c ≡ true) ⊎ (leb (last n d) c ≡ false) → (leb c 0 ≡ true) ⊎ (leb c 0 ≡ false) → c ≡ last n d
@@ -44,10 +45,11 @@ at-round n d c s high none = go (which (leb (last n d) c)) (which (leb c 0))
     go (inl e) (inl k) = omega (arith, leb-true (last n d) c e, leb-true c 0 k)
     go (inl e) (inr k) =
         let pos = leb-false c 0 k in
-        omega (arith, leb-true (last n d) c e, up-to-highest n d 31 c pos high (s pos))
+        omega (arith, leb-true (last n d) c e, up-to-highest n d votedRounds c pos high (s pos))
 
 -- there the lists are the DAG's own
-module _ (n : ℕ) (d : Dag) (c : ℕ) (L J : List ℕ) (a : At n d c L J) (high : c ≤ 31) (none : (q : ℕ) → c < q → q ≤ 31 → committed n d q ≡ false) where
+module _ (n : ℕ) (d : Dag) (c : ℕ) (L J : List ℕ) (a : At n d c L J) (high : c ≤ votedRounds) (none : (q : ℕ) → c < q → q ≤ votedRounds
+    → committed n d q ≡ false) where
   -- the leader list
   pub at-leaders : L ≡ leaders n d
   at-leaders = a .leader-list ∙ ap (λ (q : ℕ). map (leaderId n) (chain n (d .vertex) 0 q)) (at-round n d c (a .settled) high none)

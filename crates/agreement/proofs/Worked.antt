@@ -23,8 +23,8 @@ use Rattle.protocol.specs.Dag.{Records, committed}
 use Rattle.protocol.specs.Paths.{path, historyUpTo}
 use Rattle.protocol.specs.Chain.{chain, walk}
 use Rattle.protocol.proofs.Laws.{records-ext}
-use Rattle.replica.specs.Layout.{stateSize, timeoutsAt, noVotesAt}
-use Rattle.replica.specs.State.{memberCount, currentRound, committedRound, leaderCount, journalCount, heardMask, timeoutsMask, noVotesMask}
+use Rattle.replica.specs.Layout.{stateSize, timeoutsAt, noVotesAt, leadersAt, journalAt}
+use Rattle.replica.specs.State.{memberCount, currentRound, committedRound, leaderCount, journalCount, heardMask, timeoutsMask, noVotesMask, addMember}
 use Rattle.replica.specs.State.{leaderList, journalList, vertices, firsts}
 use Rattle.replica.specs.Parents.{isParent, missing, parentsHeld}
 use Rattle.replica.specs.WellFormed.{wellFormed}
@@ -38,7 +38,7 @@ use Rattle.replica.proofs.Formed.{WellFormed, formed, well-formed}
 use Rattle.replica.proofs.Opened.{opened-formed}
 use Rattle.commits.specs.Commit.{passable, highestPassable, raiseRound, appendLeader, appendLeaders, enter, enterAll, orderLeader, orderLeaders}
 use Rattle.commits.specs.Commit.{commit, committable, lowest, commitUpTo}
-use Rattle.ordering.specs.Calls.{addMember, sameBody, placeQuestions, putVertex, takeBody, hear, takeFirstBody, takeTimeout, takeNoVote}
+use Rattle.ordering.specs.Calls.{sameBody, placeQuestions, putVertex, takeBody, hear, takeFirstBody, takeTimeout, takeNoVote}
 use Rattle.ordering.proofs.Kept.{keeps}
 use Rattle.agreement.specs.Call.{Call, opening, vertex, firstMessage, timeout, noVote, status, askLeaderList, askJournalList, handLeaderList}
 use Rattle.agreement.specs.Call.{handJournalList, reading, outcomeOf, Given, nothing, head, part, givenOf, run}
@@ -133,8 +133,8 @@ shortOf (noVote r p) l = outcome (shortNote l r p (noVotesMask l r)) l (addMembe
 shortOf status l = reading 0 l
 shortOf (askLeaderList k) l = unchanged (shortList k (leaderCount l)) l
 shortOf (askJournalList k) l = unchanged (shortList k (journalCount l)) l
-shortOf (handLeaderList k) l = reading (shortSpan 200 k (leaderCount l) .number) l
-shortOf (handJournalList k) l = reading (shortSpan 232 k (journalCount l) .number) l
+shortOf (handLeaderList k) l = reading (shortSpan leadersAt k (leaderCount l) .number) l
+shortOf (handJournalList k) l = reading (shortSpan journalAt k (journalCount l) .number) l
 
 -- and what is given beside them
 shortGiven : Call → List ℕ → Given
@@ -146,8 +146,8 @@ shortGiven (noVote r p) l = nothing
 shortGiven status l = head (statusOf l)
 shortGiven (askLeaderList k) l = nothing
 shortGiven (askJournalList k) l = nothing
-shortGiven (handLeaderList k) l = part (shortSpan 200 k (leaderCount l)) (wordsIn l (shortSpan 200 k (leaderCount l)))
-shortGiven (handJournalList k) l = part (shortSpan 232 k (journalCount l)) (wordsIn l (shortSpan 232 k (journalCount l)))
+shortGiven (handLeaderList k) l = part (shortSpan leadersAt k (leaderCount l)) (wordsIn l (shortSpan leadersAt k (leaderCount l)))
+shortGiven (handJournalList k) l = part (shortSpan journalAt k (journalCount l)) (wordsIn l (shortSpan journalAt k (journalCount l)))
 
 -- the number of a status is that of the questions of the state
 status-number : (why : Refusal) (l : List ℕ) → numberOf (headIf why l .refusal) ≡ numberOf why
@@ -173,7 +173,7 @@ module _ (l : List ℕ) (S : WellFormed l) where
   -- the outcomes are those of the calls
   short-is : (c : Call) → outcomeOf c l ≡ shortOf c l
   unfolding shortOf shortVertex shortFirst shortNote shortList openState takeBody takeFirstBody takeTimeout takeNoVote
-  short-is (opening n) = ap (λ (why : Refusal). outcome why l (opened n)) (sym (next _ _ (eq-eqb (length l) 5864 (S .size)) refl))
+  short-is (opening n) = ap (λ (why : Refusal). outcome why l (opened n)) (sym (next _ _ (eq-eqb (length l) stateSize (S .size)) refl))
   short-is (vertex rec) = past _ _ ∙ ap (outcome (shortVertex l rec) l) (commits-are 31 _)
   short-is (firstMessage rec) = past _ _ ∙ ap (outcome (shortFirst l rec) l) (commits-are 31 _)
   short-is (timeout r p) = past _ _
@@ -181,8 +181,8 @@ module _ (l : List ℕ) (S : WellFormed l) where
   short-is status = ap (λ (x : ℕ). reading x l) (status-number (firstNo (stateQuestions l)) l ∙ ap numberOf (sym (past-state l [] S) ∙ sym done))
   short-is (askLeaderList k) = past-asking _
   short-is (askJournalList k) = past-asking _
-  short-is (handLeaderList k) = ap (λ (s : Span). reading (s .number) l) (past-handing 200 k (leaderCount l))
-  short-is (handJournalList k) = ap (λ (s : Span). reading (s .number) l) (past-handing 232 k (journalCount l))
+  short-is (handLeaderList k) = ap (λ (s : Span). reading (s .number) l) (past-handing leadersAt k (leaderCount l))
+  short-is (handJournalList k) = ap (λ (s : Span). reading (s .number) l) (past-handing journalAt k (journalCount l))
 
   -- and what is given
   given-is : (c : Call) → givenOf c l ≡ shortGiven c l
@@ -195,8 +195,8 @@ module _ (l : List ℕ) (S : WellFormed l) where
   given-is status = refl
   given-is (askLeaderList k) = refl
   given-is (askJournalList k) = refl
-  given-is (handLeaderList k) = ap (λ (s : Span). part s (wordsIn l s)) (past-handing 200 k (leaderCount l))
-  given-is (handJournalList k) = ap (λ (s : Span). part s (wordsIn l s)) (past-handing 232 k (journalCount l))
+  given-is (handLeaderList k) = ap (λ (s : Span). part s (wordsIn l s)) (past-handing leadersAt k (leaderCount l))
+  given-is (handJournalList k) = ap (λ (s : Span). part s (wordsIn l s)) (past-handing journalAt k (journalCount l))
 
   -- a state that a call leaves well formed
   formed-kept : (k : List ℕ) → (length k ≡ stateSize) × (wellFormed k ≡ true) → WellFormed k

@@ -2,7 +2,8 @@
 use mathlib.Core.List.{List, [], _∷_}
 use Prim.Native.Nat.{ℕ, zero, suc}
 use Rattle.protocol.specs.Dag.{Dag, recordsOf}
-use Rattle.agreement.specs.Call.{Call, opening, vertex, firstMessage, timeout, noVote, status, askLeaderList, askJournalList, handLeaderList, handJournalList, outcomeOf}
+use Rattle.agreement.specs.Call.{Call, opening, vertex, firstMessage, timeout, noVote}
+use Rattle.agreement.specs.Call.{status, askLeaderList, askJournalList, handLeaderList, handJournalList, outcomeOf}
 
 pub record Model : Type 0 where
   pub n : ℕ

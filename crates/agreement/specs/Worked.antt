@@ -5,13 +5,14 @@ use mathlib.Core.List.{List, [], _∷_, _++_, List·Memᴰ}
 use Prim.Native.Nat.{ℕ}
 use lib.Dec.{eqb}
 use lib.ListN.{replicate}
-use Rattle.replica.specs.Layout.{stateSize}
+use Rattle.replica.specs.Layout.{stateSize, journalAt}
 use Rattle.replica.specs.State.{currentRound, committedRound}
 use Rattle.replica.specs.Outcome.{Outcome}
 use Rattle.replica.specs.Place.{Span}
 use Rattle.agreement.specs.Call.{Call, opening, vertex, firstMessage, timeout, askJournalList, handJournalList}
 use Rattle.agreement.specs.Call.{outcomeOf, Given, nothing, part, givenOf, run}
 use Rattle.agreement.specs.Claim.{leadersIn, journalIn}
+use Rattle.record.specs.Layout.{recordWords}
 
 -- what is seen after a call: its number and id, what it gives beside them, the rounds, and the two lists
 pub record Seen : Type 0 where
@@ -60,7 +61,7 @@ pub record Passes (x : Row) : Type 0 where
 
 -- a record of round r and source p, with its three masks and its tag, and no weak ids
 abbrev pub rec : ℕ → ℕ → ℕ → ℕ → ℕ → ℕ → List ℕ
-rec r p strong timeouts noVotes tag = r ∷ p ∷ strong ∷ timeouts ∷ noVotes ∷ tag ∷ 0 ∷ 0 ∷ 0 ∷ 0 ∷ 0 ∷ 0 ∷ []
+rec r p strong timeouts noVotes tag = recordWords r p strong timeouts noVotes tag []
 
 -- a vertex and a first message r/p with this strong mask, the other masks 0
 abbrev pub v : ℕ → ℕ → ℕ → Call
@@ -142,7 +143,7 @@ rows =
     ∷ row (s ++ v1 3 13 ∷ vt 2 0 14 7 ∷ vt 2 2 14 7 ∷ vtn 2 1 14 7 14 ∷ f 3 0 7 ∷ f 3 1 7 ∷ []) (f 3 2 7) 0 0 3 2 (33 ∷ []) (17 ∷ 18 ∷ 19 ∷ 33 ∷ [])
     -- Fresh state, journal from 0: 0 and an empty part. From 1: 15.
     ∷ row fresh (askJournalList 0) 0 0 1 0 [] []
-    ∷ giving fresh (handJournalList 0) 0 0 (part (span 0 232 0) []) 1 0 [] []
+    ∷ giving fresh (handJournalList 0) 0 0 (part (span 0 journalAt 0) []) 1 0 [] []
     ∷ row fresh (askJournalList 1) 15 0 1 0 [] []
     ∷ giving fresh (handJournalList 1) 15 0 (part (span 15 0 0) []) 1 0 [] []
     ∷ []

@@ -10,17 +10,17 @@ use lib.Dec.{eqb}
 use lib.ListN.{length, getD, set}
 use lib.Seq.{getD-set-other}
 use Rattle.record.specs.Below.{count, select}
-use Rattle.record.specs.Members.{leader, has, add, idRound, idMember, isRound}
+use Rattle.record.specs.Members.{leader, has, add, idRound, idMember, isRound, idLimit, rounds, votedRounds}
 use Rattle.record.proofs.Booleans.{which, and-cong, or-left, or-right}
 use Rattle.record.proofs.Below.{count-cong}
 use Rattle.record.proofs.Rounds.{round-range}
 use Rattle.protocol.specs.Dag.{Records, held}
 use Rattle.protocol.specs.Chain.{chain, leaderId}
-use Rattle.protocol.specs.Journal.{idLimit, among}
+use Rattle.protocol.specs.Journal.{among}
 use Rattle.protocol.proofs.Lists.{among-select}
 use Rattle.protocol.proofs.Chain.{chain-held}
 use Rattle.protocol.proofs.Laws.{chain-bounds, chain-length}
-use Rattle.replica.specs.Layout.{orderedAt}
+use Rattle.replica.specs.Layout.{orderedAt, stateSize, leadersAt, journalAt, cellsAt, leadersSize, leaderCountAt, journalCountAt, committedRoundAt}
 use Rattle.replica.specs.State.{memberCount, committedRound, leaderCount, journalCount, orderedMask, vertices, orderedId}
 use Rattle.commits.specs.Commit.{appendLeader, appendLeaders, enter, enterAll, orderLeader, orderLeaders, commit}
 use Rattle.commits.specs.Standing.{Standing, Room, LeaderRoom, LeadersReady}
@@ -53,7 +53,7 @@ module _ (n : ℕ) (l₀ : List ℕ) (mask : ℕ) where
     is = order-none (vertices l₀) l₀ ∙ ap (orderLeaders (vertices l₀) l₀) (sym (select-out 0 (has mask) z ∙ select-zero (has mask)));
   }
 
-  pub ordering-in : (r : ℕ) (l m : List ℕ) → Ordering n l₀ mask r l → r < 32 → has mask r ≡ true → m ≡ orderLeader (vertices l) l r
+  pub ordering-in : (r : ℕ) (l m : List ℕ) → Ordering n l₀ mask r l → r < rounds → has mask r ≡ true → m ≡ orderLeader (vertices l) l r
       → Ordering n l₀ mask (r + 1) m
   ordering-in r l m o b h d =
       let L = o .led in
@@ -91,20 +91,20 @@ ordered-kept (r ∷ rs) l v e S R h =
 
 -- ---- words 0 to 3, which the journal's growth leaves
 
-pub enter-head : (l : List ℕ) (y j : ℕ) → j < 4 → getD (enter l y) j 0 ≡ getD l j 0
+pub enter-head : (l : List ℕ) (y j : ℕ) → j < journalCountAt → getD (enter l y) j 0 ≡ getD l j 0
 unfolding enter
 enter-head l y j h =
     let a = set l (orderedAt (idRound y)) (add (orderedMask l (idRound y)) (idMember y)) in
-    getD-set-other (set a (232 + journalCount l) y) 4 j (journalCount l + 1) 0 (λ e. omega arith)
-    ∙ getD-set-other a (232 + journalCount l) j y 0 (λ e. omega arith)
+    getD-set-other (set a (journalAt + journalCount l) y) journalCountAt j (journalCount l + 1) 0 (λ e. omega arith)
+    ∙ getD-set-other a (journalAt + journalCount l) j y 0 (λ e. omega arith)
     ∙ getD-set-other l (orderedAt (idRound y)) j (add (orderedMask l (idRound y)) (idMember y)) 0 (λ e. omega arith)
 
-enter-all-head : (ys l : List ℕ) (j : ℕ) → j < 4 → getD (enterAll l ys) j 0 ≡ getD l j 0
+enter-all-head : (ys l : List ℕ) (j : ℕ) → j < journalCountAt → getD (enterAll l ys) j 0 ≡ getD l j 0
 unfolding enterAll
 enter-all-head [] l j h = refl
 enter-all-head (y ∷ ys) l j h = enter-all-head ys (enter l y) j h ∙ enter-head l y j h
 
-pub order-head : (v : Records) (rs l : List ℕ) (j : ℕ) → j < 4 → getD (orderLeaders v l rs) j 0 ≡ getD l j 0
+pub order-head : (v : Records) (rs l : List ℕ) (j : ℕ) → j < journalCountAt → getD (orderLeaders v l rs) j 0 ≡ getD l j 0
 unfolding orderLeaders orderLeader
 order-head v [] l j h = refl
 order-head v (r ∷ rs) l j h = order-head v rs (orderLeader v l r) j h ∙ enter-all-head _ l j h
@@ -113,7 +113,7 @@ order-head v (r ∷ rs) l j h = order-head v rs (orderLeader v l r) j h ∙ ente
 
 pub record Quiet (l m : List ℕ) : Type 0 where
   pub alike : Alike l m
-  pub ordered : (r : ℕ) → 1 ≤ r → r ≤ 32 → orderedMask m r ≡ orderedMask l r
+  pub ordered : (r : ℕ) → 1 ≤ r → r ≤ rounds → orderedMask m r ≡ orderedMask l r
   pub journal : journalCount m ≡ journalCount l
 
 pub quiet-then : {l m o : List ℕ} → Quiet l m → Quiet m o → Quiet l o
@@ -121,27 +121,27 @@ quiet-then a b =
     record { alike = alike-then (a .alike) (b .alike); ordered = λ r x y. b .ordered r x y ∙ a .ordered r x y; journal = b .journal ∙ a .journal }
 
 -- a word of the head but the journal's count, or one from 200 on
-pub quiet-head : (l : List ℕ) (j x : ℕ) → 0 < j → j < 4 → Quiet l (set l j x)
+pub quiet-head : (l : List ℕ) (j x : ℕ) → 0 < j → j < journalCountAt → Quiet l (set l j x)
 quiet-head l j x a b = record {
   alike = alike-set l j x (loose-head j a (omega arith));
   ordered = λ r c d. getD-set-other l j (orderedAt r) x 0 (λ e. omega arith);
-  journal = getD-set-other l j 4 x 0 (λ e. omega arith);
+  journal = getD-set-other l j journalCountAt x 0 (λ e. omega arith);
 }
 
-quiet-list : (l : List ℕ) (j x : ℕ) → 200 ≤ j → j < 744 → Quiet l (set l j x)
+quiet-list : (l : List ℕ) (j x : ℕ) → leadersAt ≤ j → j < cellsAt → Quiet l (set l j x)
 quiet-list l j x a b = record {
   alike = alike-set l j x (loose-list j a b);
   ordered = λ r c d. getD-set-other l j (orderedAt r) x 0 (λ e. omega arith);
-  journal = getD-set-other l j 4 x 0 (λ e. omega arith);
+  journal = getD-set-other l j journalCountAt x 0 (λ e. omega arith);
 }
 
-pub quiet-leader : (l : List ℕ) (r : ℕ) → leaderCount l < 500 → Quiet l (appendLeader l r)
+pub quiet-leader : (l : List ℕ) (r : ℕ) → leaderCount l < leadersSize → Quiet l (appendLeader l r)
 unfolding appendLeader
 quiet-leader l r h =
-    quiet-then (quiet-list l (200 + leaderCount l) (leaderId (memberCount l) r) (omega arith) (omega arith))
-    (quiet-head (set l (200 + leaderCount l) (leaderId (memberCount l) r)) 3 (leaderCount l + 1) (omega arith) (omega arith))
+    quiet-then (quiet-list l (leadersAt + leaderCount l) (leaderId (memberCount l) r) (omega arith) (omega arith))
+    (quiet-head (set l (leadersAt + leaderCount l) (leaderId (memberCount l) r)) leaderCountAt (leaderCount l + 1) (omega arith) (omega arith))
 
-pub quiet-leaders : (rs l : List ℕ) → length l ≡ 5864 → leaderCount l + length rs < 400 → Quiet l (appendLeaders l rs)
+pub quiet-leaders : (rs l : List ℕ) → length l ≡ stateSize → leaderCount l + length rs ≤ leadersSize → Quiet l (appendLeaders l rs)
     × (leaderCount (appendLeaders l rs) ≡ leaderCount l + length rs)
 unfolding appendLeaders
 quiet-leaders [] l s h = (record { alike = alike-self l; ordered = λ r a b. refl; journal = refl }, omega arith)
@@ -167,39 +167,43 @@ quiet-room {l} {m} q R = omega (
 -- what each later step may use of the rounds taken
 pub record Taken (l : List ℕ) (n q mask : ℕ) : Type 0 where
   pub none : has mask 0 ≡ false
-  pub fits : LeaderRoom l (count 32 (has mask))
-  pub led : (m : List ℕ) → m ≡ appendLeaders l (select 32 (has mask)) → LeadersReady n mask (set m 2 q)
-  pub done : (m o : List ℕ) → m ≡ appendLeaders l (select 32 (has mask)) → o ≡ orderLeaders (vertices (set m 2 q)) (set m 2 q) (select 32 (has mask))
+  pub fits : LeaderRoom l (count rounds (has mask))
+  pub led : (m : List ℕ) → m ≡ appendLeaders l (select rounds (has mask)) → LeadersReady n mask (set m committedRoundAt q)
+  pub done : (m o : List ℕ) → m ≡ appendLeaders l (select rounds (has mask))
+      → o ≡ orderLeaders (vertices (set m committedRoundAt q)) (set m committedRoundAt q) (select rounds (has mask))
       → o ≡ commit l q
 
 module _ (n : ℕ) (l : List ℕ) (S : Standing l) (R : Room l) (e : n ≡ memberCount l) (few : leaderCount l ≤ committedRound l) (q : ℕ)
-    (low : committedRound l < q) (high : q ≤ 31)
-    (there : held (vertices l) q (leader n q) ≡ true) (mask : ℕ) (is : select 32 (has mask) ≡ chain n (vertices l) (committedRound l) q) where
+    (low : committedRound l < q) (high : q ≤ votedRounds)
+    (there : held (vertices l) q (leader n q) ≡ true) (mask : ℕ) (is : select rounds (has mask) ≡ chain n (vertices l) (committedRound l) q) where
   -- a round that is taken is in the chain
-  in-chain : (r : ℕ) → r < 32 → has mask r ≡ true → among (chain n (vertices l) (committedRound l) q) r ≡ true
-  in-chain r h t = ap (λ (x : List ℕ). among x r) (sym is) ∙ among-select 32 (has mask) r ∙ rw (lt-ltb r 32 h, t)
+  in-chain : (r : ℕ) → r < rounds → has mask r ≡ true → among (chain n (vertices l) (committedRound l) q) r ≡ true
+  in-chain r h t = ap (λ (x : List ℕ). among x r) (sym is) ∙ among-select rounds (has mask) r ∙ rw (lt-ltb r rounds h, t)
 
   taken-none : has mask 0 ≡ false
   taken-none = ⊎-elim (λ t. absurd (omega (arith, chain-bounds n (vertices l) (committedRound l) q 0 (in-chain 0 (omega arith) t) .0))) (λ t. t)
       (which (has mask 0))
 
-  taken-held : (r : ℕ) → r < 32 → has mask r ≡ true → held (vertices l) r (leader n r) ≡ true
+  taken-held : (r : ℕ) → r < rounds → has mask r ≡ true → held (vertices l) r (leader n r) ≡ true
   taken-held r h t = chain-held n (vertices l) (committedRound l) q r there (in-chain r h t)
 
-  quiet-led : Quiet l (set (appendLeaders l (select 32 (has mask))) 2 q) × (leaderCount (appendLeaders l (select 32 (has mask))) ≤ q)
+  quiet-led : Quiet l (set (appendLeaders l (select rounds (has mask))) committedRoundAt q) × (leaderCount (appendLeaders l (select rounds (has mask))) ≤ q)
   quiet-led =
       let size = chain-length n (vertices l) (committedRound l) q (omega arith) in
-      let same : length (select 32 (has mask)) ≡ length (chain n (vertices l) (committedRound l) q) = ap length is in
-      let w = quiet-leaders (select 32 (has mask)) l (S .size) (omega arith) in
-      (quiet-then (w .0) (quiet-head (appendLeaders l (select 32 (has mask))) 2 q (omega arith) (omega arith)), omega (arith, w .1))
+      let same : length (select rounds (has mask)) ≡ length (chain n (vertices l) (committedRound l) q) = ap length is in
+      let w = quiet-leaders (select rounds (has mask)) l (S .size) (omega arith) in
+      (quiet-then (w .0) (quiet-head (appendLeaders l (select rounds (has mask))) committedRoundAt q (omega arith) (omega arith)), omega (arith, w .1))
 
   committed-is : (m : List ℕ)
-      → m ≡ orderLeaders (vertices (set (appendLeaders l (select 32 (has mask))) 2 q)) (set (appendLeaders l (select 32 (has mask))) 2 q)
-      (select 32 (has mask)) → m ≡ commit l q
+      → m ≡ orderLeaders (vertices (set (appendLeaders l (select rounds (has mask))) committedRoundAt q))
+      (set (appendLeaders l (select rounds (has mask))) committedRoundAt q)
+      (select rounds (has mask)) → m ≡ commit l q
   unfolding commit
   committed-is m d =
-      d ∙ ap (λ (v : Records). orderLeaders v (set (appendLeaders l (select 32 (has mask))) 2 q) (select 32 (has mask))) (vertices-same (quiet-led .0 .alike))
-      ∙ ap (λ (rs : List ℕ). orderLeaders (vertices l) (set (appendLeaders l rs) 2 q) rs) (is ∙ ap (λ (x : ℕ). chain x (vertices l) (committedRound l) q) e)
+      d ∙ ap (λ (v : Records). orderLeaders v (set (appendLeaders l (select rounds (has mask))) committedRoundAt q) (select rounds (has mask)))
+      (vertices-same (quiet-led .0 .alike))
+      ∙ ap (λ (rs : List ℕ). orderLeaders (vertices l) (set (appendLeaders l rs) committedRoundAt q) rs) (is
+      ∙ ap (λ (x : ℕ). chain x (vertices l) (committedRound l) q) e)
 
   pub taken : Taken l n q mask
   taken = record {
@@ -208,7 +212,7 @@ module _ (n : ℕ) (l : List ℕ) (S : Standing l) (R : Room l) (e : n ≡ membe
       size = S .size;
       room = omega (
         arith,
-        length-select 32 (has mask),
+        length-select rounds (has mask),
         ap length is,
         chain-length n (vertices l) (committedRound l) q (omega arith),
       );

@@ -9,13 +9,14 @@ use native.Mathlib.Omega.{arith}
 use lib.ListN.{length, getD}
 use borrow.Author.Tests.{not-true, ne-eqb}
 use Rattle.record.specs.Below.{select}
-use Rattle.record.specs.Members.{leader, has, idOf, idRound, idMember}
+use Rattle.record.specs.Members.{leader, has, idOf, idRound, idMember, rounds, slots, votedRounds, idLimit}
 use Rattle.record.proofs.Booleans.{which, and-both, and-left, and-right, and-fails-left, and-fails-right}
 use Rattle.protocol.specs.Dag.{held}
 use Rattle.protocol.specs.Paths.{history}
 use Rattle.protocol.specs.Masks.{historyMasks}
 use Rattle.protocol.proofs.History.{history-held, id-split, id-member}
 use Rattle.protocol.proofs.Masks.{history-claim}
+use Rattle.replica.specs.Layout.{stateSize}
 use Rattle.replica.specs.State.{memberCount, vertices, orderedId}
 use Rattle.commits.specs.Commit.{enter, enterAll, orderLeader}
 use Rattle.commits.specs.Standing.{Standing, Room, orderId, orderRound}
@@ -25,10 +26,10 @@ use Rattle.commits.proofs.Frame.{Alike, alike-self, alike-then, alike-e
 
 -- a state of the right length, with room
 abbrev pub Roomy : List ℕ → Type 0
-Roomy l = (length l ≡ 5864) × Room l
+Roomy l = (length l ≡ stateSize) × Room l
 
 -- ordering an id leaves such a state so
-order-keeps : (l : List ℕ) (mask y : ℕ) → 16 ≤ y → y < 528 → Roomy l → Roomy (orderId l mask y)
+order-keeps : (l : List ℕ) (mask y : ℕ) → slots ≤ y → y < idLimit → Roomy l → Roomy (orderId l mask y)
 order-keeps l mask y low high h = go (which (has mask (idMember y))) (which (orderedId l y))
   where
     go : (has mask (idMember y) ≡ true) ⊎ (has mask (idMember y) ≡ false) → (orderedId l y ≡ true) ⊎ (orderedId l y ≡ false) → Roomy (orderId l mask y)
@@ -39,13 +40,13 @@ order-keeps l mask y low high h = go (which (has mask (idMember y))) (which (ord
         subst Roomy (order-new l mask y a b) (alike-enter l y low high space .size ∙ h .0, room-kept l y (h .0) low high space b (h .1))
 
 -- and so does ordering a round's ids
-round-keeps : (l : List ℕ) (mask r k : ℕ) → 1 ≤ r → r ≤ 32 → k ≤ 16 → Roomy l → Roomy (orderRound l mask r k)
+round-keeps : (l : List ℕ) (mask r k : ℕ) → 1 ≤ r → r ≤ rounds → k ≤ slots → Roomy l → Roomy (orderRound l mask r k)
 unfolding orderRound
 round-keeps l mask r zero low high few h = h
 round-keeps l mask r (suc k) low high few h =
     order-keeps (orderRound l mask r k) mask (idOf r k) (omega arith) (omega arith) (round-keeps l mask r k low high (omega arith) h)
 
-pub round-kept : (l m : List ℕ) (mask r k : ℕ) → 1 ≤ r → r ≤ 32 → k ≤ 16 → length l ≡ 5864 → Room l → m ≡ orderRound l mask r k → Roomy m
+pub round-kept : (l m : List ℕ) (mask r k : ℕ) → 1 ≤ r → r ≤ rounds → k ≤ slots → length l ≡ stateSize → Room l → m ≡ orderRound l mask r k → Roomy m
 round-kept l m mask r k low high few size room e = rw e (round-keeps l mask r k low high few (size, room))
 
 -- an id of the history of round r's leader that was not ordered at first
@@ -64,7 +65,7 @@ module _ (n : ℕ) (l : List ℕ) (S : Standing l) (R : Room l) (e : n ≡ membe
   soFar = soFarIn n l r
 
   -- a wanted id is that of a vertex of rounds 1 to 32, and of none above the leader's
-  wanted-range : (y : ℕ) → wanted y ≡ true → (16 ≤ y) × (y < 528) × (y < 16 * (r + 1))
+  wanted-range : (y : ℕ) → wanted y ≡ true → (slots ≤ y) × (y < idLimit) × (y < slots * (r + 1))
   unfolding wantedIn
   wanted-range y h =
       let d = history-held n (vertices l) (rw e (S .members)) (rw e (S .valid)) r (leader n r) y there (and-right (not (orderedId l y)) _ h) in
@@ -88,7 +89,7 @@ module _ (n : ℕ) (l : List ℕ) (S : Standing l) (R : Room l) (e : n ≡ membe
   enter-step y E h =
       let b = wanted-range y h in
       let fresh : orderedId (soFar y) y ≡ false = E .later y (omega arith) ∙ not-true _ (and-left (not (orderedId l y)) _ h) in
-      let size : length (soFar y) ≡ 5864 = E .alike .size ∙ S .size in
+      let size : length (soFar y) ≡ stateSize = E .alike .size ∙ S .size in
       let space = room-for (soFar y) y (E .room) (b .0) (b .1) fresh in
       let kept : (z : ℕ) → y + 1 ≤ z → orderedId (enter (soFar y) y) z ≡ orderedId l z =
       λ z k. entered-ordered (soFar y) y size (b .0) (b .1) space z
@@ -121,10 +122,10 @@ module _ (n : ℕ) (l : List ℕ) (S : Standing l) (R : Room l) (e : n ≡ membe
   entering (suc y) = subst Entering (add-one y) (⊎-elim (enter-step y (entering y)) (skip-step y (entering y)) (which (wanted y)))
 
   -- the first 16 numbers are no ids
-  start : l ≡ soFar 16
+  start : l ≡ soFar slots
   unfolding soFarIn
   start = enter-none l
-      ∙ ap (enterAll l) (sym (select-none 16 wanted (λ y k. ⊎-elim (λ h. absurd (omega (arith, wanted-range y h .0))) (λ h. h) (which (wanted y)))))
+      ∙ ap (enterAll l) (sym (select-none slots wanted (λ y k. ⊎-elim (λ h. absurd (omega (arith, wanted-range y h .0))) (λ h. h) (which (wanted y)))))
 
   -- one id, by the mask of its round
   step : (y mask : ℕ) → has mask (idMember y) ≡ history n (vertices l) r (leader n r) y → orderId (soFar y) mask y ≡ soFar (y + 1)
@@ -148,12 +149,12 @@ module _ (n : ℕ) (l : List ℕ) (S : Standing l) (R : Room l) (e : n ≡ membe
   so-far-room y = entering y .room
 
   -- after the last id the history has been ordered
-  finish : soFar 528 ≡ orderLeader (vertices l) l r
+  finish : soFar idLimit ≡ orderLeader (vertices l) l r
   unfolding soFarIn wantedIn orderLeader
-  finish = ap (λ (m : ℕ). enterAll l (select 528 (λ y. not (orderedId l y) && history m (vertices l) r (leader m r) y))) e
+  finish = ap (λ (m : ℕ). enterAll l (select idLimit (λ y. not (orderedId l y) && history m (vertices l) r (leader m r) y))) e
 
   -- the mask of an id's round, in the history's masks
-  mask-of : (y : ℕ) → 16 ≤ y → y < 528 → has (getD (historyMasks n (vertices l) r (leader n r)) (idRound y - 1) 0) (idMember y)
+  mask-of : (y : ℕ) → slots ≤ y → y < idLimit → has (getD (historyMasks n (vertices l) r (leader n r)) (idRound y - 1) 0) (idMember y)
       ≡ history n (vertices l) r (leader n r) y
   mask-of y low high =
       history-claim n (vertices l) (rw e (S .members)) (rw e (S .valid)) r (leader n r) there (idRound y) (idMember y) (omega arith) (omega arith)
@@ -161,8 +162,8 @@ module _ (n : ℕ) (l : List ℕ) (S : Standing l) (R : Room l) (e : n ≡ membe
       ∙ ap (history n (vertices l) r (leader n r)) (id-split y)
 
   -- the ids of a round below its member k, by the round's mask
-  members-step : (s mask k : ℕ) → k ≤ 16 → ((p : ℕ) → p < 16 → has mask p ≡ history n (vertices l) r (leader n r) (idOf s p))
-      → orderRound (soFar (16 * s)) mask s k ≡ soFar (idOf s k)
+  members-step : (s mask k : ℕ) → k ≤ slots → ((p : ℕ) → p < slots → has mask p ≡ history n (vertices l) r (leader n r) (idOf s p))
+      → orderRound (soFar (slots * s)) mask s k ≡ soFar (idOf s k)
   unfolding orderRound
   members-step s mask zero few h = ap soFar (omega arith)
   members-step s mask (suc k) few h =
@@ -171,38 +172,38 @@ module _ (n : ℕ) (l : List ℕ) (S : Standing l) (R : Room l) (e : n ≡ membe
       ∙ ap soFar (omega arith)
 
   -- one round, by its mask in the history's masks
-  round-step : (s : ℕ) (x : List ℕ) (mask : ℕ) → s < 32 → x ≡ soFar (16 * (s + 1)) → mask ≡ getD (historyMasks n (vertices l) r (leader n r)) s 0
-      → orderRound x mask (s + 1) 16 ≡ soFar (16 * (s + 1 + 1))
-  round-step s x mask high e d = rw e (members-step (s + 1) mask 16 (omega arith) named ∙ ap soFar (omega arith))
+  round-step : (s : ℕ) (x : List ℕ) (mask : ℕ) → s < rounds → x ≡ soFar (slots * (s + 1)) → mask ≡ getD (historyMasks n (vertices l) r (leader n r)) s 0
+      → orderRound x mask (s + 1) slots ≡ soFar (slots * (s + 1 + 1))
+  round-step s x mask high e d = rw e (members-step (s + 1) mask slots (omega arith) named ∙ ap soFar (omega arith))
     where
-      named : (p : ℕ) → p < 16 → has mask p ≡ history n (vertices l) r (leader n r) (idOf (s + 1) p)
+      named : (p : ℕ) → p < slots → has mask p ≡ history n (vertices l) r (leader n r) (idOf (s + 1) p)
       named p few =
           let a : idRound (idOf (s + 1) p) - 1 ≡ s = omega arith in
           rw d (rw (a, id-member (s + 1) p few) at (mask-of (idOf (s + 1) p) (omega arith) (omega arith)))
 
   -- above the leader's round there is nothing
-  nothing-above : (k : ℕ) → soFar (16 * (r + 1)) ≡ soFar (16 * (r + 1) + k)
+  nothing-above : (k : ℕ) → soFar (slots * (r + 1)) ≡ soFar (slots * (r + 1) + k)
   nothing-above zero = ap soFar (omega arith)
   nothing-above (suc k) =
-      let y = 16 * (r + 1) + k in
+      let y = slots * (r + 1) + k in
       nothing-above k ∙ so-far-out y (⊎-elim (λ h. absurd (omega (arith, wanted-range y h .2))) (λ h. h) (which (wanted y))) ∙ ap soFar (omega arith)
 
   -- so the leader's round is the last
-  last-round : r ≤ 32 → soFar (16 * (r + 1)) ≡ orderLeader (vertices l) l r
-  last-round high = nothing-above (528 - 16 * (r + 1)) ∙ ap soFar (omega arith) ∙ finish
+  last-round : r ≤ rounds → soFar (slots * (r + 1)) ≡ orderLeader (vertices l) l r
+  last-round high = nothing-above (idLimit - slots * (r + 1)) ∙ ap soFar (omega arith) ∙ finish
 
 -- what each step of the code may use, that orders the history of round r's leader round by round
 pub record Growth (n : ℕ) (l : List ℕ) (r : ℕ) : Type 0 where
-  pub begun : l ≡ soFarIn n l r 16
-  pub kept : (s : ℕ) (m : List ℕ) → m ≡ soFarIn n l r (16 * (s + 1)) → Roomy m
-  pub more : (s k p : ℕ) (m o masks : List ℕ) → s < 32 → m ≡ soFarIn n l r (16 * (s + 1)) → p ≡ leader n r → masks ≡ historyMasks n (vertices l) r p
-      → k ≡ s → o ≡ orderRound m (getD masks k 0) (s + 1) 16 → o ≡ soFarIn n l r (16 * (s + 1 + 1))
-  pub done : (m : List ℕ) → m ≡ soFarIn n l r (16 * (r + 1)) → m ≡ orderLeader (vertices l) l r
+  pub begun : l ≡ soFarIn n l r slots
+  pub kept : (s : ℕ) (m : List ℕ) → m ≡ soFarIn n l r (slots * (s + 1)) → Roomy m
+  pub more : (s k p : ℕ) (m o masks : List ℕ) → s < rounds → m ≡ soFarIn n l r (slots * (s + 1)) → p ≡ leader n r → masks ≡ historyMasks n (vertices l) r p
+      → k ≡ s → o ≡ orderRound m (getD masks k 0) (s + 1) slots → o ≡ soFarIn n l r (slots * (s + 1 + 1))
+  pub done : (m : List ℕ) → m ≡ soFarIn n l r (slots * (r + 1)) → m ≡ orderLeader (vertices l) l r
 
-pub growth : (n : ℕ) (l : List ℕ) (r : ℕ) → Standing l → Room l → n ≡ memberCount l → r ≤ 31 → held (vertices l) r (leader n r) ≡ true → Growth n l r
+pub growth : (n : ℕ) (l : List ℕ) (r : ℕ) → Standing l → Room l → n ≡ memberCount l → r ≤ votedRounds → held (vertices l) r (leader n r) ≡ true → Growth n l r
 growth n l r S R e high there = record {
   begun = start n l S R e r there;
-  kept = λ s m d. let y = 16 * (s + 1) in rw d (so-far-alike n l S R e r there y .size ∙ S .size, so-far-room n l S R e r there y);
+  kept = λ s m d. let y = slots * (s + 1) in rw d (so-far-alike n l S R e r there y .size ∙ S .size, so-far-room n l S R e r there y);
   more = λ s k p m o masks h d ep em ek f.
       f ∙ round-step n l S R e r there s m (getD masks k 0) h d (ap₂ (λ (x : List ℕ) (i : ℕ). getD x i 0) (rw ep at em) ek);
   done = λ m d. d ∙ last-round n l S R e r there (omega arith);
@@ -210,7 +211,7 @@ growth n l r S R e high there = record {
 
 -- ordering a leader's history leaves the rest alike, and room for more
 pub leader-alike : (l : List ℕ) → Standing l → Room l → (r : ℕ) → held (vertices l) r (leader (memberCount l) r) ≡ true → Alike l (orderLeader (vertices l) l r)
-leader-alike l S R r h = subst (λ (x : List ℕ). Alike l x) (finish (memberCount l) l S R refl r h) (so-far-alike (memberCount l) l S R refl r h 528)
+leader-alike l S R r h = subst (λ (x : List ℕ). Alike l x) (finish (memberCount l) l S R refl r h) (so-far-alike (memberCount l) l S R refl r h idLimit)
 
 pub leader-room : (l : List ℕ) → Standing l → Room l → (r : ℕ) → held (vertices l) r (leader (memberCount l) r) ≡ true → Room (orderLeader (vertices l) l r)
-leader-room l S R r h = subst Room (finish (memberCount l) l S R refl r h) (so-far-room (memberCount l) l S R refl r h 528)
+leader-room l S R r h = subst Room (finish (memberCount l) l S R refl r h) (so-far-room (memberCount l) l S R refl r h idLimit)

@@ -12,7 +12,7 @@ use lib.ListN.{getD, set, take, drop, length, length-set, length-drop}
 use lib.Seq.{getD-set-same, getD-set-other, getD-drop, ext-getD}
 use borrow.Author.Tests.{eqb-true, eqb-false, eq-eqb, ne-eqb}
 use Rattle.record.specs.Below.{count}
-use Rattle.record.specs.Members.{leader, has, add, idRound, idMember, isRound}
+use Rattle.record.specs.Members.{leader, has, add, idRound, idMember, isRound, rounds, slots, idLimit}
 use Rattle.record.proofs.Booleans.{which, never, and-cong, bool-ext}
 use Rattle.record.proofs.Below.{count-cong}
 use Rattle.record.proofs.Masks.{has-add}
@@ -20,7 +20,9 @@ use Rattle.record.proofs.Rounds.{round-in, round-range}
 use Rattle.protocol.specs.Dag.{Records, Dag}
 use Rattle.protocol.specs.Chain.{leaderId}
 use Rattle.protocol.proofs.Laws.{records-ext, well-formed-cong}
-use Rattle.replica.specs.Layout.{masksAt, cellAt, orderedAt, heldAt, heardAt, votesAt}
+use Rattle.record.specs.Layout.{bodySize}
+use Rattle.replica.specs.Layout.{headSize, leadersSize, leaderCountAt, journalCountAt, timeoutsKind, memberCountAt}
+use Rattle.replica.specs.Layout.{masksAt, cellAt, orderedAt, heldAt, heardAt, votesAt, stateSize, leadersAt, journalAt, journalSize, cellsAt}
 use Rattle.replica.specs.State.{memberCount, committedRound, leaderCount, journalCount, heldMask, heardMask, votesMask, orderedMask, cell, vertices}
 use Rattle.replica.specs.State.{firsts, dag, orderedId}
 use Rattle.commits.specs.Commit.{appendLeader, appendLeaders, enter, enterAll, orderLeader, orderLeaders}
@@ -31,8 +33,8 @@ use Rattle.commits.specs.Standing.{Standing, Room}
 pub record Alike (l m : List ℕ) : Type 0 where
   pub size : length m ≡ length l
   pub members : memberCount m ≡ memberCount l
-  pub cells : (i : ℕ) → 744 ≤ i → getD m i 0 ≡ getD l i 0
-  pub masks : (r k : ℕ) → 1 ≤ r → r ≤ 32 → k < 3 → getD m (masksAt r + k) 0 ≡ getD l (masksAt r + k) 0
+  pub cells : (i : ℕ) → cellsAt ≤ i → getD m i 0 ≡ getD l i 0
+  pub masks : (r k : ℕ) → 1 ≤ r → r ≤ rounds → k < timeoutsKind → getD m (masksAt r + k) 0 ≡ getD l (masksAt r + k) 0
 
 pub alike-self : (l : List ℕ) → Alike l l
 alike-self l = record { size = refl; members = refl; cells = λ i h. refl; masks = λ r k a b d. refl }
@@ -48,30 +50,30 @@ alike-then a b = record {
 -- a word that is neither the member count, nor one of those masks, nor in a cell
 pub record Loose (j : ℕ) : Type 0 where
   pub low : 0 < j
-  pub high : j < 744
-  pub apart : (r k : ℕ) → 1 ≤ r → r ≤ 32 → k < 3 → masksAt r + k ≡ j → ⊥
+  pub high : j < cellsAt
+  pub apart : (r k : ℕ) → 1 ≤ r → r ≤ rounds → k < timeoutsKind → masksAt r + k ≡ j → ⊥
 
 pub alike-set : (l : List ℕ) (j x : ℕ) → Loose j → Alike l (set l j x)
 alike-set l j x f = record {
   size = length-set l j x;
-  members = getD-set-other l j 0 x 0 (λ e. omega (arith, f .low));
+  members = getD-set-other l j memberCountAt x 0 (λ e. omega (arith, f .low));
   cells = λ i h. getD-set-other l j i x 0 (λ e. omega (arith, f .high));
   masks = λ r k a b d. getD-set-other l j (masksAt r + k) x 0 (λ e. f .apart r k a b d e);
 }
 
-pub loose-head : (j : ℕ) → 0 < j → j < 8 → Loose j
+pub loose-head : (j : ℕ) → 0 < j → j < headSize → Loose j
 loose-head j a b = record { low = a; high = omega arith; apart = λ r k c d h e. omega arith }
 
-pub loose-list : (j : ℕ) → 200 ≤ j → j < 744 → Loose j
+pub loose-list : (j : ℕ) → leadersAt ≤ j → j < cellsAt → Loose j
 loose-list j a b = record { low = omega arith; high = b; apart = λ r k c d h e. omega arith }
 
-pub loose-ordered : (r : ℕ) → 1 ≤ r → r ≤ 32 → Loose (orderedAt r)
+pub loose-ordered : (r : ℕ) → 1 ≤ r → r ≤ rounds → Loose (orderedAt r)
 loose-ordered r a b = record { low = omega arith; high = omega arith; apart = λ s k c d h e. omega arith }
 
 -- ---- what alike states share
 
 module _ {l m : List ℕ} (A : Alike l m) where
-  drop-same : (k : ℕ) → 744 ≤ k → drop k m ≡ drop k l
+  drop-same : (k : ℕ) → cellsAt ≤ k → drop k m ≡ drop k l
   drop-same k h =
       ext-getD 0 (drop k m) (drop k l) (length-drop k m ∙ ap (λ (x : ℕ). x - k) (A .size) ∙ sym (length-drop k l))
       (λ i b. getD-drop k m i 0 ∙ A .cells (k + i) (omega arith) ∙ sym (getD-drop k l i 0))
@@ -88,7 +90,7 @@ module _ {l m : List ℕ} (A : Alike l m) where
   vertex-same : (r p : ℕ) → vertices m r p ≡ vertices l r p
   unfolding vertices
   vertex-same r p =
-      ap₂ (λ (b : Bool) (c : List ℕ). cond b (take 10 c) [])
+      ap₂ (λ (b : Bool) (c : List ℕ). cond b (take bodySize c) [])
       (and-cong {a = isRound r} refl (λ e. ap (λ (x : ℕ). has x p) (held-same r e))) (drop-same (cellAt r p) (omega arith))
 
   pub vertices-same : vertices m ≡ vertices l
@@ -120,37 +122,38 @@ module _ {l m : List ℕ} (A : Alike l m) where
 
 -- ---- one leader, one id
 
-pub alike-leader : (l : List ℕ) (r : ℕ) → leaderCount l < 500 → Alike l (appendLeader l r)
+pub alike-leader : (l : List ℕ) (r : ℕ) → leaderCount l < leadersSize → Alike l (appendLeader l r)
 unfolding appendLeader
 alike-leader l r h =
-    alike-then (alike-set l (200 + leaderCount l) (leaderId (memberCount l) r) (loose-list _ (omega arith) (omega arith)))
-    (alike-set (set l (200 + leaderCount l) (leaderId (memberCount l) r)) 3 (leaderCount l + 1) (loose-head 3 (omega arith) (omega arith)))
+    alike-then (alike-set l (leadersAt + leaderCount l) (leaderId (memberCount l) r) (loose-list _ (omega arith) (omega arith)))
+    (alike-set (set l (leadersAt + leaderCount l) (leaderId (memberCount l) r)) leaderCountAt (leaderCount l + 1)
+    (loose-head leaderCountAt (omega arith) (omega arith)))
 
-pub alike-enter : (l : List ℕ) (y : ℕ) → 16 ≤ y → y < 528 → journalCount l < 512 → Alike l (enter l y)
+pub alike-enter : (l : List ℕ) (y : ℕ) → slots ≤ y → y < idLimit → journalCount l < journalSize → Alike l (enter l y)
 unfolding enter
 alike-enter l y low high h =
     let a = set l (orderedAt (idRound y)) (add (orderedMask l (idRound y)) (idMember y)) in
-    let b = set a (232 + journalCount l) y in
+    let b = set a (journalAt + journalCount l) y in
     alike-then (alike-set l (orderedAt (idRound y)) (add (orderedMask l (idRound y)) (idMember y)) (loose-ordered (idRound y) (omega arith) (omega arith)))
-    (alike-then (alike-set a (232 + journalCount l) y (loose-list _ (omega arith) (omega arith)))
-    (alike-set b 4 (journalCount l + 1) (loose-head 4 (omega arith) (omega arith))))
+    (alike-then (alike-set a (journalAt + journalCount l) y (loose-list _ (omega arith) (omega arith)))
+    (alike-set b journalCountAt (journalCount l + 1) (loose-head journalCountAt (omega arith) (omega arith))))
 
-module _ (l : List ℕ) (y : ℕ) (size : length l ≡ 5864) (low : 16 ≤ y) (high : y < 528) (room : journalCount l < 512) where
+module _ (l : List ℕ) (y : ℕ) (size : length l ≡ stateSize) (low : slots ≤ y) (high : y < idLimit) (room : journalCount l < journalSize) where
   marked : List ℕ
   marked = set l (orderedAt (idRound y)) (add (orderedMask l (idRound y)) (idMember y))
 
   -- the ordered masks after y is entered
-  entered-mask : (r : ℕ) → 1 ≤ r → r ≤ 32 → orderedMask (enter l y) r ≡ orderedMask marked r
+  entered-mask : (r : ℕ) → 1 ≤ r → r ≤ rounds → orderedMask (enter l y) r ≡ orderedMask marked r
   unfolding enter marked
   entered-mask r a b =
-      getD-set-other (set marked (232 + journalCount l) y) 4 (orderedAt r) (journalCount l + 1) 0 (λ e. omega arith)
-      ∙ getD-set-other marked (232 + journalCount l) (orderedAt r) y 0 (λ e. omega arith)
+      getD-set-other (set marked (journalAt + journalCount l) y) journalCountAt (orderedAt r) (journalCount l + 1) 0 (λ e. omega arith)
+      ∙ getD-set-other marked (journalAt + journalCount l) (orderedAt r) y 0 (λ e. omega arith)
 
   marked-same : orderedMask marked (idRound y) ≡ add (orderedMask l (idRound y)) (idMember y)
   unfolding marked
   marked-same = getD-set-same l (orderedAt (idRound y)) (add (orderedMask l (idRound y)) (idMember y)) 0 (omega arith)
 
-  marked-other : (r : ℕ) → 1 ≤ r → r ≤ 32 → (r ≡ idRound y → ⊥) → orderedMask marked r ≡ orderedMask l r
+  marked-other : (r : ℕ) → 1 ≤ r → r ≤ rounds → (r ≡ idRound y → ⊥) → orderedMask marked r ≡ orderedMask l r
   unfolding marked
   marked-other r a b d = getD-set-other l (orderedAt (idRound y)) (orderedAt r) (add (orderedMask l (idRound y)) (idMember y)) 0 (λ e. d (omega arith))
 
@@ -181,8 +184,8 @@ module _ (l : List ℕ) (y : ℕ) (size : length l ≡ 5864) (low : 16 ≤ y) (h
   pub entered-count : journalCount (enter l y) ≡ journalCount l + 1
   unfolding enter marked
   entered-count =
-      getD-set-same (set marked (232 + journalCount l) y) 4 (journalCount l + 1) 0
-      (omega (arith, length-set marked (232 + journalCount l) y, length-set l (orderedAt (idRound y)) (add (orderedMask l (idRound y)) (idMember y))))
+      getD-set-same (set marked (journalAt + journalCount l) y) journalCountAt (journalCount l + 1) 0
+      (omega (arith, length-set marked (journalAt + journalCount l) y, length-set l (orderedAt (idRound y)) (add (orderedMask l (idRound y)) (idMember y))))
 
 -- one more number counted
 count-grow : (k : ℕ) (s t : ℕ → Bool) (y : ℕ) → y < k → s y ≡ false → ((z : ℕ) → t z ≡ (s z || eqb y z)) → count k t ≡ count k s + 1
@@ -200,12 +203,13 @@ count-grow (suc k) s t y l e h = go (eq-or-lt-of-le (le-of-suc-le-suc l)) (λ m.
         rw a (omega (arith, ih m))
 
 -- entering an id that is not ordered leaves room for the rest
-pub room-kept : (l : List ℕ) (y : ℕ) → length l ≡ 5864 → 16 ≤ y → y < 528 → journalCount l < 512 → orderedId l y ≡ false → Room l → Room (enter l y)
+pub room-kept : (l : List ℕ) (y : ℕ) → length l ≡ stateSize → slots ≤ y → y < idLimit → journalCount l < journalSize → orderedId l y ≡ false → Room l
+    → Room (enter l y)
 room-kept l y size low high room e R =
     omega (
       arith,
       R,
       entered-count l y size low high room,
-      count-grow 528 (orderedId l) (orderedId (enter l y)) y high e
+      count-grow idLimit (orderedId l) (orderedId (enter l y)) y high e
           (entered-ordered l y size low high room),
     )

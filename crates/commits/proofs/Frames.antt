@@ -4,9 +4,11 @@ use mathlib.Core.List.{List}
 use Prim.Native.Nat.{ℕ, _+_, _≤_, _<_}
 use native.Mathlib.Omega.{arith}
 use lib.ListN.{getD, set}
-use Rattle.record.specs.Members.{legal, has, idRound}
+use Rattle.record.specs.Members.{legal, has, idRound, rounds}
 use Rattle.protocol.specs.Dag.{Records}
-use Rattle.replica.specs.Layout.{masksAt, heldAt, heardAt, votesAt, orderedAt, cellAt}
+use Rattle.replica.specs.Layout.{committedRoundAt, heldKind, heardKind, votesKind}
+use Rattle.replica.specs.Layout.{cellsAt, memberCountAt, leaderCountAt, journalCountAt, zerosAt, orderedKind, currentRoundAt, timeoutsKind}
+use Rattle.replica.specs.Layout.{masksAt, heldAt, heardAt, votesAt, orderedAt, cellAt, headSize, leadersAt, leadersSize, journalAt, journalSize}
 use Rattle.replica.specs.State.{memberCount, leaderCount, journalCount, vertices, firsts}
 use Rattle.replica.proofs.Keeping.{Keeps, keeps-trans, keeps-less, keeps-set, vertices-kept, firsts-kept}
 use Rattle.commits.specs.Commit.{appendLeader, enter}
@@ -16,20 +18,20 @@ use Rattle.commits.specs.Standing.{Standing}
 
 -- j is neither the leader count nor in the leader list
 abbrev pub OffLeaders : ℕ → Type 0
-OffLeaders j = (j ≡ 3 → ⊥) × (200 ≤ j → j < 232 → ⊥)
+OffLeaders j = (j ≡ leaderCountAt → ⊥) × (leadersAt ≤ j → j < journalAt → ⊥)
 
 -- j is neither the journal count, nor in the journal, nor an ordered mask
 abbrev pub OffJournal : ℕ → Type 0
-OffJournal j = (j ≡ 4 → ⊥) × (232 ≤ j → j < 744 → ⊥) × ((r : ℕ) → 1 ≤ r → r ≤ 32 → j ≡ orderedAt r → ⊥)
+OffJournal j = (j ≡ journalCountAt → ⊥) × (journalAt ≤ j → j < cellsAt → ⊥) × ((r : ℕ) → 1 ≤ r → r ≤ rounds → j ≡ orderedAt r → ⊥)
 
 -- j is none of these, nor the committed round
 pub record OffLists (j : ℕ) : Type 0 where
-  pub not-committed : j ≡ 2 → ⊥
+  pub not-committed : j ≡ committedRoundAt → ⊥
   pub off-leaders : OffLeaders j
   pub off-journal : OffJournal j
 
 -- words 0 and 1, the zeros, the other masks and the cells are off the lists
-pub off-front : (j : ℕ) → j < 2 → OffLists j
+pub off-front : (j : ℕ) → j ≤ currentRoundAt → OffLists j
 off-front j a = record {
   not-committed = λ e. omega arith;
   off-leaders = (λ e. omega arith, λ b c. omega arith);
@@ -37,7 +39,7 @@ off-front j a = record {
 }
 
 -- words 5 to 7
-pub off-zeros : (j : ℕ) → 5 ≤ j → j < 8 → OffLists j
+pub off-zeros : (j : ℕ) → zerosAt ≤ j → j < headSize → OffLists j
 off-zeros j a b = record {
   not-committed = λ e. omega arith;
   off-leaders = (λ e. omega arith, λ c d. omega arith);
@@ -45,7 +47,7 @@ off-zeros j a b = record {
 }
 
 -- masks 0 to 4 of a round
-pub off-mask : (r i : ℕ) → 1 ≤ r → r ≤ 32 → i < 5 → OffLists (masksAt r + i)
+pub off-mask : (r i : ℕ) → 1 ≤ r → r ≤ rounds → i < orderedKind → OffLists (masksAt r + i)
 off-mask r i a b k = record {
   not-committed = λ e. omega arith;
   off-leaders = (λ e. omega arith, λ c d. omega arith);
@@ -53,7 +55,7 @@ off-mask r i a b k = record {
 }
 
 -- the cells
-pub off-cells : (j : ℕ) → 744 ≤ j → OffLists j
+pub off-cells : (j : ℕ) → cellsAt ≤ j → OffLists j
 off-cells j a = record {
   not-committed = λ e. omega arith;
   off-leaders = (λ e. omega arith, λ c d. omega arith);
@@ -63,11 +65,11 @@ off-cells j a = record {
 -- ---- a state with the same vertices stands as well
 
 -- what Standing says rests on word 0, the held, heard and votes masks, and the cells
-pub standing-kept : (K : ℕ → Type 0) (l l′ : List ℕ) → Keeps K l l′ → K 0 → ((r i : ℕ) → 1 ≤ r → r ≤ 32 → i < 3 → K (masksAt r + i))
-    → ((j : ℕ) → 744 ≤ j → K j) → Standing l → Standing l′
+pub standing-kept : (K : ℕ → Type 0) (l l′ : List ℕ) → Keeps K l l′ → K memberCountAt → ((r i : ℕ) → 1 ≤ r → r ≤ rounds → i < timeoutsKind → K (masksAt r + i))
+    → ((j : ℕ) → cellsAt ≤ j → K j) → Standing l → Standing l′
 standing-kept K l l′ p k f g S =
-    let n = p .same 0 k in
-    let v = vertices-kept K l l′ p (λ r a b. f r 0 a b (omega arith)) g in
+    let n = p .same memberCountAt k in
+    let v = vertices-kept K l l′ p (λ r a b. f r heldKind a b (omega arith)) g in
     record {
       size = p .size ∙ S .size;
       members = ap legal n ∙ S .members;
@@ -76,21 +78,21 @@ standing-kept K l l′ p k f g S =
       valid = rw (n, v) (S .valid);
       words = λ r q i a b c d. ap (λ (x : Records). getD (x r q) i 0) v ∙ S .words r q i a b c d
           ∙ sym (p .same (cellAt r q + i) (g (cellAt r q + i) (omega arith)));
-      held-low = λ r a b. rw (n, p .same (heldAt r) (f r 0 a b (omega arith))) (S .held-low r a b);
-      votes-low = λ r a b. rw (n, p .same (votesAt r) (f r 2 a b (omega arith))) (S .votes-low r a b);
-      votes-heard = λ r q a b h. ap (λ (m : ℕ). has m q) (p .same (heardAt r) (f r 1 a b (omega arith)))
-          ∙ S .votes-heard r q a b (ap (λ (m : ℕ). has m q) (sym (p .same (votesAt r) (f r 2 a b (omega arith)))) ∙ h);
+      held-low = λ r a b. rw (n, p .same (heldAt r) (f r heldKind a b (omega arith))) (S .held-low r a b);
+      votes-low = λ r a b. rw (n, p .same (votesAt r) (f r votesKind a b (omega arith))) (S .votes-low r a b);
+      votes-heard = λ r q a b h. ap (λ (m : ℕ). has m q) (p .same (heardAt r) (f r heardKind a b (omega arith)))
+          ∙ S .votes-heard r q a b (ap (λ (m : ℕ). has m q) (sym (p .same (votesAt r) (f r votesKind a b (omega arith)))) ∙ h);
     }
 
 -- where only list words change
 module _ (l l′ : List ℕ) (p : Keeps OffLists l l′) where
   -- Standing
   pub lists-standing : Standing l → Standing l′
-  lists-standing = standing-kept OffLists l l′ p (off-front 0 (omega arith)) (λ r i a b k. off-mask r i a b (omega arith)) off-cells
+  lists-standing = standing-kept OffLists l l′ p (off-front memberCountAt (omega arith)) (λ r i a b k. off-mask r i a b (omega arith)) off-cells
 
   -- the member count
   pub lists-members : memberCount l′ ≡ memberCount l
-  lists-members = p .same 0 (off-front 0 (omega arith))
+  lists-members = p .same memberCountAt (off-front memberCountAt (omega arith))
 
   -- the vertices
   pub lists-vertices : vertices l′ ≡ vertices l
@@ -98,11 +100,12 @@ module _ (l l′ : List ℕ) (p : Keeps OffLists l l′) where
 
   -- the first messages
   pub lists-firsts : firsts l′ ≡ firsts l
-  lists-firsts = firsts-kept OffLists l l′ p (off-front 0 (omega arith)) (λ r a b. off-mask r 1 a b (omega arith)) (λ r a b. off-mask r 2 a b (omega arith))
+  lists-firsts = firsts-kept OffLists l l′ p (off-front memberCountAt (omega arith)) (λ r a b. off-mask r heardKind a b (omega arith))
+      (λ r a b. off-mask r votesKind a b (omega arith))
 
 -- words 1 to 4, an ordered word and a list word, set
 abbrev pub Core : ℕ → Type 0
-Core j = (1 ≤ j → j ≤ 4 → ⊥) × (200 ≤ j → j < 744 → ⊥) × ((r : ℕ) → 1 ≤ r → r ≤ 32 → j ≡ orderedAt r → ⊥)
+Core j = (currentRoundAt ≤ j → j ≤ journalCountAt → ⊥) × (leadersAt ≤ j → j < cellsAt → ⊥) × ((r : ℕ) → 1 ≤ r → r ≤ rounds → j ≡ orderedAt r → ⊥)
 
 -- Standing rests on none of these
 core-standing : (l l′ : List ℕ) → Keeps Core l l′ → Standing l → Standing l′
@@ -110,38 +113,38 @@ core-standing l l′ p = standing-kept Core l l′ p (λ a b. omega arith, λ a 
     (λ r i a b k. (λ c d. omega arith, λ c d. omega arith, λ s c d e. omega arith)) (λ j a. (λ c d. omega arith, λ c d. omega arith, λ s c d e. omega arith))
 
 -- a word from 1 to 4
-pub standing-count : (l : List ℕ) (j x : ℕ) → 1 ≤ j → j ≤ 4 → Standing l → Standing (set l j x)
+pub standing-count : (l : List ℕ) (j x : ℕ) → currentRoundAt ≤ j → j ≤ journalCountAt → Standing l → Standing (set l j x)
 standing-count l j x a b = core-standing l (set l j x) (keeps-set Core l j x (λ i k e. k .0 (omega arith) (omega arith)))
 
 -- a list word
-pub standing-list : (l : List ℕ) (j x : ℕ) → 200 ≤ j → j < 744 → Standing l → Standing (set l j x)
+pub standing-list : (l : List ℕ) (j x : ℕ) → leadersAt ≤ j → j < cellsAt → Standing l → Standing (set l j x)
 standing-list l j x a b = core-standing l (set l j x) (keeps-set Core l j x (λ i k e. k .1 (omega arith) (omega arith)))
 
 -- an ordered mask
-pub standing-ordered : (l : List ℕ) (r x : ℕ) → 1 ≤ r → r ≤ 32 → Standing l → Standing (set l (orderedAt r) x)
+pub standing-ordered : (l : List ℕ) (r x : ℕ) → 1 ≤ r → r ≤ rounds → Standing l → Standing (set l (orderedAt r) x)
 standing-ordered l r x a b = core-standing l (set l (orderedAt r) x) (keeps-set Core l (orderedAt r) x (λ i k e. k .2 r a b e))
 
 -- ---- what one append and one entry keep
 
 -- the committed round
-pub keeps-committed : (l : List ℕ) (q : ℕ) → Keeps OffLists l (set l 2 q)
+pub keeps-committed : (l : List ℕ) (q : ℕ) → Keeps OffLists l (set l committedRoundAt q)
 keeps-committed l q = keeps-set OffLists l 2 q (λ j k e. k .not-committed e)
 
 -- a leader appended
-pub keeps-leader : (l : List ℕ) (r : ℕ) → leaderCount l < 32 → Keeps OffLeaders l (appendLeader l r)
+pub keeps-leader : (l : List ℕ) (r : ℕ) → leaderCount l < leadersSize → Keeps OffLeaders l (appendLeader l r)
 unfolding appendLeader
 keeps-leader l r h = keeps-trans OffLeaders l _ _
-    (keeps-set OffLeaders l (200 + leaderCount l) _ (λ j k e. k .1 (omega arith) (omega arith)))
-    (keeps-set OffLeaders _ 3 _ (λ j k e. k .0 e))
+    (keeps-set OffLeaders l (leadersAt + leaderCount l) _ (λ j k e. k .1 (omega arith) (omega arith)))
+    (keeps-set OffLeaders _ leaderCountAt _ (λ j k e. k .0 e))
 
 -- an id entered
-pub keeps-entry : (l : List ℕ) (y : ℕ) → 1 ≤ idRound y → idRound y ≤ 32 → journalCount l < 512 → Keeps OffJournal l (enter l y)
+pub keeps-entry : (l : List ℕ) (y : ℕ) → 1 ≤ idRound y → idRound y ≤ rounds → journalCount l < journalSize → Keeps OffJournal l (enter l y)
 unfolding enter
 keeps-entry l y a b h = keeps-trans OffJournal l _ _
     (keeps-set OffJournal l (orderedAt (idRound y)) _ (λ j k e. k .2 (idRound y) a b e))
     (keeps-trans OffJournal _ _ _
-    (keeps-set OffJournal _ (232 + journalCount l) y (λ j k e. k .1 (omega arith) (omega arith)))
-    (keeps-set OffJournal _ 4 _ (λ j k e. k .0 e)))
+    (keeps-set OffJournal _ (journalAt + journalCount l) y (λ j k e. k .1 (omega arith) (omega arith)))
+    (keeps-set OffJournal _ journalCountAt _ (λ j k e. k .0 e)))
 
 -- an append and an entry are list words
 pub leaders-lists : (l l′ : List ℕ) → Keeps OffLeaders l l′ → Keeps OffLists l l′

@@ -7,12 +7,13 @@ use Prim.Native.Nat.{ℕ, zero, suc, _+_, _≤_, _<_}
 use native.Mathlib.Nat.{eq-or-lt-of-le}
 use native.Mathlib.Omega.{arith}
 use Rattle.record.specs.Below.{count}
-use Rattle.record.specs.Members.{idRound}
+use Rattle.record.specs.Members.{idRound, idLimit, slots}
 use Rattle.record.proofs.Booleans.{which, and-left}
 use Rattle.record.proofs.Below.{count-cong}
 use Rattle.record.proofs.Rounds.{round-range}
-use Rattle.protocol.specs.Journal.{idLimit, among}
+use Rattle.protocol.specs.Journal.{among}
 use Rattle.protocol.proofs.Lists.{once-length}
+use Rattle.replica.specs.Layout.{journalSize}
 use Rattle.replica.specs.State.{journalList, orderedId}
 use Rattle.replica.proofs.Formed.{WellFormed, journal-length, ordered-limit}
 use Rattle.replica.proofs.Dags.{dag-well-formed, vertex-words}
@@ -57,8 +58,8 @@ count-from t low (suc k) f h = go (eq-or-lt-of-le h) (λ m. count-from t low k f
     go (inr m) ih = ⊎-elim (λ e. rw e (omega (arith, ih (omega arith)))) (λ e. rw e (omega (arith, ih (omega arith)))) (which (t k))
 
 -- no more than 512 ids are ever ordered
-pub room-limit : (l : List ℕ) → count idLimit (orderedId l) ≤ 512
-room-limit l = omega (arith, count-from (orderedId l) 16 idLimit (λ y k. ⊎-elim (λ e. absurd (low y k e)) (λ e. e) (which (orderedId l y))) (omega arith))
+pub room-limit : (l : List ℕ) → count idLimit (orderedId l) ≤ journalSize
+room-limit l = omega (arith, count-from (orderedId l) slots idLimit (λ y k. ⊎-elim (λ e. absurd (low y k e)) (λ e. e) (which (orderedId l y))) (omega arith))
   where
-    low : (y : ℕ) → y < 16 → orderedId l y ≡ true → ⊥
+    low : (y : ℕ) → y < slots → orderedId l y ≡ true → ⊥
     low y k e = omega (arith, round-range (idRound y) (and-left _ _ e) .0)

@@ -11,7 +11,7 @@ use lib.ListN.{length, getD, set, drop, length-append, length-drop, length-map}
 use lib.Seq.{lt-length-set, getD-set-same, getD-set-other, drop-set-lt, drop-set-add, take-suc-set}
 use borrow.Author.Tests.{eqb-true, eqb-false, eq-eqb, ne-eqb, not-true}
 use Rattle.record.specs.Below.{count, select}
-use Rattle.record.specs.Members.{legal, leader, has, add, idRound, idMember, isRound}
+use Rattle.record.specs.Members.{legal, leader, has, add, idRound, idMember, isRound, idLimit, rounds, votedRounds}
 use Rattle.record.proofs.Booleans.{which, never, and-left, and-right, or-cases, or-left, or-right, bool-ext}
 use Rattle.record.proofs.Below.{count-mono, count-cong, select-cong}
 use Rattle.record.proofs.Masks.{has-add, add-lt}
@@ -19,13 +19,14 @@ use Rattle.record.proofs.Rounds.{round-range, round-in}
 use Rattle.protocol.specs.Dag.{Records, held}
 use Rattle.protocol.specs.Paths.{history}
 use Rattle.protocol.specs.Chain.{leaderId}
-use Rattle.protocol.specs.Journal.{idLimit, among, fresh, extend}
+use Rattle.protocol.specs.Journal.{among, fresh, extend}
 use Rattle.protocol.specs.Premises.{ValidVertices}
 use Rattle.protocol.proofs.Lists.{or-false, or-assoc, among-none, among-append, among-one, among-select, once, once-select}
 use Rattle.protocol.proofs.History.{Named, named-up, history-held}
 use Rattle.protocol.proofs.Chain.{chain-held}
 use Rattle.protocol.proofs.Laws.{chain-length}
-use Rattle.replica.specs.Layout.{stateSize, orderedAt}
+use Rattle.replica.specs.Layout.{committedRoundAt}
+use Rattle.replica.specs.Layout.{stateSize, orderedAt, leadersAt, leadersSize, journalAt, journalSize, leaderCountAt, journalCountAt, memberCountAt}
 use Rattle.replica.specs.State.{memberCount, committedRound, leaderCount, journalCount, orderedMask, leaderWord, journalWord, leaderList, journalList}
 use Rattle.replica.specs.State.{vertices, firsts, orderedId}
 use Rattle.replica.proofs.Formed.{WellFormed, leader-length, journal-length, leaders-few}
@@ -63,7 +64,7 @@ pub record Appended (l xs l′ : List ℕ) : Type 0 where
   pub kept : Keeps OffLeaders l l′
   pub list : leaderList l′ ≡ leaderList l ++ xs
   pub count : leaderCount l′ ≡ leaderCount l + length xs
-  pub rest : (i : ℕ) → leaderCount l′ ≤ i → i < 32 → leaderWord l′ i ≡ leaderWord l i
+  pub rest : (i : ℕ) → leaderCount l′ ≤ i → i < leadersSize → leaderWord l′ i ≡ leaderWord l i
 
 -- nothing appended
 pub appended-none : (l : List ℕ) → Appended l [] l
@@ -79,34 +80,37 @@ appended-trans a b c xs ys p q = record {
 }
 
 -- one leader
-pub append-one : (l : List ℕ) (r : ℕ) → length l ≡ stateSize → leaderCount l < 32 → Appended l (leaderId (memberCount l) r ∷ []) (appendLeader l r)
+pub append-one : (l : List ℕ) (r : ℕ) → length l ≡ stateSize → leaderCount l < leadersSize → Appended l (leaderId (memberCount l) r ∷ []) (appendLeader l r)
 append-one l r size h = record { kept = keeps-leader l r h; list = grown; count = counted ∙ omega arith; rest = beyond }
   where
     counted : leaderCount (appendLeader l r) ≡ leaderCount l + 1
-    counted = unfold appendLeader in last-of-two l (200 + leaderCount l) (leaderId (memberCount l) r) 3 (leaderCount l + 1) (omega arith)
+    counted = unfold appendLeader in last-of-two l (leadersAt + leaderCount l) (leaderId (memberCount l) r) leaderCountAt (leaderCount l + 1) (omega arith)
 
-    words : drop 200 (appendLeader l r) ≡ set (drop 200 l) (leaderCount l) (leaderId (memberCount l) r)
+    words : drop leadersAt (appendLeader l r) ≡ set (drop leadersAt l) (leaderCount l) (leaderId (memberCount l) r)
     words = unfold appendLeader in
-        drop-set-lt 200 (set l (200 + leaderCount l) (leaderId (memberCount l) r)) 3 (leaderCount l + 1) (omega arith)
-        ∙ drop-set-add 200 l (leaderCount l) (leaderId (memberCount l) r)
+        drop-set-lt leadersAt (set l (leadersAt + leaderCount l) (leaderId (memberCount l) r)) leaderCountAt (leaderCount l + 1) (omega arith)
+        ∙ drop-set-add leadersAt l (leaderCount l) (leaderId (memberCount l) r)
 
     grown : leaderList (appendLeader l r) ≡ leaderList l ++ leaderId (memberCount l) r ∷ []
-    grown = rw (counted, words, add-one (leaderCount l)) (take-suc-set (drop 200 l) (leaderCount l) (leaderId (memberCount l) r) (rw length-drop (omega arith)))
+    grown = rw (counted, words, add-one (leaderCount l)) (take-suc-set (drop leadersAt l) (leaderCount l) (leaderId (memberCount l) r)
+        (rw length-drop (omega arith)))
 
-    beyond : (i : ℕ) → leaderCount (appendLeader l r) ≤ i → i < 32 → leaderWord (appendLeader l r) i ≡ leaderWord l i
+    beyond : (i : ℕ) → leaderCount (appendLeader l r) ≤ i → i < leadersSize → leaderWord (appendLeader l r) i ≡ leaderWord l i
     beyond i a b = other (rw counted at a)
       where
         other : leaderCount l + 1 ≤ i → leaderWord (appendLeader l r) i ≡ leaderWord l i
         other a = unfold appendLeader in
-            none-of-two l (200 + leaderCount l) (leaderId (memberCount l) r) 3 (leaderCount l + 1) (200 + i) (λ e. omega arith) (λ e. omega arith)
+            none-of-two l (leadersAt + leaderCount l) (leaderId (memberCount l) r) leaderCountAt (leaderCount l + 1) (leadersAt + i)
+            (λ e. omega arith) (λ e. omega arith)
 
 -- the leaders of these rounds
-pub append-all : (l rs : List ℕ) → length l ≡ stateSize → leaderCount l + length rs ≤ 32 → Appended l (map (leaderId (memberCount l)) rs) (appendLeaders l rs)
+pub append-all : (l rs : List ℕ) → length l ≡ stateSize → leaderCount l + length rs ≤ leadersSize
+    → Appended l (map (leaderId (memberCount l)) rs) (appendLeaders l rs)
 unfolding appendLeaders
 append-all l [] size h = appended-none l
 append-all l (r ∷ rs) size h =
     let a = append-one l r size (omega arith) in
-    let n : memberCount (appendLeader l r) ≡ memberCount l = a .kept .same 0 (λ e. omega arith, λ x y. omega arith) in
+    let n : memberCount (appendLeader l r) ≡ memberCount l = a .kept .same memberCountAt (λ e. omega arith, λ x y. omega arith) in
     let rest = append-all (appendLeader l r) rs (a .kept .size ∙ size) (omega (arith, a .count)) in
     appended-trans l (appendLeader l r) (appendLeaders (appendLeader l r) rs) (leaderId (memberCount l) r ∷ []) (map (leaderId (memberCount l)) rs) a
     (subst (λ (x : ℕ). Appended (appendLeader l r) (map (leaderId x) rs) (appendLeaders (appendLeader l r) rs)) n rest)
@@ -127,16 +131,18 @@ count-more s t y (suc k) f a b h = go (which (eqb y k)) (count-more s t y k f a 
     go (inl q) ih = rw (ap s (sym (eqb-true y k q)) ∙ a, ap t (sym (eqb-true y k q)) ∙ b) (omega (arith, count-mono k s t f))
     go (inr q) ih = omega (arith, ih (omega (arith, eqb-false y k q)), digit (s k) (t k) (f k))
 
-module _ (l : List ℕ) (y : ℕ) (size : length l ≡ stateSize) (low : 1 ≤ idRound y) (high : idRound y ≤ 32) where
+module _ (l : List ℕ) (y : ℕ) (size : length l ≡ stateSize) (low : 1 ≤ idRound y) (high : idRound y ≤ rounds) where
   -- the ordered masks afterwards
   mask-here : orderedMask (enter l y) (idRound y) ≡ add (orderedMask l (idRound y)) (idMember y)
   unfolding enter
-  mask-here = first-of-three l (orderedAt (idRound y)) (add (orderedMask l (idRound y)) (idMember y)) (232 + journalCount l) y 4 (journalCount l + 1)
+  mask-here = first-of-three l (orderedAt (idRound y)) (add (orderedMask l (idRound y)) (idMember y)) (journalAt + journalCount l) y journalCountAt
+      (journalCount l + 1)
       (omega arith) (λ e. omega arith) (λ e. omega arith)
 
-  mask-other : (r : ℕ) → 1 ≤ r → r ≤ 32 → (idRound y ≡ r → ⊥) → orderedMask (enter l y) r ≡ orderedMask l r
+  mask-other : (r : ℕ) → 1 ≤ r → r ≤ rounds → (idRound y ≡ r → ⊥) → orderedMask (enter l y) r ≡ orderedMask l r
   unfolding enter
-  mask-other r a b h = none-of-three l (orderedAt (idRound y)) (add (orderedMask l (idRound y)) (idMember y)) (232 + journalCount l) y 4 (journalCount l + 1)
+  mask-other r a b h = none-of-three l (orderedAt (idRound y)) (add (orderedMask l (idRound y)) (idMember y))
+      (journalAt + journalCount l) y journalCountAt (journalCount l + 1)
       (orderedAt r) (λ e. h (omega arith)) (λ e. omega arith) (λ e. omega arith)
 
   -- y is ordered besides
@@ -165,7 +171,8 @@ module _ (l : List ℕ) (y : ℕ) (size : length l ≡ stateSize) (low : 1 ≤ i
           ∙ sym (or-false (has (orderedMask l (idRound z)) (idMember z))))
 
   -- the ordered masks stay below a bound that is above y's member
-  pub enter-low : (k : ℕ) → idMember y < k → ((r : ℕ) → 1 ≤ r → r ≤ 32 → orderedMask l r < 2 ^ k) → (r : ℕ) → 1 ≤ r → r ≤ 32 → orderedMask (enter l y) r < 2 ^ k
+  pub enter-low : (k : ℕ) → idMember y < k → ((r : ℕ) → 1 ≤ r → r ≤ rounds → orderedMask l r < 2 ^ k) → (r : ℕ) → 1 ≤ r → r ≤ rounds
+      → orderedMask (enter l y) r < 2 ^ k
   enter-low k h f r a b = ⊎-elim
       (λ d. let q = eqb-true (idRound y) r d in rw (← q) (rw mask-here (add-lt k _ (idMember y) (f (idRound y) low high) h)))
       (λ d. rw (mask-other r a b (eqb-false (idRound y) r d)) (f r a b))
@@ -174,24 +181,27 @@ module _ (l : List ℕ) (y : ℕ) (size : length l ≡ stateSize) (low : 1 ≤ i
   -- one entry more
   pub enter-count : journalCount (enter l y) ≡ journalCount l + 1
   enter-count = unfold enter in
-      last-of-three l (orderedAt (idRound y)) (add (orderedMask l (idRound y)) (idMember y)) (232 + journalCount l) y 4 (journalCount l + 1) (omega arith)
+      last-of-three l (orderedAt (idRound y)) (add (orderedMask l (idRound y)) (idMember y)) (journalAt + journalCount l) y journalCountAt
+      (journalCount l + 1) (omega arith)
 
   -- y is the last entry, and the words beyond stay
-  pub enter-list : journalCount l < 512 → journalList (enter l y) ≡ journalList l ++ y ∷ []
-  enter-list fits = rw (enter-count, words, add-one (journalCount l)) (take-suc-set (drop 232 l) (journalCount l) y (rw length-drop (omega arith)))
+  pub enter-list : journalCount l < journalSize → journalList (enter l y) ≡ journalList l ++ y ∷ []
+  enter-list fits = rw (enter-count, words, add-one (journalCount l)) (take-suc-set (drop journalAt l) (journalCount l) y (rw length-drop (omega arith)))
     where
-      words : drop 232 (enter l y) ≡ set (drop 232 l) (journalCount l) y
+      words : drop journalAt (enter l y) ≡ set (drop journalAt l) (journalCount l) y
       words = unfold enter in
-          drop-set-lt 232 (set (set l (orderedAt (idRound y)) (add (orderedMask l (idRound y)) (idMember y))) (232 + journalCount l) y) 4
+          drop-set-lt journalAt (set (set l (orderedAt (idRound y)) (add (orderedMask l (idRound y)) (idMember y)))
+          (journalAt + journalCount l) y) journalCountAt
           (journalCount l + 1) (omega arith)
-          ∙ drop-set-add 232 (set l (orderedAt (idRound y)) (add (orderedMask l (idRound y)) (idMember y))) (journalCount l) y
-          ∙ ap (λ (xs : List ℕ). set xs (journalCount l) y) (drop-set-lt 232 l (orderedAt (idRound y)) (add (orderedMask l (idRound y)) (idMember y))
+          ∙ drop-set-add journalAt (set l (orderedAt (idRound y)) (add (orderedMask l (idRound y)) (idMember y))) (journalCount l) y
+          ∙ ap (λ (xs : List ℕ). set xs (journalCount l) y) (drop-set-lt journalAt l (orderedAt (idRound y)) (add (orderedMask l (idRound y)) (idMember y))
           (omega arith))
 
   enter-rest : (i : ℕ) → journalCount l + 1 ≤ i → journalWord (enter l y) i ≡ journalWord l i
   unfolding enter
   enter-rest i h =
-      none-of-three l (orderedAt (idRound y)) (add (orderedMask l (idRound y)) (idMember y)) (232 + journalCount l) y 4 (journalCount l + 1) (232 + i)
+      none-of-three l (orderedAt (idRound y)) (add (orderedMask l (idRound y)) (idMember y)) (journalAt + journalCount l) y journalCountAt
+      (journalCount l + 1) (journalAt + i)
       (λ e. omega arith) (λ e. omega arith) (λ e. omega arith)
 
   -- where y is not ordered yet, there is room for it, and room again afterwards
@@ -201,7 +211,7 @@ module _ (l : List ℕ) (y : ℕ) (size : length l ≡ stateSize) (low : 1 ≤ i
         (enter-ordered y ∙ or-right (orderedId l y) (eq-eqb y y refl)) (omega arith)
 
     -- the journal is not full
-    pub enter-fits : journalCount l < 512
+    pub enter-fits : journalCount l < journalSize
     enter-fits = omega (arith, R, more, room-limit (enter l y))
 
     -- and Room holds again
@@ -216,10 +226,10 @@ pub record Entered (l xs l′ : List ℕ) : Type 0 where
   pub room : Room l′
   pub list : journalList l′ ≡ journalList l ++ xs
   pub count : journalCount l′ ≡ journalCount l + length xs
-  pub rest : (i : ℕ) → journalCount l′ ≤ i → i < 512 → journalWord l′ i ≡ journalWord l i
+  pub rest : (i : ℕ) → journalCount l′ ≤ i → i < journalSize → journalWord l′ i ≡ journalWord l i
   pub ordered : (z : ℕ) → orderedId l′ z ≡ (orderedId l z || among xs z)
-  pub low : (k : ℕ) → ((y : ℕ) → among xs y ≡ true → idMember y < k) → ((r : ℕ) → 1 ≤ r → r ≤ 32 → orderedMask l r < 2 ^ k)
-      → (r : ℕ) → 1 ≤ r → r ≤ 32 → orderedMask l′ r < 2 ^ k
+  pub low : (k : ℕ) → ((y : ℕ) → among xs y ≡ true → idMember y < k) → ((r : ℕ) → 1 ≤ r → r ≤ rounds → orderedMask l r < 2 ^ k)
+      → (r : ℕ) → 1 ≤ r → r ≤ rounds → orderedMask l′ r < 2 ^ k
 
 -- nothing entered
 pub entered-none : (l : List ℕ) → Room l → Entered l [] l
@@ -247,7 +257,8 @@ entered-trans a b c xs ys p q = record {
 }
 
 -- one
-pub enter-one : (l : List ℕ) (y : ℕ) → length l ≡ stateSize → Room l → 1 ≤ idRound y → idRound y ≤ 32 → orderedId l y ≡ false → Entered l (y ∷ []) (enter l y)
+pub enter-one : (l : List ℕ) (y : ℕ) → length l ≡ stateSize → Room l → 1 ≤ idRound y → idRound y ≤ rounds → orderedId l y ≡ false
+    → Entered l (y ∷ []) (enter l y)
 enter-one l y size R a b new = record {
   kept = keeps-entry l y a b fits;
   room = enter-room l y size a b R new;
@@ -258,12 +269,12 @@ enter-one l y size R a b new = record {
   low = λ k f g. enter-low l y size a b k (f y (among-one y y ∙ eq-eqb y y refl)) g;
 }
   where
-    fits : journalCount l < 512
+    fits : journalCount l < journalSize
     fits = enter-fits l y size a b R new
 
 -- a list without repetition of ids that are not ordered yet
 pub enter-all : (l ys : List ℕ) → length l ≡ stateSize → Room l → once ys ≡ true
-    → ((y : ℕ) → among ys y ≡ true → (1 ≤ idRound y) × (idRound y ≤ 32) × (orderedId l y ≡ false)) → Entered l ys (enterAll l ys)
+    → ((y : ℕ) → among ys y ≡ true → (1 ≤ idRound y) × (idRound y ≤ rounds) × (orderedId l y ≡ false)) → Entered l ys (enterAll l ys)
 unfolding enterAll once among
 enter-all l [] size R p f = entered-none l R
 enter-all l (y ∷ ys) size R p f =
@@ -281,7 +292,7 @@ pub record Ordered (n : ℕ) (v : Records) (l rs l′ : List ℕ) : Type 0 where
   pub ids : List ℕ
   pub entered : Entered l ids l′
   pub extends : journalList l ++ ids ≡ extend n v (journalList l) rs
-  pub named : (y : ℕ) → among ids y ≡ true → Named n v 32 y
+  pub named : (y : ℕ) → among ids y ≡ true → Named n v rounds y
 
 -- the ordered ids are those of the journal
 abbrev pub Names : List ℕ → Type 0
@@ -299,12 +310,12 @@ module _ (n : ℕ) (v : Records) (g : legal n ≡ true) (W : ValidVertices n v) 
     pub new : List ℕ
     new = select idLimit (λ y. not (orderedId l y) && history n v r (leader n r) y)
 
-    new-among : (y : ℕ) → among new y ≡ true → (Named n v 32 y) × (orderedId l y ≡ false)
+    new-among : (y : ℕ) → among new y ≡ true → (Named n v rounds y) × (orderedId l y ≡ false)
     unfolding new
     new-among y d =
         let t : (not (orderedId l y) && history n v r (leader n r) y) ≡ true =
         and-right (ltb y idLimit) _ (sym (among-select idLimit (λ y. not (orderedId l y) && history n v r (leader n r) y) y) ∙ d) in (
-          named-up n v r 32 y (W .admitted r (leader n r) h .round-high) (history-held n v g W r (leader n r) y h (and-right (not (orderedId l y)) _ t)),
+          named-up n v r rounds y (W .admitted r (leader n r) h .round-high) (history-held n v g W r (leader n r) y h (and-right (not (orderedId l y)) _ t)),
           not-true (orderedId l y) (and-left _ _ t),
         )
 
@@ -327,7 +338,8 @@ module _ (n : ℕ) (v : Records) (g : legal n ≡ true) (W : ValidVertices n v) 
       let k = h r (or-left _ (eq-eqb r r refl)) in
       let one = order-one l r e size R k in
       let l₁ = orderLeader v l r in
-      let rest = order-all l₁ rs (one .kept .same 0 (λ d. omega arith, λ a b. omega arith, λ s a b d. omega arith) ∙ e) (one .kept .size ∙ size) (one .room)
+      let rest = order-all l₁ rs (one .kept .same memberCountAt (λ d. omega arith, λ a b. omega arith, λ s a b d. omega arith) ∙ e) (one .kept .size
+      ∙ size) (one .room)
       (entered-names l (new l r e size R k) l₁ N one) (λ s d. h s (or-right (eqb r s) d)) in
       record {
         ids = new l r e size R k ++ rest .ids;
@@ -346,22 +358,22 @@ pub record Committed (l : List ℕ) (q : ℕ) (l′ : List ℕ) : Type 0 where
   pub committed : committedRound l′ ≡ q
   pub leaders : leaderList l′ ≡ leaderList l ++ map (leaderId (memberCount l)) (taken l q)
   pub leader-count : leaderCount l′ ≡ leaderCount l + length (taken l q)
-  pub leader-rest : (i : ℕ) → leaderCount l′ ≤ i → i < 32 → leaderWord l′ i ≡ leaderWord l i
+  pub leader-rest : (i : ℕ) → leaderCount l′ ≤ i → i < leadersSize → leaderWord l′ i ≡ leaderWord l i
   pub ids : List ℕ
   pub journal : journalList l′ ≡ journalList l ++ ids
   pub extends : journalList l′ ≡ extend (memberCount l) (vertices l) (journalList l) (taken l q)
   pub journal-count : journalCount l′ ≡ journalCount l + length ids
-  pub journal-rest : (i : ℕ) → journalCount l′ ≤ i → i < 512 → journalWord l′ i ≡ journalWord l i
+  pub journal-rest : (i : ℕ) → journalCount l′ ≤ i → i < journalSize → journalWord l′ i ≡ journalWord l i
   pub ordered : (z : ℕ) → orderedId l′ z ≡ (orderedId l z || among ids z)
-  pub ordered-low : (r : ℕ) → 1 ≤ r → r ≤ 32 → orderedMask l′ r < 2 ^ memberCount l
-  pub named : (y : ℕ) → among ids y ≡ true → Named (memberCount l) (vertices l) 32 y
+  pub ordered-low : (r : ℕ) → 1 ≤ r → r ≤ rounds → orderedMask l′ r < 2 ^ memberCount l
+  pub named : (y : ℕ) → among ids y ≡ true → Named (memberCount l) (vertices l) rounds y
   pub room : Room l′
 
 -- off the leader list and the committed round
 abbrev OffLeading : ℕ → Type 0
-OffLeading j = (j ≡ 2 → ⊥) × OffLeaders j
+OffLeading j = (j ≡ committedRoundAt → ⊥) × OffLeaders j
 
-module _ (l : List ℕ) (S : WellFormed l) (q : ℕ) (above : committedRound l < q) (high : q ≤ 31)
+module _ (l : List ℕ) (S : WellFormed l) (q : ℕ) (above : committedRound l < q) (high : q ≤ votedRounds)
     (h : held (vertices l) q (leader (memberCount l) q) ≡ true) where
   -- the leader list has at most one entry a round
   pub leaders-fit : leaderCount l + length (taken l q) ≤ q
@@ -374,22 +386,22 @@ module _ (l : List ℕ) (S : WellFormed l) (q : ℕ) (above : committedRound l <
 
   second : List ℕ
   unfolding first
-  second = set first 2 q
+  second = set first committedRoundAt q
 
   appended : Appended l (map (leaderId (memberCount l)) (taken l q)) first
   unfolding first
   appended = append-all l (taken l q) (S .size) (omega (arith, leaders-fit))
 
-  first-few : leaderCount first ≤ 32
+  first-few : leaderCount first ≤ leadersSize
   first-few = rw (appended .count) (rw (length-map (taken l q) (leaderId (memberCount l))) (omega (arith, leaders-fit)))
 
-  set-two : Keeps (λ j. j ≡ 2 → ⊥) first second
+  set-two : Keeps (λ j. j ≡ committedRoundAt → ⊥) first second
   unfolding second
-  set-two = keeps-set (λ j. j ≡ 2 → ⊥) first 2 q (λ j k e. k e)
+  set-two = keeps-set (λ j. j ≡ committedRoundAt → ⊥) first committedRoundAt q (λ j k e. k e)
 
   leading : Keeps OffLeading l second
   leading = keeps-trans OffLeading l first second (keeps-less OffLeaders OffLeading l first (λ j k. k .1) (appended .kept))
-      (keeps-less (λ j. j ≡ 2 → ⊥) OffLeading first second (λ j k. k .0) set-two)
+      (keeps-less (λ j. j ≡ committedRoundAt → ⊥) OffLeading first second (λ j k. k .0) set-two)
 
   second-journal : journalList second ≡ journalList l
   second-journal = journal-list-kept OffLeading l second leading (λ r a b. (λ e. omega arith, (λ e. omega arith, λ c d. omega arith)))
@@ -402,12 +414,12 @@ module _ (l : List ℕ) (S : WellFormed l) (q : ℕ) (above : committedRound l <
   second-word = leading .same
 
   second-count : journalCount second ≡ journalCount l
-  second-count = second-word 4 (λ e. omega arith, (λ e. omega arith, λ c d. omega arith))
+  second-count = second-word journalCountAt (λ e. omega arith, (λ e. omega arith, λ c d. omega arith))
 
   second-room : Room second
   second-room = rw (second-count, count-cong idLimit (orderedId second) (orderedId l) (λ y k. second-ordered y)) (room l S)
 
-  second-ordered-mask : (r : ℕ) → 1 ≤ r → r ≤ 32 → orderedMask second r ≡ orderedMask l r
+  second-ordered-mask : (r : ℕ) → 1 ≤ r → r ≤ rounds → orderedMask second r ≡ orderedMask l r
   second-ordered-mask r a b = second-word (orderedAt r) (λ e. omega arith, (λ e. omega arith, λ c d. omega arith))
 
   -- then the histories
@@ -422,27 +434,27 @@ module _ (l : List ℕ) (S : WellFormed l) (q : ℕ) (above : committedRound l <
   after = histories .entered
 
   second-count-led : leaderCount second ≡ leaderCount first
-  second-count-led = set-two .same 3 (λ e. omega arith)
+  second-count-led = set-two .same leaderCountAt (λ e. omega arith)
 
   leader-list-after : leaderList (commit l q) ≡ leaderList l ++ map (leaderId (memberCount l)) (taken l q)
   leader-list-after =
       leader-list-kept OffJournal second (commit l q) (after .kept) (λ e. omega arith, λ c d. omega arith, λ r a b e. omega arith)
       (λ j a b. (λ e. omega arith, λ c d. omega arith, λ r c d e. omega arith)) (rw second-count-led first-few)
-      ∙ leader-list-kept (λ j. j ≡ 2 → ⊥) first second set-two (λ e. omega arith) (λ j a b e. omega arith) first-few
+      ∙ leader-list-kept (λ j. j ≡ committedRoundAt → ⊥) first second set-two (λ e. omega arith) (λ j a b e. omega arith) first-few
       ∙ appended .list
 
   count-after : leaderCount (commit l q) ≡ leaderCount first
-  count-after = after .kept .same 3 (λ e. omega arith, λ c d. omega arith, λ r a b e. omega arith) ∙ second-count-led
+  count-after = after .kept .same leaderCountAt (λ e. omega arith, λ c d. omega arith, λ r a b e. omega arith) ∙ second-count-led
 
-  leader-word-after : (i : ℕ) → i < 32 → leaderWord (commit l q) i ≡ leaderWord first i
+  leader-word-after : (i : ℕ) → i < leadersSize → leaderWord (commit l q) i ≡ leaderWord first i
   leader-word-after i k =
-      after .kept .same (200 + i) (λ e. omega arith, λ c d. omega arith, λ r a b e. omega arith) ∙ set-two .same (200 + i) (λ e. omega arith)
+      after .kept .same (leadersAt + i) (λ e. omega arith, λ c d. omega arith, λ r a b e. omega arith) ∙ set-two .same (leadersAt + i) (λ e. omega arith)
 
   committed-after : committedRound (commit l q) ≡ q
-  committed-after = after .kept .same 2 (λ e. omega arith, λ c d. omega arith, λ r a b e. omega arith) ∙ at-two
+  committed-after = after .kept .same committedRoundAt (λ e. omega arith, λ c d. omega arith, λ r a b e. omega arith) ∙ at-two
     where
       at-two : committedRound second ≡ q
-      at-two = unfold second in getD-set-same first 2 q 0 (rw (appended .kept .size) (omega (arith, S .size)))
+      at-two = unfold second in getD-set-same first committedRoundAt q 0 (rw (appended .kept .size) (omega (arith, S .size)))
 
   -- What a commit does.
   pub grown : Committed l q (commit l q)
@@ -457,7 +469,7 @@ module _ (l : List ℕ) (S : WellFormed l) (q : ℕ) (above : committedRound l <
     journal = after .list ∙ ap (λ (j : List ℕ). j ++ histories .ids) second-journal;
     extends = after .list ∙ histories .extends ∙ ap (λ (j : List ℕ). extend (memberCount l) (vertices l) j (taken l q)) second-journal;
     journal-count = after .count ∙ ap (λ (x : ℕ). x + length (histories .ids)) second-count;
-    journal-rest = λ i a b. after .rest i a b ∙ second-word (232 + i) (λ e. omega arith, (λ e. omega arith, λ c d. omega arith));
+    journal-rest = λ i a b. after .rest i a b ∙ second-word (journalAt + i) (λ e. omega arith, (λ e. omega arith, λ c d. omega arith));
     ordered = λ z. after .ordered z ∙ ap (λ (b : Bool). b || among (histories .ids) z) (second-ordered z);
     ordered-low = after .low (memberCount l) (λ y e. histories .named y e .member) (λ r a b. rw (second-ordered-mask r a b) (S .journal .ordered-low r a b));
     named = histories .named;
@@ -507,11 +519,11 @@ module _ (l : List ℕ) (S : WellFormed l) (q : ℕ) (above : committedRound l <
 -- ---- Standing, and room, are kept
 
 -- by a leader appended
-pub standing-append : (l : List ℕ) (r : ℕ) → leaderCount l < 32 → Standing l → Standing (appendLeader l r)
+pub standing-append : (l : List ℕ) (r : ℕ) → leaderCount l < leadersSize → Standing l → Standing (appendLeader l r)
 standing-append l r h T = lists-standing l (appendLeader l r) (leaders-lists l (appendLeader l r) (keeps-leader l r h)) T
 
 -- by several
-pub standing-append-all : (l rs : List ℕ) → leaderCount l + length rs ≤ 32 → Standing l → Standing (appendLeaders l rs)
+pub standing-append-all : (l rs : List ℕ) → leaderCount l + length rs ≤ leadersSize → Standing l → Standing (appendLeaders l rs)
 standing-append-all l rs h T = lists-standing l (appendLeaders l rs) (leaders-lists l (appendLeaders l rs) (append-all l rs (T .size) h .kept)) T
 
 -- by entries
@@ -519,13 +531,13 @@ entered-standing : (l xs l′ : List ℕ) → Entered l xs l′ → Standing l �
 entered-standing l xs l′ E T = lists-standing l l′ (journal-lists l l′ (E .kept)) T
 
 -- by an id that is not ordered yet
-pub standing-enter : (l : List ℕ) (y : ℕ) → Standing l → Room l → 1 ≤ idRound y → idRound y ≤ 32 → orderedId l y ≡ false → Standing (enter l y)
+pub standing-enter : (l : List ℕ) (y : ℕ) → Standing l → Room l → 1 ≤ idRound y → idRound y ≤ rounds → orderedId l y ≡ false → Standing (enter l y)
     × Room (enter l y)
 standing-enter l y T R a b new = let E = enter-one l y (T .size) R a b new in (entered-standing l (y ∷ []) (enter l y) E T, E .room)
 
 -- by several
 pub standing-enter-all : (l ys : List ℕ) → Standing l → Room l → once ys ≡ true
-    → ((y : ℕ) → among ys y ≡ true → (1 ≤ idRound y) × (idRound y ≤ 32) × (orderedId l y ≡ false)) → Standing (enterAll l ys) × Room (enterAll l ys)
+    → ((y : ℕ) → among ys y ≡ true → (1 ≤ idRound y) × (idRound y ≤ rounds) × (orderedId l y ≡ false)) → Standing (enterAll l ys) × Room (enterAll l ys)
 standing-enter-all l ys T R p f = let E = enter-all l ys (T .size) R p f in (entered-standing l ys (enterAll l ys) E T, E .room)
 
 module _ (n : ℕ) (v : Records) (g : legal n ≡ true) (W : ValidVertices n v) where
@@ -534,7 +546,7 @@ module _ (n : ℕ) (v : Records) (g : legal n ≡ true) (W : ValidVertices n v) 
       → Standing (orderLeader v l r) × Room (orderLeader v l r) × (memberCount (orderLeader v l r) ≡ n)
   standing-order l r e T R h =
       let E = order-one n v g W l r e (T .size) R h in
-      (entered-standing l _ (orderLeader v l r) E T, E .room, E .kept .same 0 (λ d. omega arith, λ a b. omega arith, λ s a b d. omega arith) ∙ e)
+      (entered-standing l _ (orderLeader v l r) E T, E .room, E .kept .same memberCountAt (λ d. omega arith, λ a b. omega arith, λ s a b d. omega arith) ∙ e)
 
   -- by those of several leaders
   pub standing-order-all : (l rs : List ℕ) → memberCount l ≡ n → Standing l → Room l → ((r : ℕ) → among rs r ≡ true → held v r (leader n r) ≡ true)

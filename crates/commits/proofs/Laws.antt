@@ -9,13 +9,14 @@ use native.Mathlib.Omega.{arith}
 use lib.ListN.{getD, set, length, replicate}
 use lib.Bits.{bitOr}
 use borrow.Author.Tests.{lt-ltb, le-ltb}
-use Rattle.record.specs.Members.{leader, has, meets, idRound, idMember}
-use Rattle.record.specs.Layout.{strongOf, weakCountOf, weakOf}
+use Rattle.record.specs.Members.{rounds, slots, leader, has, meets, idOf, idRound, idMember, idLimit}
+use Rattle.record.specs.Layout.{strongOf, weakCountOf, weakOf, weakSlots, weakPlace, weakCountPlace, strongPlace}
 use Rattle.record.proofs.Booleans.{and-fails-left, and-both, or-left, cond-true, cond-false}
 use Rattle.protocol.specs.Dag.{Records}
 use Rattle.protocol.specs.Masks.{parents, join, joinWeak, joinParents, joinRound, fill, historyMasks}
-use Rattle.replica.specs.Layout.{cellAt}
+use Rattle.replica.specs.Layout.{cellAt, currentRoundAt}
 use Rattle.replica.specs.State.{memberCount, currentRound, heldMask, timeoutsMask, vertices}
+use Rattle.replica.proofs.Words.{id-round, id-member}
 use Rattle.commits.specs.Commit.{passable, highestPassable, raiseRound}
 use Rattle.commits.specs.Standing.{Standing}
 use Rattle.protocol.proofs.Paths.{weak-present}
@@ -50,11 +51,11 @@ unfolding highestPassable
 highest-below l zero h e = absurd (not-suc-le-zero h)
 highest-below l (suc r) h e = rw (sub-one (suc r), e)
 
-pub raised : (l : List ℕ) (q : ℕ) → q ≡ highestPassable l 32 → currentRound l < 1 + q → set l 1 (1 + q) ≡ raiseRound l
+pub raised : (l : List ℕ) (q : ℕ) → q ≡ highestPassable l rounds → currentRound l < 1 + q → set l currentRoundAt (1 + q) ≡ raiseRound l
 unfolding raiseRound
 raised l q e h = rw (← e, lt-ltb _ _ h)
 
-pub not-raised : (l : List ℕ) (q : ℕ) → q ≡ highestPassable l 32 → 1 + q ≤ currentRound l → l ≡ raiseRound l
+pub not-raised : (l : List ℕ) (q : ℕ) → q ≡ highestPassable l rounds → 1 + q ≤ currentRound l → l ≡ raiseRound l
 unfolding raiseRound
 not-raised l q e h = rw (← e, le-ltb _ _ h)
 
@@ -62,19 +63,19 @@ not-raised l q e h = rw (← e, le-ltb _ _ h)
 
 -- a weak id in use: an id of rounds 1 to 32
 pub record WeakWord (l : List ℕ) (r p at i : ℕ) : Type 0 where
-  pub is : getD l (at + (5 + i)) 0 ≡ weakOf (vertices l r p) i
-  pub slot : i < 5
-  pub inside : at + (5 + i) < length l
-  pub low : 16 ≤ getD l (at + (5 + i)) 0
-  pub high : getD l (at + (5 + i)) 0 < 528
+  pub is : getD l (at + (weakPlace + i)) 0 ≡ weakOf (vertices l r p) i
+  pub slot : i < weakSlots
+  pub inside : at + (weakPlace + i) < length l
+  pub low : slots ≤ getD l (at + (weakPlace + i)) 0
+  pub high : getD l (at + (weakPlace + i)) 0 < idLimit
 
 -- what the code may use of the cell
 pub record Cell (l : List ℕ) (r p at : ℕ) : Type 0 where
-  pub strong : getD l (at + 0) 0 ≡ strongOf (vertices l r p)
-  pub weak-count : getD l (at + 4) 0 ≡ weakCountOf (vertices l r p)
-  pub weak : (i : ℕ) → i < getD l (at + 4) 0 → WeakWord l r p at i
+  pub strong : getD l (at + strongPlace) 0 ≡ strongOf (vertices l r p)
+  pub weak-count : getD l (at + weakCountPlace) 0 ≡ weakCountOf (vertices l r p)
+  pub weak : (i : ℕ) → i < getD l (at + weakCountPlace) 0 → WeakWord l r p at i
 
-pub cell-known : (l : List ℕ) → Standing l → (r p at : ℕ) → 1 ≤ r → r ≤ 32 → p < 16 → at ≡ cellAt r p → Cell l r p at
+pub cell-known : (l : List ℕ) → Standing l → (r p at : ℕ) → 1 ≤ r → r ≤ rounds → p < slots → at ≡ cellAt r p → Cell l r p at
 unfolding strongOf weakCountOf weakOf
 cell-known l S r p at low high few e = rw e (record {
   strong = sym (S .words r p 0 low high few (omega arith));
@@ -82,8 +83,8 @@ cell-known l S r p at low high few e = rw e (record {
   weak = λ i h.
       let k : i < weakCountOf (vertices l r p) = omega (arith, count-word) in
       let a = S .valid .admitted r p (weak-present (vertices l r p) i k) in
-      let five : i < 5 = omega (arith, a .weak-few, S .high) in
-      let word = sym (S .words r p (5 + i) low high few (omega arith)) in
+      let five : i < weakSlots = omega (arith, a .weak-few, S .high) in
+      let word = sym (S .words r p (weakPlace + i) low high few (omega arith)) in
       record {
         is = word;
         slot = five;
@@ -93,8 +94,8 @@ cell-known l S r p at low high few e = rw e (record {
       };
 })
   where
-    count-word : getD l (cellAt r p + 4) 0 ≡ weakCountOf (vertices l r p)
-    count-word = sym (S .words r p 4 low high few (omega arith))
+    count-word : getD l (cellAt r p + weakCountPlace) 0 ≡ weakCountOf (vertices l r p)
+    count-word = sym (S .words r p weakCountPlace low high few (omega arith))
 
 -- ---- a union of strong masks, a member at a time
 
@@ -102,7 +103,7 @@ pub parents-none : (v : Records) (r m : ℕ) → 0 ≡ parents v r m 0
 unfolding parents
 parents-none v r m = refl
 
-pub parents-in : (l : List ℕ) (r m p at j o : ℕ) → Cell l r p at → j ≡ parents (vertices l) r m p → has m p ≡ true → o ≡ bitOr j (getD l (at + 0) 0)
+pub parents-in : (l : List ℕ) (r m p at j o : ℕ) → Cell l r p at → j ≡ parents (vertices l) r m p → has m p ≡ true → o ≡ bitOr j (getD l (at + strongPlace) 0)
     → o ≡ parents (vertices l) r m (p + 1)
 unfolding parents
 parents-in l r m p at j o C e h d = rw (add-one p, h) (rw (e, C .strong) at d)
@@ -149,7 +150,7 @@ pub join-strong : (v : Records) (h : List ℕ) (r p k s : ℕ) → k ≡ r - 1 -
 unfolding joinParents join
 join-strong v h r p k s e d = rw (e, d)
 
-pub history-start : (n : ℕ) (v : Records) (r p k m : ℕ) → k ≡ r - 1 → m ≡ 2 ^ p
-    → historyMasks n v r p ≡ fill n v (set (replicate 32 0) k (bitOr (getD (replicate 32 0) k 0) m)) (r - 1)
-unfolding historyMasks join
-history-start n v r p k m e d = rw (e, d)
+pub history-start : (n : ℕ) (v : Records) (r p : ℕ) (masks : List ℕ) → p < slots
+    → masks ≡ join (replicate rounds 0) (idRound (idOf r p)) (2 ^ idMember (idOf r p)) → historyMasks n v r p ≡ fill n v masks (r - 1)
+unfolding historyMasks
+history-start n v r p masks few e = rw (e, id-round r p few, id-member r p few)

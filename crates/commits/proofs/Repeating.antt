@@ -11,13 +11,14 @@ use lib.ListN.{set}
 use lib.Seq.{getD-set-same, getD-set-other}
 use borrow.Author.Tests.{lt-ltb, le-ltb, ltb-true, ltb-false, leb-true}
 use lib.Dec.{ltb, leb}
-use Rattle.record.specs.Members.{leader}
+use Rattle.record.specs.Members.{leader, rounds, votedRounds}
 use Rattle.record.proofs.Booleans.{which, never, and-left, and-right}
 use Rattle.record.proofs.Below.{least-sat}
 use Rattle.protocol.specs.Dag.{held}
 use Rattle.protocol.proofs.Commit.{committed-held}
 use Rattle.protocol.proofs.Chain.{chain-held}
 use Rattle.protocol.proofs.Laws.{chain-length}
+use Rattle.replica.specs.Layout.{leaderCountAt, committedRoundAt}
 use Rattle.replica.specs.State.{memberCount, committedRound, leaderCount, vertices, dag}
 use Rattle.commits.specs.Commit.{appendLeaders, taken, commit, committable, lowest, commitUpTo}
 use Rattle.commits.specs.Standing.{Standing, Room, Going}
@@ -28,7 +29,7 @@ use Rattle.commits.proofs.Committing.{Quiet, quiet-leaders, quiet-head,
 -- a committable round
 pub record Committable (l : List ℕ) (q : ℕ) : Type 0 where
   pub low : committedRound l < q
-  pub high : q ≤ 31
+  pub high : q ≤ votedRounds
   pub there : held (vertices l) q (leader (memberCount l) q) ≡ true
 
 pub committable-is : (l : List ℕ) (q : ℕ) → committable l q ≡ true → Committable l q
@@ -37,23 +38,24 @@ committable-is l q e =
     let rest = and-right (ltb (committedRound l) q) _ e in
     record {
       low = ltb-true _ _ (and-left (ltb (committedRound l) q) _ e);
-      high = leb-true q 31 (and-left (leb q 31) _ rest);
-      there = committed-held (memberCount l) (dag l) q (and-right (leb q 31) _ rest);
+      high = leb-true q votedRounds (and-left (leb q votedRounds) _ rest);
+      there = committed-held (memberCount l) (dag l) q (and-right (leb q votedRounds) _ rest);
     }
 
 module _ (l : List ℕ) (G : Going l) (q : ℕ) (c : Committable l q) where
-  led : Quiet l (set (appendLeaders l (taken l q)) 2 q) × (leaderCount (appendLeaders l (taken l q)) ≤ q)
+  led : Quiet l (set (appendLeaders l (taken l q)) committedRoundAt q) × (leaderCount (appendLeaders l (taken l q)) ≤ q)
   led =
       let size = chain-length (memberCount l) (vertices l) (committedRound l) q (omega (arith, c .low)) in
       let w = quiet-leaders (taken l q) l (G .standing .size) (omega (arith, G .few, c .high)) in
-      (quiet-then (w .0) (quiet-head (appendLeaders l (taken l q)) 2 q (omega arith) (omega arith)), omega (arith, w .1, G .few))
+      (quiet-then (w .0) (quiet-head (appendLeaders l (taken l q)) committedRoundAt q (omega arith) (omega arith)), omega (arith, w .1, G .few))
 
   -- what stays alike over the whole commit
   pub commit-alike : Alike l (commit l q) × Room (commit l q)
   unfolding commit
   commit-alike =
       let Q = led .0 in
-      let w = ordered-kept (taken l q) (set (appendLeaders l (taken l q)) 2 q) (vertices l) (sym (vertices-same (Q .alike))) (standing-kept (Q .alike)
+      let w = ordered-kept (taken l q) (set (appendLeaders l (taken l q)) committedRoundAt q) (vertices l) (sym (vertices-same (Q .alike)))
+      (standing-kept (Q .alike)
       (G .standing))
       (quiet-room Q (G .room))
       (λ r m. rw (vertices-same (Q .alike), Q .alike .members) (chain-held (memberCount l) (vertices l) (committedRound l) q r (c .there) m))
@@ -66,8 +68,8 @@ module _ (l : List ℕ) (G : Going l) (q : ℕ) (c : Committable l q) where
   commit-round =
       let w = quiet-leaders (taken l q) l (G .standing .size)
       (omega (arith, G .few, c .high, chain-length (memberCount l) (vertices l) (committedRound l) q (omega (arith, c .low)))) in
-      order-head (vertices l) (taken l q) (set (appendLeaders l (taken l q)) 2 q) 2 (omega arith)
-      ∙ getD-set-same (appendLeaders l (taken l q)) 2 q 0 (omega (arith, w .0 .alike .size, G .standing .size))
+      order-head (vertices l) (taken l q) (set (appendLeaders l (taken l q)) committedRoundAt q) committedRoundAt (omega arith)
+      ∙ getD-set-same (appendLeaders l (taken l q)) committedRoundAt q 0 (omega (arith, w .0 .alike .size, G .standing .size))
 
   commit-leaders : leaderCount (commit l q) ≤ q
   unfolding commit
@@ -75,8 +77,8 @@ module _ (l : List ℕ) (G : Going l) (q : ℕ) (c : Committable l q) where
       omega (
         arith,
         led .1,
-        order-head (vertices l) (taken l q) (set (appendLeaders l (taken l q)) 2 q) 3 (omega arith),
-        getD-set-other (appendLeaders l (taken l q)) 2 3 q 0 (λ e. omega arith),
+        order-head (vertices l) (taken l q) (set (appendLeaders l (taken l q)) committedRoundAt q) leaderCountAt (omega arith),
+        getD-set-other (appendLeaders l (taken l q)) committedRoundAt leaderCountAt q 0 (λ e. omega arith),
       )
 
   pub going-on : Going (commit l q)
@@ -88,15 +90,15 @@ module _ (l : List ℕ) (G : Going l) (q : ℕ) (c : Committable l q) where
   }
 
 -- the lowest committable round of a state, if it is below 32
-lowest-is : (l : List ℕ) → lowest l < 32 → Committable l (lowest l)
-lowest-is l h = committable-is l (lowest l) (least-sat 32 (committable l) h)
+lowest-is : (l : List ℕ) → lowest l < rounds → Committable l (lowest l)
+lowest-is l h = committable-is l (lowest l) (least-sat rounds (committable l) h)
 
 -- after a commit of round q the lowest committable round is higher
-lowest-rises : (l : List ℕ) (q : ℕ) → q < 32 → committedRound l ≡ q → q < lowest l
+lowest-rises : (l : List ℕ) (q : ℕ) → q < rounds → committedRound l ≡ q → q < lowest l
 lowest-rises l q h e = ⊎-elim (λ k. k) (λ k. absurd (no k)) (lt-or-le q (lowest l))
   where
     no : lowest l ≤ q → ⊥
-    no k = never (least-sat 32 (committable l) (omega arith)) (committable-low l (lowest l) (omega arith))
+    no k = never (least-sat rounds (committable l) (omega arith)) (committable-low l (lowest l) (omega arith))
 
     lt-or-le : (a b : ℕ) → (a < b) ⊎ (b ≤ a)
     lt-or-le a b = ⊎-elim (λ t. inl (ltb-true a b t)) (λ t. inr (ltb-false a b t)) (which (ltb a b))
@@ -108,23 +110,23 @@ pub record Onward (l₀ l : List ℕ) : Type 0 where
   pub going : Going l
   pub alike : Alike l₀ l
   pub left : ℕ
-  pub enough : 31 ≤ left + committedRound l
-  pub is : commitUpTo l₀ 31 ≡ commitUpTo l left
+  pub enough : votedRounds ≤ left + committedRound l
+  pub is : commitUpTo l₀ votedRounds ≡ commitUpTo l left
 
 pub onward-start : (l : List ℕ) → Going l → Onward l l
-onward-start l G = record { going = G; alike = alike-self l; left = 31; enough = omega arith; is = refl }
+onward-start l G = record { going = G; alike = alike-self l; left = votedRounds; enough = omega arith; is = refl }
 
-commit-next : (l : List ℕ) (k : ℕ) → lowest l < 32 → 0 < k → commitUpTo l k ≡ commitUpTo (commit l (lowest l)) (k - 1)
+commit-next : (l : List ℕ) (k : ℕ) → lowest l < rounds → 0 < k → commitUpTo l k ≡ commitUpTo (commit l (lowest l)) (k - 1)
 unfolding commitUpTo
 commit-next l zero h p = absurd (not-suc-le-zero p)
-commit-next l (suc k) h p = rw (lt-ltb (lowest l) 32 h, sub-one (suc k))
+commit-next l (suc k) h p = rw (lt-ltb (lowest l) rounds h, sub-one (suc k))
 
-commit-over : (l : List ℕ) (k : ℕ) → 32 ≤ lowest l → commitUpTo l k ≡ l
+commit-over : (l : List ℕ) (k : ℕ) → rounds ≤ lowest l → commitUpTo l k ≡ l
 unfolding commitUpTo
 commit-over l zero h = refl
-commit-over l (suc k) h = rw (le-ltb (lowest l) 32 h)
+commit-over l (suc k) h = rw (le-ltb (lowest l) rounds h)
 
-onward-next : (l₀ l m : List ℕ) (q : ℕ) → Onward l₀ l → q ≡ lowest l → q < 32 → m ≡ commit l q → Onward l₀ m
+onward-next : (l₀ l m : List ℕ) (q : ℕ) → Onward l₀ l → q ≡ lowest l → q < rounds → m ≡ commit l q → Onward l₀ m
 onward-next l₀ l m q o e h d =
     let c : Committable l q = rw e (lowest-is l (omega arith)) in
     rw d (record {
@@ -136,7 +138,7 @@ onward-next l₀ l m q o e h d =
           ∙ ap (λ (x : ℕ). commitUpTo (commit l x) (o .left - 1)) (sym e);
     })
 
-pub onward-end : (l₀ l : List ℕ) → Onward l₀ l → 32 ≤ lowest l → l ≡ commitUpTo l₀ 31
+pub onward-end : (l₀ l : List ℕ) → Onward l₀ l → rounds ≤ lowest l → l ≡ commitUpTo l₀ votedRounds
 onward-end l₀ l o h = sym (o .is ∙ commit-over l (o .left) h)
 
 -- what the code may use of the state after the commit of round q
@@ -150,11 +152,11 @@ pub record Soon (n : ℕ) (l₀ : List ℕ) (q : ℕ) (l : List ℕ) : Type 0 wh
   pub going : Going l
   pub members : n ≡ memberCount l
   pub low : committedRound l < q
-  pub high : q ≤ 31
+  pub high : q ≤ votedRounds
   pub there : held (vertices l) q (leader n q) ≡ true
   pub next : (m : List ℕ) → m ≡ commit l q → Later n l₀ q m
 
-pub soon : (n : ℕ) (l₀ : List ℕ) (q : ℕ) (l : List ℕ) → n ≡ memberCount l₀ → Onward l₀ l → q ≡ lowest l → q < 32 → Soon n l₀ q l
+pub soon : (n : ℕ) (l₀ : List ℕ) (q : ℕ) (l : List ℕ) → n ≡ memberCount l₀ → Onward l₀ l → q ≡ lowest l → q < rounds → Soon n l₀ q l
 soon n l₀ q l f o e h =
     let c : Committable l q = rw e (lowest-is l (omega arith)) in
     let same : n ≡ memberCount l = f ∙ sym (o .alike .members) in

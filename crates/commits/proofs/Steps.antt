@@ -12,9 +12,9 @@ use lib.ListN.{getD, set, take, drop, length, length-append, length-set, length-
 use lib.Seq.{getD-set-same, getD-set-other}
 use borrow.Author.Tests.{lt-ltb, le-ltb, le-leb, eq-eqb}
 use Rattle.record.specs.Below.{count, select}
-use Rattle.record.specs.Members.{quorum, leader, has, add, with, meets, idOf, idMember, isRound}
+use Rattle.record.specs.Members.{quorum, leader, has, add, with, meets, idOf, idMember, isRound, rounds, slots, votedRounds, idLimit}
 use Rattle.record.specs.declared.members.Members.{Members}
-use Rattle.record.specs.Layout.{strongOf}
+use Rattle.record.specs.Layout.{strongOf, bodySize, strongPlace}
 use Rattle.record.proofs.Booleans.{which, never, and-both, and-fails-left, and-fails-right, or-right, cond-true, cond-false}
 use Rattle.record.proofs.Below.{count-cong, count-le, count-more, count-same}
 use Rattle.record.proofs.Below as below
@@ -24,7 +24,7 @@ use Rattle.protocol.specs.Masks.{voters}
 use Rattle.protocol.specs.Chain.{leaderId}
 use Rattle.protocol.proofs.Voters.{voters-in, voters-out, voters-claim}
 use Rattle.protocol.proofs.History.{id-round, id-member}
-use Rattle.replica.specs.Layout.{cellAt}
+use Rattle.replica.specs.Layout.{cellAt, stateSize, leadersAt, leadersSize, journalSize, leaderCountAt, memberCountAt}
 use Rattle.replica.specs.State.{memberCount, committedRound, leaderCount, journalCount, heldMask, heardMask, votesMask, orderedMask, cell, vertices}
 use Rattle.replica.specs.State.{firsts, dag, orderedId}
 use Rattle.replica.specs.WellFormed.{subset}
@@ -38,7 +38,7 @@ use Rattle.commits.proofs.Laws.{Cell}
 cell-present : (l : List ℕ) (r p : ℕ) → cellAt r p < length l → present (cell l r p) ≡ true
 cell-present l r p h = go (drop (cellAt r p) l) (omega (arith, length-drop (cellAt r p) l))
   where
-    go : (xs : List ℕ) → 0 < length xs → present (take 10 xs) ≡ true
+    go : (xs : List ℕ) → 0 < length xs → present (take bodySize xs) ≡ true
     go [] k = absurd (omega arith)
     go (x ∷ xs) k = refl
 
@@ -84,23 +84,23 @@ append-size l r = simp length-set
 pub append-members : (l : List ℕ) (r : ℕ) → memberCount (appendLeader l r) ≡ memberCount l
 unfolding appendLeader
 append-members l r =
-    getD-set-other (set l (200 + leaderCount l) (leaderId (memberCount l) r)) 3 0 (leaderCount l + 1) 0 (λ e. omega arith)
-    ∙ getD-set-other l (200 + leaderCount l) 0 (leaderId (memberCount l) r) 0 (λ e. omega arith)
+    getD-set-other (set l (leadersAt + leaderCount l) (leaderId (memberCount l) r)) leaderCountAt memberCountAt (leaderCount l + 1) 0 (λ e. omega arith)
+    ∙ getD-set-other l (leadersAt + leaderCount l) memberCountAt (leaderId (memberCount l) r) 0 (λ e. omega arith)
 
-pub append-count : (l : List ℕ) (r : ℕ) → length l ≡ 5864 → leaderCount (appendLeader l r) ≡ leaderCount l + 1
+pub append-count : (l : List ℕ) (r : ℕ) → length l ≡ stateSize → leaderCount (appendLeader l r) ≡ leaderCount l + 1
 unfolding appendLeader
 append-count l r e =
-    getD-set-same (set l (200 + leaderCount l) (leaderId (memberCount l) r)) 3 (leaderCount l + 1) 0
-    (omega (arith, length-set l (200 + leaderCount l) (leaderId (memberCount l) r)))
+    getD-set-same (set l (leadersAt + leaderCount l) (leaderId (memberCount l) r)) leaderCountAt (leaderCount l + 1) 0
+    (omega (arith, length-set l (leadersAt + leaderCount l) (leaderId (memberCount l) r)))
 
 -- the leaders of the rounds below r that are taken have been appended
 pub record Appending (n : ℕ) (l₀ : List ℕ) (taken r : ℕ) (l : List ℕ) : Type 0 where
-  pub size : length l ≡ 5864
+  pub size : length l ≡ stateSize
   pub members : n ≡ memberCount l
-  pub few : leaderCount l + count 32 (has taken) ≤ 32 + count r (has taken)
+  pub few : leaderCount l + count rounds (has taken) ≤ leadersSize + count r (has taken)
   pub is : l ≡ appendLeaders l₀ (select r (has taken))
 
-pub appending-start : (n : ℕ) (l : List ℕ) (taken : ℕ) → LeaderRoom l (count 32 (has taken)) → n ≡ memberCount l → has taken 0 ≡ false
+pub appending-start : (n : ℕ) (l : List ℕ) (taken : ℕ) → LeaderRoom l (count rounds (has taken)) → n ≡ memberCount l → has taken 0 ≡ false
     → Appending n l taken 1 l
 appending-start n l taken w m e =
     record {
@@ -136,10 +136,10 @@ count-grows k zero t = rw (add-zero k) (omega arith)
 count-grows k (suc j) t = rw (add-suc k j) (omega (arith, count-grows k j t))
 
 -- a round that is taken finds room in the list
-pub appending-room : (n : ℕ) (l₀ : List ℕ) (taken r : ℕ) (l : List ℕ) → Appending n l₀ taken r l → has taken r ≡ true → r < 32 → LeaderRoom l 1
+pub appending-room : (n : ℕ) (l₀ : List ℕ) (taken r : ℕ) (l : List ℕ) → Appending n l₀ taken r l → has taken r ≡ true → r < rounds → LeaderRoom l 1
 appending-room n l₀ taken r l a e h =
-    let d : (r + 1) + (31 - r) ≡ 32 = omega arith in
-    let up : count (r + 1) (has taken) ≤ count 32 (has taken) = rw d at (count-grows (r + 1) (31 - r) (has taken)) in
+    let d : (r + 1) + (votedRounds - r) ≡ rounds = omega arith in
+    let up : count (r + 1) (has taken) ≤ count rounds (has taken) = rw d at (count-grows (r + 1) (votedRounds - r) (has taken)) in
     record { size = a .size; room = omega (arith, a .few, up, count-more r (has taken) e) }
 
 -- ---- ids entered
@@ -166,7 +166,7 @@ unfolding orderRound
 round-more l m o mask r p e d = rw (add-one p) (rw e at d)
 
 -- a round with nothing new changes nothing
-pub round-old : (l : List ℕ) (mask r k : ℕ) → 1 ≤ r → r ≤ 32 → k ≤ 16 → subset mask (orderedMask l r) ≡ true → l ≡ orderRound l mask r k
+pub round-old : (l : List ℕ) (mask r k : ℕ) → 1 ≤ r → r ≤ rounds → k ≤ slots → subset mask (orderedMask l r) ≡ true → l ≡ orderRound l mask r k
 unfolding orderRound
 round-old l mask r zero low high few e = refl
 round-old l mask r (suc k) low high few e =
@@ -199,7 +199,7 @@ count-but (suc k) t y l e = go (which (t k)) (eq-or-lt-of-le (le-of-suc-le-suc l
     go (inr d) q ih = rw d (omega (arith, count-le k t))
 
 -- ids below 16 have round 0, so none is ordered
-low-out : (l : List ℕ) (y : ℕ) → y < 16 → orderedId l y ≡ false
+low-out : (l : List ℕ) (y : ℕ) → y < slots → orderedId l y ≡ false
 low-out l y h = and-fails-left _ (id-low y h)
 
 count-add : (j k : ℕ) (t : ℕ → Bool) → count (j + k) t ≡ count j t + count k (λ i. t (j + i))
@@ -212,21 +212,22 @@ unfolding count
 count-none zero t h = refl
 count-none (suc k) t h = rw (count-none k t (λ y m. h y (omega arith)), h k (omega arith))
 
-pub room-for : (l : List ℕ) (y : ℕ) → Room l → 16 ≤ y → y < 528 → orderedId l y ≡ false → journalCount l < 512
+pub room-for : (l : List ℕ) (y : ℕ) → Room l → slots ≤ y → y < idLimit → orderedId l y ≡ false → journalCount l < journalSize
 room-for l y R low high e =
-    let d : 16 + (y - 16) ≡ y = omega arith in
+    let d : slots + (y - slots) ≡ y = omega arith in
     omega (
       arith,
       R,
-      count-add 16 512 (orderedId l),
-      count-none 16 (orderedId l) (low-out l),
-      count-but 512 (λ i. orderedId l (16 + i)) (y - 16) (omega arith) (ap (orderedId l) d ∙ e),
+      count-add slots journalSize (orderedId l),
+      count-none slots (orderedId l) (low-out l),
+      count-but journalSize (λ i. orderedId l (slots + i)) (y - slots) (omega arith) (ap (orderedId l) d ∙ e),
     )
 
 -- ---- votes
 
 -- a first message votes exactly if its bit is in the votes mask
-pub first-votes : (l : List ℕ) → Standing l → (n q p : ℕ) → n ≡ memberCount l → 1 ≤ q → q ≤ 31 → votes n q (firsts l (suc q) p) ≡ has (votesMask l (suc q)) p
+pub first-votes : (l : List ℕ) → Standing l → (n q p : ℕ) → n ≡ memberCount l → 1 ≤ q → q ≤ votedRounds → votes n q (firsts l (suc q) p)
+    ≡ has (votesMask l (suc q)) p
 unfolding firsts strongOf
 first-votes l S n q p e low high = go (which (has (votesMask l (suc q)) p)) (which (has (heardMask l (suc q)) p))
   where
@@ -241,14 +242,14 @@ first-votes l S n q p e low high = go (which (has (votesMask l (suc q)) p)) (whi
     go (inr a) (inl b) = rw (in′, b, a) (has-zero (leader n q))
     go (inr a) (inr b) = rw (in′, b, a) (has-zero (leader n q))
 
-pub first-quorum : (l : List ℕ) → Standing l → (n q : ℕ) → n ≡ memberCount l → 1 ≤ q → q ≤ 31
+pub first-quorum : (l : List ℕ) → Standing l → (n q : ℕ) → n ≡ memberCount l → 1 ≤ q → q ≤ votedRounds
     → meets n (votesMask l (suc q)) ≡ enough n (λ p. votes n q (firsts l (suc q) p))
 first-quorum l S n q e low high =
     meets-count n (votesMask l (suc q)) (rw (sym e) at (S .votes-low (suc q) (omega arith) (omega arith)))
     ∙ ap (leb (quorum n)) (count-cong n _ _ (λ p k. sym (first-votes l S n q p e low high)))
 
 -- the leader's vertex of a round is held exactly if its bit is in the held mask
-pub held-word : (l : List ℕ) → Standing l → (r p : ℕ) → 1 ≤ r → r ≤ 32 → p < 16 → has (heldMask l r) p ≡ held (vertices l) r p
+pub held-word : (l : List ℕ) → Standing l → (r p : ℕ) → 1 ≤ r → r ≤ rounds → p < slots → has (heldMask l r) p ≡ held (vertices l) r p
 unfolding vertices
 held-word l S r p low high few = go (which (has (heldMask l r) p))
   where
@@ -278,9 +279,9 @@ by-voters n d q m e led none = rw (e .0, e .1) (voters-claim n (d .vertex) q ∙
 
 -- ---- the lowest committable round
 
-pub committable-at : (l : List ℕ) (n q : ℕ) → n ≡ memberCount l → committedRound l < q → q ≤ 31 → committed n (dag l) q ≡ committable l q
+pub committable-at : (l : List ℕ) (n q : ℕ) → n ≡ memberCount l → committedRound l < q → q ≤ votedRounds → committed n (dag l) q ≡ committable l q
 unfolding committable
-committable-at l n q e low high = rw (lt-ltb (committedRound l) q low, le-leb q 31 high, e)
+committable-at l n q e low high = rw (lt-ltb (committedRound l) q low, le-leb q votedRounds high, e)
 
 pub committable-low : (l : List ℕ) (q : ℕ) → q ≤ committedRound l → committable l q ≡ false
 unfolding committable
@@ -293,17 +294,17 @@ pub record Voters (l : List ℕ) (n q p : ℕ) (m : Members) : Type 0 where
 
 module _ (l : List ℕ) (n q p at : ℕ) (C : Cell l (q + 1) p at) where
   -- a vertex votes exactly if the strong mask in its cell has the leader
-  vertex-vote : has (getD l (at + 0) 0) (leader n q) ≡ votes n q (vertices l (suc q) p)
+  vertex-vote : has (getD l (at + strongPlace) 0) (leader n q) ≡ votes n q (vertices l (suc q) p)
   vertex-vote = rw (← add-one q) (ap (λ (x : ℕ). has x (leader n q)) (C .strong))
 
   -- so the mask of the voters below p becomes that of the voters below p + 1
-  pub voter-in : (m o : Members) → Voters l n q p m → has (getD l (at + 0) 0) (leader n q) ≡ true → o ≡ with m p → Voters l n q (p + 1) o
+  pub voter-in : (m o : Members) → Voters l n q p m → has (getD l (at + strongPlace) 0) (leader n q) ≡ true → o ≡ with m p → Voters l n q (p + 1) o
   voter-in m o w h e = rw e (record {
     bits = ap (λ (x : ℕ). add x p) (w .bits) ∙ sym (voters-in n (vertices l) q p (sym vertex-vote ∙ h)) ∙ ap (voters n (vertices l) q) (sym (add-one p));
     group = w .group;
   })
 
-  pub voter-out : (m o : Members) → Voters l n q p m → has (getD l (at + 0) 0) (leader n q) ≡ false → o ≡ m → Voters l n q (p + 1) o
+  pub voter-out : (m o : Members) → Voters l n q p m → has (getD l (at + strongPlace) 0) (leader n q) ≡ false → o ≡ m → Voters l n q (p + 1) o
   voter-out m o w h e = rw e (record {
     bits = w .bits ∙ sym (voters-out n (vertices l) q p (sym vertex-vote ∙ h)) ∙ ap (voters n (vertices l) q) (sym (add-one p));
     group = w .group;

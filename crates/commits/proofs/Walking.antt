@@ -10,7 +10,7 @@ use native.Mathlib.Omega.{arith}
 use lib.Bits.{bitOr}
 use borrow.Author.Tests.{eq-eqb, ne-eqb}
 use Rattle.record.specs.Below.{select}
-use Rattle.record.specs.Members.{leader, has, add}
+use Rattle.record.specs.Members.{leader, has, add, rounds, votedRounds}
 use Rattle.record.proofs.Masks.{leader-lt, has-one, has-add-same, has-add-other}
 use Rattle.protocol.specs.Dag.{Records, held}
 use Rattle.protocol.specs.Paths.{path, linked}
@@ -59,10 +59,10 @@ pub record Walked (n : ℕ) (v : Records) (low q t taken reached : ℕ) : Type 0
   pub most : stand ≤ q
   pub there : held v stand (leader n stand) ≡ true
   pub reach : (p : ℕ) → p < n → has reached p ≡ path n v stand (leader n stand) (suc t) p
-  pub rest : chain n v low q ≡ walk n v low stand t ++ select 32 (has taken)
+  pub rest : chain n v low q ≡ walk n v low stand t ++ select rounds (has taken)
   pub none : (r : ℕ) → r ≤ t → has taken r ≡ false
 
-module _ (n : ℕ) (pos : 0 < n) (v : Records) (W : ValidVertices n v) (low q : ℕ) (high : q ≤ 31) where
+module _ (n : ℕ) (pos : 0 < n) (v : Records) (W : ValidVertices n v) (low q : ℕ) (high : q ≤ votedRounds) where
   -- the round stood on, and one leader reached in it
   here : (r : ℕ) → 0 < r → held v r (leader n r) ≡ true → (t : ℕ) → suc t ≡ r → (p : ℕ) → p < n
       → has (2 ^ leader n r) p ≡ path n v r (leader n r) (suc t) p
@@ -80,9 +80,9 @@ module _ (n : ℕ) (pos : 0 < n) (v : Records) (W : ValidVertices n v) (low q : 
     none = λ r k. has-one q r ∙ ne-eqb q r (λ e. omega arith);
   }
     where
-      one : select 32 (has (2 ^ q)) ≡ q ∷ []
-      one = select-first 32 q (has (2 ^ q)) (λ i. false) (omega arith) (has-one q q ∙ eq-eqb q q refl) (λ i k. refl) (λ i k. has-one q i ∙ ne-eqb q i k)
-          ∙ ap (λ (x : List ℕ). q ∷ x) (select-none 32 (λ i. false) (λ i k. refl))
+      one : select rounds (has (2 ^ q)) ≡ q ∷ []
+      one = select-first rounds q (has (2 ^ q)) (λ i. false) (omega arith) (has-one q q ∙ eq-eqb q q refl) (λ i k. refl) (λ i k. has-one q i ∙ ne-eqb q i k)
+          ∙ ap (λ (x : List ℕ). q ∷ x) (select-none rounds (λ i. false) (λ i k. refl))
 
   module _ (t taken reached : ℕ) (l : low < suc t) (w : Walked n v low q (suc t) taken reached) where
     -- what the parents of those reached are
@@ -102,13 +102,13 @@ module _ (n : ℕ) (pos : 0 < n) (v : Records) (W : ValidVertices n v) (low q : 
           most = omega (arith, w .above, w .most);
           there = there′;
           reach = here (suc t) (omega arith) there′ t refl;
-          rest = w .rest ∙ ap (λ (x : List ℕ). x ++ select 32 (has taken)) (walk-take n v low (w .stand) t l link)
-              ∙ append-assoc (walk n v low (suc t) t) (suc t ∷ []) (select 32 (has taken)) ∙ ap (λ (x : List ℕ). walk n v low (suc t) t ++ x) (sym first);
+          rest = w .rest ∙ ap (λ (x : List ℕ). x ++ select rounds (has taken)) (walk-take n v low (w .stand) t l link)
+              ∙ append-assoc (walk n v low (suc t) t) (suc t ∷ []) (select rounds (has taken)) ∙ ap (λ (x : List ℕ). walk n v low (suc t) t ++ x) (sym first);
           none = λ r k. has-add-other taken (suc t) r (λ d. omega arith) ∙ w .none r (omega arith);
         }
       where
-        first : select 32 (has (add taken (suc t))) ≡ suc t ∷ select 32 (has taken)
-        first = select-first 32 (suc t) (has (add taken (suc t))) (has taken) (omega (arith, w .above, w .most)) (has-add-same taken (suc t)) (w .none)
+        first : select rounds (has (add taken (suc t))) ≡ suc t ∷ select rounds (has taken)
+        first = select-first rounds (suc t) (has (add taken (suc t))) (has taken) (omega (arith, w .above, w .most)) (has-add-same taken (suc t)) (w .none)
             (λ i k. has-add-other taken (suc t) i k)
 
     passed-suc : has (parents v (suc (suc t)) reached n) (leader n (suc t)) ≡ false
@@ -122,7 +122,7 @@ module _ (n : ℕ) (pos : 0 < n) (v : Records) (W : ValidVertices n v) (low q : 
           most = w .most;
           there = w .there;
           reach = below;
-          rest = w .rest ∙ ap (λ (x : List ℕ). x ++ select 32 (has taken)) (walk-skip n v low (w .stand) t link);
+          rest = w .rest ∙ ap (λ (x : List ℕ). x ++ select rounds (has taken)) (walk-skip n v low (w .stand) t link);
           none = λ r k. w .none r (omega arith);
         }
 
@@ -138,8 +138,8 @@ module _ (n : ℕ) (pos : 0 < n) (v : Records) (W : ValidVertices n v) (low q : 
   pass-leader (suc t) taken reached b l w e h = rw (sub-one (suc t), e, add-one (suc t)) (passed-suc t taken reached l w (rw (e, add-one (suc t)) at h))
 
   -- at the lower bound the rounds taken are the chain
-  finish : (t taken reached : ℕ) → t ≤ low → Walked n v low q t taken reached → select 32 (has taken) ≡ chain n v low q
-  finish t taken reached l w = sym (w .rest ∙ ap (λ (x : List ℕ). x ++ select 32 (has taken)) (walk-stop n v low (w .stand) t l))
+  finish : (t taken reached : ℕ) → t ≤ low → Walked n v low q t taken reached → select rounds (has taken) ≡ chain n v low q
+  finish t taken reached l w = sym (w .rest ∙ ap (λ (x : List ℕ). x ++ select rounds (has taken)) (walk-stop n v low (w .stand) t l))
 
 -- ---- the walk over a state
 
@@ -148,14 +148,15 @@ pub record Walk (l : List ℕ) (n low q : ℕ) : Type 0 where
   pub begun : (taken reached : ℕ) → taken ≡ 2 ^ q → reached ≡ 2 ^ leader n q → Walked n (vertices l) low q (q - 1) taken reached
   pub took : (t taken reached below p x y : ℕ) (b : Bool) → low < t
       → Walked n (vertices l) low q t taken reached → below ≡ parents (vertices l) (t + 1) reached n
-      → p ≡ leader n t → b ≡ has below p → b ≡ true → x ≡ 2 ^ t → y ≡ 2 ^ p
-      → (taken′ reached′ : ℕ) → taken′ ≡ bitOr taken x → reached′ ≡ y → Walked n (vertices l) low q (t - 1) taken′ reached′
+      → p ≡ leader n t → b ≡ has below p → b ≡ true → x ≡ add taken t → y ≡ 2 ^ p
+      → (taken′ reached′ : ℕ) → taken′ ≡ x → reached′ ≡ y → Walked n (vertices l) low q (t - 1) taken′ reached′
   pub passed : (t taken reached below p : ℕ) (b : Bool) → low < t → Walked n (vertices l) low q t taken reached → below ≡ parents (vertices l) (t + 1) reached n
       → p ≡ leader n t → b ≡ has below p → b ≡ false → (taken′ reached′ : ℕ) → taken′ ≡ taken → reached′ ≡ below
       → Walked n (vertices l) low q (t - 1) taken′ reached′
-  pub done : (t taken reached : ℕ) → t ≤ low → Walked n (vertices l) low q t taken reached → select 32 (has taken) ≡ chain n (vertices l) low q
+  pub done : (t taken reached : ℕ) → t ≤ low → Walked n (vertices l) low q t taken reached → select rounds (has taken) ≡ chain n (vertices l) low q
 
-pub walk-known : (l : List ℕ) (n low q : ℕ) → Standing l → n ≡ memberCount l → low < q → q ≤ 31 → held (vertices l) q (leader n q) ≡ true → Walk l n low q
+pub walk-known : (l : List ℕ) (n low q : ℕ) → Standing l → n ≡ memberCount l → low < q → q ≤ votedRounds → held (vertices l) q (leader n q) ≡ true
+    → Walk l n low q
 walk-known l n low q S e above high there = record {
   begun = λ taken reached a b. rw (a, b) (start n pos (vertices l) W low q high above there);
   took = λ t taken reached below p x y b k w d f h z ex ey taken′ reached′ e₁ e₂.

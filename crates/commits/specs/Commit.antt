@@ -5,13 +5,13 @@ use Prim.Native.Nat.{ℕ, zero, suc, _+_}
 use lib.Dec.{leb, ltb}
 use lib.ListN.{getD, set}
 use Rattle.record.specs.Below.{select, least}
-use Rattle.record.specs.Members.{rounds, leader, has, add, meets, idRound, idMember}
+use Rattle.record.specs.Members.{rounds, leader, has, add, meets, idRound, idMember, idLimit, votedRounds}
 use Rattle.protocol.specs.Dag.{Records, committed}
 use Rattle.protocol.specs.Paths.{history}
 use Rattle.protocol.specs.Chain.{chain, leaderId}
-use Rattle.protocol.specs.Journal.{idLimit}
 use Rattle.replica.specs.Layout.{currentRoundAt, committedRoundAt, leaderCountAt, journalCountAt, orderedAt, leadersAt, journalAt}
-use Rattle.replica.specs.State.{memberCount, currentRound, committedRound, leaderCount, journalCount, heldMask, timeoutsMask, orderedMask, vertices, dag, orderedId}
+use Rattle.replica.specs.State.{memberCount, currentRound, committedRound, leaderCount, journalCount}
+use Rattle.replica.specs.State.{heldMask, timeoutsMask, orderedMask, vertices, dag, orderedId}
 
 -- ---- the round rule
 
@@ -67,17 +67,17 @@ commit l q = orderLeaders (vertices l) (set (appendLeaders l (taken l q)) commit
 
 -- round q is committable (01: ready)
 unfoldable pub committable : List ℕ → ℕ → Bool
-committable l q = ltb (committedRound l) q && (leb q 31 && committed (memberCount l) (dag l) q)
+committable l q = ltb (committedRound l) q && (leb q votedRounds && committed (memberCount l) (dag l) q)
 
 -- the lowest committable round, 32 if there is none
 abbrev pub lowest : List ℕ → ℕ
-lowest l = least 32 (committable l)
+lowest l = least rounds (committable l)
 
 -- the lowest committable round is committed, and again, at most k times
 unfoldable pub commitUpTo : List ℕ → ℕ → List ℕ
 commitUpTo l zero = l
-commitUpTo l (suc k) = cond (ltb (lowest l) 32) (commitUpTo (commit l (lowest l)) k) l
+commitUpTo l (suc k) = cond (ltb (lowest l) rounds) (commitUpTo (commit l (lowest l)) k) l
 
 -- and again until none is committable: each commit raises the committed round, which is at most 31
 abbrev pub commitAll : List ℕ → List ℕ
-commitAll l = commitUpTo l 31
+commitAll l = commitUpTo l votedRounds

@@ -5,10 +5,10 @@ use mathlib.Core.List.{List}
 use Prim.Native.Nat.{ℕ, zero, suc, _+_, _^_, _≤_, _<_}
 use lib.ListN.{length, getD}
 use Rattle.record.specs.Below.{count}
-use Rattle.record.specs.Members.{legal, leader, has, idOf, idMember}
+use Rattle.record.specs.Members.{legal, leader, has, idOf, idMember, idLimit, rounds, slots, votedRounds}
 use Rattle.protocol.specs.Dag.{held}
-use Rattle.protocol.specs.Journal.{idLimit}
 use Rattle.protocol.specs.Premises.{ValidVertices}
+use Rattle.record.specs.Layout.{bodySize}
 use Rattle.replica.specs.Layout.{stateSize, leadersSize, cellAt}
 use Rattle.replica.specs.State.{memberCount, committedRound, leaderCount, journalCount, heldMask, heardMask, votesMask, vertices, orderedId}
 use Rattle.commits.specs.Commit.{enter}
@@ -17,13 +17,13 @@ pub record Standing (l : List ℕ) : Type 0 where
   pub size : length l ≡ stateSize
   pub members : legal (memberCount l) ≡ true
   pub low : 4 ≤ memberCount l
-  pub high : memberCount l ≤ 16
+  pub high : memberCount l ≤ slots
   -- the vertices are well formed, and their words are those of the cells
   pub valid : ValidVertices (memberCount l) (vertices l)
-  pub words : (r p i : ℕ) → 1 ≤ r → r ≤ 32 → p < 16 → i < 10 → getD (vertices l r p) i 0 ≡ getD l (cellAt r p + i) 0
-  pub held-low : (r : ℕ) → 1 ≤ r → r ≤ 32 → heldMask l r < 2 ^ memberCount l
-  pub votes-low : (r : ℕ) → 1 ≤ r → r ≤ 32 → votesMask l r < 2 ^ memberCount l
-  pub votes-heard : (r p : ℕ) → 1 ≤ r → r ≤ 32 → has (votesMask l r) p ≡ true → has (heardMask l r) p ≡ true
+  pub words : (r p i : ℕ) → 1 ≤ r → r ≤ rounds → p < slots → i < bodySize → getD (vertices l r p) i 0 ≡ getD l (cellAt r p + i) 0
+  pub held-low : (r : ℕ) → 1 ≤ r → r ≤ rounds → heldMask l r < 2 ^ memberCount l
+  pub votes-low : (r : ℕ) → 1 ≤ r → r ≤ rounds → votesMask l r < 2 ^ memberCount l
+  pub votes-heard : (r p : ℕ) → 1 ≤ r → r ≤ rounds → has (votesMask l r) p ≡ true → has (heardMask l r) p ≡ true
 
 -- a state's words, with room in the leader list for k more
 pub record LeaderRoom (l : List ℕ) (k : ℕ) : Type 0 where
@@ -44,7 +44,7 @@ pub record LeaderReady (l : List ℕ) (n r : ℕ) : Type 0 where
   pub room : Room l
   pub members : n ≡ memberCount l
   pub low : 1 ≤ r
-  pub high : r ≤ 31
+  pub high : r ≤ votedRounds
   pub there : LeaderHeld l n r
 
 -- what ordering the histories of the leaders of the rounds taken asks, bit r for round r
@@ -52,14 +52,22 @@ pub record LeadersReady (n taken : ℕ) (l : List ℕ) : Type 0 where
   pub standing : Standing l
   pub room : Room l
   pub members : n ≡ memberCount l
-  pub there : (r : ℕ) → r < 32 → has taken r ≡ true → LeaderHeld l n r
+  pub there : (r : ℕ) → r < rounds → has taken r ≡ true → LeaderHeld l n r
 
 -- what the commits ask, and keep from one to the next
 pub record Going (l : List ℕ) : Type 0 where
   pub standing : Standing l
   pub room : Room l
   pub few : leaderCount l ≤ committedRound l
-  pub high : committedRound l ≤ 31
+  pub high : committedRound l ≤ votedRounds
+
+-- what committing round q asks
+pub record Next (l : List ℕ) (n q : ℕ) : Type 0 where
+  pub going : Going l
+  pub members : n ≡ memberCount l
+  pub low : committedRound l < q
+  pub high : q ≤ votedRounds
+  pub there : LeaderHeld l n q
 
 -- the vertex with the id y joins the journal if the mask has its member and it is not yet ordered
 unfoldable pub orderId : List ℕ → ℕ → ℕ → List ℕ

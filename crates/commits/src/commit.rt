@@ -4,48 +4,46 @@ ghost use mathlib.Core.Bool.{true, false};
 ghost use Prim.Native.Nat.{ℕ, suc, _<_, _≤_};
 ghost use lib.ListN.{length};
 ghost use Rattle.record.specs.Below.{count, select};
-ghost use Rattle.record.specs.Members.{leader, has};
+ghost use Rattle.record.specs.Members.{leader, has, rounds, slots, votedRounds, idLimit};
 ghost use Rattle.protocol.specs.Dag.{committed};
 ghost use Rattle.protocol.specs.Masks.{voters};
-ghost use Rattle.replica.specs.Layout.{stateSize};
+ghost use Rattle.replica.specs.Layout.{stateSize, journalSize};
 ghost use Rattle.replica.specs.State.{memberCount, committedRound, leaderCount, journalCount, vertices, dag, orderedId};
 ghost use Rattle.commits.specs.Commit.{appendLeader, appendLeaders, enter, orderLeader, orderLeaders, commit, committable, lowest, commitAll};
-ghost use Rattle.commits.specs.Standing.{Standing, Room, LeaderRoom, LeaderHeld, LeaderReady, LeadersReady, Going, orderId, orderRound};
+ghost use Rattle.commits.specs.Standing.{Standing, Room, LeaderRoom, LeaderHeld, LeaderReady, LeadersReady, Going, Next, orderId, orderRound};
 use super::history::history_of;
 use super::walk::taken_rounds;
 use record::layout::STRONG;
 use record::layout::wide;
 use record::members::Members;
+use record::members::ROUNDS;
 use record::members::SLOTS;
+use record::members::has_bit;
 use record::members::leader_of;
-use record::members::power;
 use replica::layout::COMMITTED_ROUND;
+use replica::layout::HELD;
 use replica::layout::JOURNAL;
 use replica::layout::JOURNAL_COUNT;
 use replica::layout::LEADER_COUNT;
 use replica::layout::LEADERS;
 use replica::layout::ORDERED;
+use replica::layout::VOTES;
 use replica::layout::cell_at;
-use replica::layout::held_mask;
-use replica::layout::is_ordered;
 use replica::layout::masks_at;
-use replica::layout::ordered_mask;
-use replica::layout::votes_mask;
+use replica::masks::add_member;
+use replica::masks::is_marked;
+use replica::masks::mask_of;
 
 // The members whose vertices of round q + 1 vote for the leader of round q.
 fn vertex_voters(state: &[u32], n: u32, q: u32, voted: u32) -> Members
-    requires { ⌜ Standing (now state) × (n ≡ memberCount (now state)) × (q ≤ 31) × (voted ≡ leader n q) ⌝ }
+    requires { ⌜ Standing (now state) × (n ≡ memberCount (now state)) × (q ≤ votedRounds) × (voted ≡ leader n q) ⌝ }
     ensures { λ r. ⌜ (r .bits ≡ voters n (vertices (now (state .entry))) q n) × (r .n ≡ n) ⌝ }
 {
     let mut voters = Members { bits: 0, n };
     let mut p: u32 = 0;
     while p < n {
         let at = cell_at(q + 1, p);
-        let strong = Members {
-            bits: state[at + STRONG],
-            n,
-        };
-        if strong.has(voted) {
+        if has_bit(state[at + STRONG], voted) {
             voters = voters.with(p);
         }
         p += 1;
@@ -55,19 +53,15 @@ fn vertex_voters(state: &[u32], n: u32, q: u32, voted: u32) -> Members
 
 // Round q is committed directly: its leader's vertex is held, and a quorum of first messages or of vertices votes for it.
 fn is_committed(state: &[u32], n: u32, q: u32) -> bool
-    requires { ⌜ Standing (now state) × (n ≡ memberCount (now state)) × (1 ≤ q) × (q ≤ 31) ⌝ }
+    requires { ⌜ Standing (now state) × (n ≡ memberCount (now state)) × (1 ≤ q) × (q ≤ votedRounds) ⌝ }
     ensures { λ r. ⌜ r ≡ committed n (dag (now (state .entry))) q ⌝ }
 {
     let leader = leader_of(n, q);
-    let held = Members {
-        bits: held_mask(state, q),
-        n,
-    };
-    if !held.has(leader) {
+    if !has_bit(mask_of(state, HELD, q), leader) {
         return false;
     }
     let votes = Members {
-        bits: votes_mask(state, q + 1),
+        bits: mask_of(state, VOTES, q + 1),
         n,
     };
     if votes.meets_quorum() {
@@ -79,39 +73,38 @@ fn is_committed(state: &[u32], n: u32, q: u32) -> bool
 
 // The lowest committable round, 32 if there is none.
 fn lowest_committable(state: &[u32], n: u32) -> u32
-    requires { ⌜ Standing (now state) × (n ≡ memberCount (now state)) × (committedRound (now state) ≤ 31) ⌝ }
+    requires { ⌜ Standing (now state) × (n ≡ memberCount (now state)) × (committedRound (now state) ≤ votedRounds) ⌝ }
     ensures { λ r. ⌜ r ≡ lowest (now (state .entry)) ⌝ }
 {
     let mut q: u32 = state[COMMITTED_ROUND] + 1;
-    while q < 32 {
+    while q < ROUNDS {
         if is_committed(state, n, q) {
             return q;
         }
         q += 1;
     }
-    32
+    ROUNDS
 }
 
 // The leader of the round joins the leader list.
 fn append_leader(state: &mut [u32], n: u32, round: u32)
-    requires { ⌜ LeaderRoom (now state) 1 × (n ≡ memberCount (now state)) × (0 < n) × (1 ≤ round) × (round ≤ 31) ⌝ }
+    requires { ⌜ LeaderRoom (now state) 1 × (n ≡ memberCount (now state)) × (0 < n) × (1 ≤ round) × (round ≤ votedRounds) ⌝ }
     ensures { λ _. ⌜ now (state .exit) ≡ appendLeader (now (state .entry)) round ⌝ }
 {
     let count = state[LEADER_COUNT];
-    let id = 16 * round + leader_of(n, round);
+    let id = SLOTS * round + leader_of(n, round);
     state[LEADERS + wide(count)] = id;
     state[LEADER_COUNT] = count + 1;
 }
 
 // The leaders of the rounds taken, bit r for round r, join the leader list.
 fn append_leaders(state: &mut [u32], n: u32, taken: u32)
-    requires { ⌜ LeaderRoom (now state) (count 32 (has taken)) × (n ≡ memberCount (now state)) × (0 < n) × (has taken 0 ≡ false) ⌝ }
-    ensures { λ _. ⌜ now (state .exit) ≡ appendLeaders (now (state .entry)) (select 32 (has taken)) ⌝ }
+    requires { ⌜ LeaderRoom (now state) (count rounds (has taken)) × (n ≡ memberCount (now state)) × (0 < n) × (has taken 0 ≡ false) ⌝ }
+    ensures { λ _. ⌜ now (state .exit) ≡ appendLeaders (now (state .entry)) (select rounds (has taken)) ⌝ }
 {
-    let rounds = Members { bits: taken, n };
     let mut r: u32 = 1;
-    while r < 32 {
-        if rounds.has(r) {
+    while r < ROUNDS {
+        if has_bit(taken, r) {
             append_leader(state, n, r);
         }
         r += 1;
@@ -120,42 +113,41 @@ fn append_leaders(state: &mut [u32], n: u32, taken: u32)
 
 // The vertex with the id is ordered, and joins the journal.
 fn enter_id(state: &mut [u32], id: u32)
-    requires { ⌜ (length (now state) ≡ stateSize) × (16 ≤ id) × (id < 528) × (journalCount (now state) < 512) ⌝ }
+    requires { ⌜ (length (now state) ≡ stateSize) × (slots ≤ id) × (id < idLimit) × (journalCount (now state) < journalSize) ⌝ }
     ensures { λ _. ⌜ now (state .exit) ≡ enter (now (state .entry)) id ⌝ }
 {
     let count = state[JOURNAL_COUNT];
-    let at = masks_at(id / 16) + ORDERED;
-    state[at] = state[at] | power(id % 16);
+    let at = masks_at(id / SLOTS) + ORDERED;
+    add_member(state, at, id % SLOTS);
     state[JOURNAL + wide(count)] = id;
     state[JOURNAL_COUNT] = count + 1;
 }
 
 // The vertex with the id joins the journal if the mask, of its round, has its member and it is not yet ordered.
-fn order_id(state: &mut [u32], n: u32, mask: u32, id: u32)
-    requires { ⌜ (length (now state) ≡ stateSize) × (16 ≤ id) × (id < 528) × Room (now state) ⌝ }
+fn order_id(state: &mut [u32], mask: u32, id: u32)
+    requires { ⌜ (length (now state) ≡ stateSize) × (slots ≤ id) × (id < idLimit) × Room (now state) ⌝ }
     ensures { λ _. ⌜ now (state .exit) ≡ orderId (now (state .entry)) mask id ⌝ }
 {
-    let members = Members { bits: mask, n };
-    if !members.has(id % 16) {
+    if !has_bit(mask, id % SLOTS) {
         return;
     }
-    if is_ordered(state, n, id) {
+    if is_marked(state, ORDERED, id) {
         return;
     }
     enter_id(state, id);
 }
 
 // The vertices of the round in the mask that are not yet ordered join the journal, by rising member.
-fn order_round(state: &mut [u32], n: u32, mask: u32, round: u32)
-    requires { ⌜ (length (now state) ≡ stateSize) × (1 ≤ round) × (round ≤ 32) × Room (now state) ⌝ }
-    ensures { λ _. ⌜ now (state .exit) ≡ orderRound (now (state .entry)) mask round 16 ⌝ }
+fn order_round(state: &mut [u32], mask: u32, round: u32)
+    requires { ⌜ (length (now state) ≡ stateSize) × (1 ≤ round) × (round ≤ rounds) × Room (now state) ⌝ }
+    ensures { λ _. ⌜ now (state .exit) ≡ orderRound (now (state .entry)) mask round slots ⌝ }
 {
-    if mask & ordered_mask(state, round) == mask {
+    if mask & mask_of(state, ORDERED, round) == mask {
         return;
     }
     let mut p: u32 = 0;
     while p < SLOTS {
-        order_id(state, n, mask, 16 * round + p);
+        order_id(state, mask, SLOTS * round + p);
         p += 1;
     }
 }
@@ -168,7 +160,7 @@ fn order_leader(state: &mut [u32], n: u32, round: u32)
     let masks = history_of(state, n, round, leader_of(n, round));
     let mut r: u32 = 0;
     while r < round {
-        order_round(state, n, masks[wide(r)], r + 1);
+        order_round(state, masks[wide(r)], r + 1);
         r += 1;
     }
 }
@@ -176,12 +168,11 @@ fn order_leader(state: &mut [u32], n: u32, round: u32)
 // So for the leaders of the rounds taken, bit r for round r.
 fn order_leaders(state: &mut [u32], n: u32, taken: u32)
     requires { ⌜ LeadersReady n taken (now state) × (has taken 0 ≡ false) ⌝ }
-    ensures { λ _. ⌜ now (state .exit) ≡ orderLeaders (vertices (now (state .entry))) (now (state .entry)) (select 32 (has taken)) ⌝ }
+    ensures { λ _. ⌜ now (state .exit) ≡ orderLeaders (vertices (now (state .entry))) (now (state .entry)) (select rounds (has taken)) ⌝ }
 {
-    let rounds = Members { bits: taken, n };
     let mut r: u32 = 1;
-    while r < 32 {
-        if rounds.has(r) {
+    while r < ROUNDS {
+        if has_bit(taken, r) {
             order_leader(state, n, r);
         }
         r += 1;
@@ -190,7 +181,7 @@ fn order_leaders(state: &mut [u32], n: u32, taken: u32)
 
 // Commits round q.
 fn commit_round(state: &mut [u32], n: u32, q: u32)
-    requires { ⌜ Going (now state) × (n ≡ memberCount (now state)) × (committedRound (now state) < q) × (q ≤ 31) × LeaderHeld (now state) n q ⌝ }
+    requires { ⌜ Next (now state) n q ⌝ }
     ensures { λ _. ⌜ now (state .exit) ≡ commit (now (state .entry)) q ⌝ }
 {
     let taken = taken_rounds(state, n, state[COMMITTED_ROUND], q);
@@ -205,7 +196,7 @@ pub fn commit_all(state: &mut [u32], n: u32)
     ensures { λ _. ⌜ now (state .exit) ≡ commitAll (now (state .entry)) ⌝ }
 {
     let mut q: u32 = lowest_committable(state, n);
-    while q < 32 {
+    while q < ROUNDS {
         commit_round(state, n, q);
         q = lowest_committable(state, n);
     }

@@ -5,20 +5,22 @@ ghost use lib.ListN.{length};
 ghost use Rattle.replica.specs.Layout.{stateSize};
 ghost use Rattle.replica.specs.State.{memberCount};
 ghost use Rattle.commits.specs.Commit.{passable, highestPassable, raiseRound};
+ghost use Rattle.record.specs.Members.{rounds};
 use record::members::Members;
 use record::members::ROUNDS;
 use record::members::leader_of;
 use replica::layout::CURRENT_ROUND;
-use replica::layout::held_mask;
-use replica::layout::timeouts_mask;
+use replica::layout::HELD;
+use replica::layout::TIMEOUTS;
+use replica::masks::mask_of;
 
 // The round holds a quorum of vertices, and its leader's vertex or a quorum of timeouts.
 fn is_passable(state: &[u32], n: u32, round: u32) -> bool
-    requires { ⌜ (length (now state) ≡ stateSize) × (n ≡ memberCount (now state)) × (0 < n) × (1 ≤ round) × (round ≤ 32) ⌝ }
+    requires { ⌜ (length (now state) ≡ stateSize) × (n ≡ memberCount (now state)) × (0 < n) × (1 ≤ round) × (round ≤ rounds) ⌝ }
     ensures { λ r. ⌜ r ≡ passable (now (state .entry)) round ⌝ }
 {
     let held = Members {
-        bits: held_mask(state, round),
+        bits: mask_of(state, HELD, round),
         n,
     };
     if !held.meets_quorum() {
@@ -28,7 +30,7 @@ fn is_passable(state: &[u32], n: u32, round: u32) -> bool
         return true;
     }
     let timeouts = Members {
-        bits: timeouts_mask(state, round),
+        bits: mask_of(state, TIMEOUTS, round),
         n,
     };
     timeouts.meets_quorum()
@@ -36,7 +38,7 @@ fn is_passable(state: &[u32], n: u32, round: u32) -> bool
 
 fn highest_passable(state: &[u32], n: u32) -> u32
     requires { ⌜ (length (now state) ≡ stateSize) × (n ≡ memberCount (now state)) × (0 < n) ⌝ }
-    ensures { λ r. ⌜ (r ≡ highestPassable (now (state .entry)) 32) × (r ≤ 32) ⌝ }
+    ensures { λ r. ⌜ (r ≡ highestPassable (now (state .entry)) rounds) × (r ≤ rounds) ⌝ }
 {
     let mut round: u32 = ROUNDS;
     while 0 < round {

@@ -1,5 +1,5 @@
 -- Ten words copied into a cell, and a cell lent on as a part. Assumes nothing.
-use mathlib.Core.Path.{_≡_, refl, sym, ap, ap₂, _∙_}
+use mathlib.Core.Path.{_≡_, sym, ap, ap₂, _∙_}
 use mathlib.Core.List.{List, [], _∷_, _++_, append-assoc}
 use Prim.Native.Nat.{ℕ, _+_, _-_, _≤_, _<_}
 use native.Mathlib.Numerals.{add-one}
@@ -7,8 +7,10 @@ use native.Mathlib.Omega.{arith}
 use lib.ListN.{length, getD, take, drop, set, List·getD-append}
 use lib.Seq.{take-suc, take-suc-set, take-all, take-at, drop-at, drop-drop, drop-append-le, getD-take, getD-drop, length-take-le, paste}
 use lib.Seq.{length-paste-head, take-paste, drop-paste}
-use Rattle.replica.specs.Layout.{masksAt, cellAt}
-use Rattle.ordering.specs.Calls.{addMember, putVertex}
+use Rattle.replica.specs.Layout.{masksAt, cellAt, heldKind}
+use Rattle.ordering.specs.Calls.{putVertex}
+use Rattle.replica.specs.State.{addMember}
+use Rattle.record.specs.Layout.{bodySize}
 
 -- a turn of a loop that copies
 pub take-copied : (d s : List ℕ) (i : ℕ) → i < length d → i < length s → take i d ≡ take i s → take (i + 1) (set d i (getD s i 0)) ≡ take (i + 1) s
@@ -26,10 +28,10 @@ put-pasted a k d ys s e =
     ∙ sym (append-assoc (take a d) (take k s) (drop (a + k) d))
 
 -- a vertex marked held at the masks of its round, and its body in the cell that was lent
-pub vertex-put : (l : List ℕ) (r p : ℕ) (body : List ℕ) → length body ≡ 10 → (at : ℕ) → at ≡ masksAt r → (m : List ℕ) → m ≡ addMember l (at + 0) p
-    → (a : ℕ) → a ≡ cellAt r p → (ys : List ℕ) → ys ≡ body → take a m ++ (ys ++ drop ((a + 10) - a) (drop a m)) ≡ putVertex l r p body
+pub vertex-put : (l : List ℕ) (r p : ℕ) (body : List ℕ) → length body ≡ bodySize → (at : ℕ) → at ≡ masksAt r → (m : List ℕ) → m ≡ addMember l (at + heldKind) p
+    → (a : ℕ) → a ≡ cellAt r p → (ys : List ℕ) → ys ≡ body → take a m ++ (ys ++ drop ((a + bodySize) - a) (drop a m)) ≡ putVertex l r p body
 unfolding putVertex
-vertex-put l r p body size at e m d a f ys g = put-pasted a 10 m ys body (g ∙ sym (take-all 10 body (omega arith))) ∙ rw (d, e, f)
+vertex-put l r p body size at e m d a f ys g = put-pasted a bodySize m ys body (g ∙ sym (take-all bodySize body (omega arith))) ∙ rw (d, e, f)
 
 -- ---- words written over a part
 

@@ -1,34 +1,29 @@
 -- A first message by its strong mask alone: what the state keeps of it. Assumes nothing.
 use mathlib.Core.Path.{_≡_, sym, _∙_}
-use mathlib.Core.Bool.{Bool, true, false, cond}
+use mathlib.Core.Bool.{Bool, true, false}
 use mathlib.Core.List.{List, [], _∷_}
 use Prim.Native.Nat.{ℕ, _+_, _-_, _≤_, _<_}
 use native.Mathlib.Omega.{arith}
-use lib.ListN.{getD, set, drop}
+use lib.ListN.{getD, set}
 use lib.Seq.{getD-drop}
-use Rattle.record.specs.Members.{leader, has, with}
+use Rattle.record.specs.Members.{leader, has, with, rounds}
 use Rattle.record.specs.declared.members.Members.{Members}
 use Rattle.record.specs.Layout.{bodyOf, strongOf}
 use Rattle.record.proofs.Masks.{leader-small, has-zero}
-use Rattle.replica.specs.Layout.{masksAt}
-use Rattle.replica.specs.State.{memberCount}
-use Rattle.ordering.specs.Calls.{addMember, hear}
-
--- the word with the member added
-pub member-added : (l : List ℕ) (at n p : ℕ) (m : Members) → m ≡ with (record { bits = getD l at 0; n = n }) p → set l at (m .bits) ≡ addMember l at p
-unfolding addMember
-member-added l at n p m e = rw e
+use Rattle.replica.specs.Layout.{masksAt, heardKind, votesKind}
+use Rattle.replica.specs.State.{memberCount, addMember}
+use Rattle.ordering.specs.Calls.{hear}
 
 -- what is known where the source is heard and the words are m: its votes are marked next if it votes for the leader, and in round 1 no one votes
 pub record Marked (l : List ℕ) (r p n strong at : ℕ) (m : List ℕ) : Type 0 where
   pub small : leader n (r - 1) < 32
   pub first : r < 2 → m ≡ hear l r p (strong ∷ [])
   pub silent : (x : ℕ) → x ≡ leader n (r - 1) → (t : Bool) → t ≡ has strong x → t ≡ false → m ≡ hear l r p (strong ∷ [])
-  pub voting : (x : ℕ) → x ≡ leader n (r - 1) → (t : Bool) → t ≡ has strong x → t ≡ true → (o : List ℕ) → o ≡ addMember m (at + 2) p
+  pub voting : (x : ℕ) → x ≡ leader n (r - 1) → (t : Bool) → t ≡ has strong x → t ≡ true → (o : List ℕ) → o ≡ addMember m (at + votesKind) p
       → o ≡ hear l r p (strong ∷ [])
 
-module _ (l : List ℕ) (r p n strong : ℕ) (e : n ≡ memberCount l) (low : 1 ≤ r) (high : r ≤ 32) (z : r ≡ 1 → strong ≡ 0) (at : ℕ) (a : at ≡ masksAt r)
-    (m : List ℕ) (d : m ≡ addMember l (at + 1) p) where
+module _ (l : List ℕ) (r p n strong : ℕ) (e : n ≡ memberCount l) (low : 1 ≤ r) (high : r ≤ rounds) (z : r ≡ 1 → strong ≡ 0) (at : ℕ) (a : at ≡ masksAt r)
+    (m : List ℕ) (d : m ≡ addMember l (at + heardKind) p) where
   hear-silent : has strong (leader n (r - 1)) ≡ false → m ≡ hear l r p (strong ∷ [])
   unfolding hear strongOf
   hear-silent h = rw (d, a, ← e, h)

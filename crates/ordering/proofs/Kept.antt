@@ -3,12 +3,12 @@ use mathlib.Core.Path.{_≡_, refl, sym, ap, ap₂, _∙_}
 use mathlib.Core.Bool.{Bool, true, false, _&&_, _||_}
 use mathlib.Core.Logic.{_⊎_, inl, inr, ⊎-elim}
 use mathlib.Core.List.{List, [], _∷_, _++_, map}
-use Prim.Native.Nat.{ℕ, zero, suc, _-_, _≤_, _<_}
+use Prim.Native.Nat.{ℕ, zero, suc, _+_, _-_, _≤_, _<_}
 use native.Mathlib.Omega.{arith}
 use lib.Dec.{eqb, leb, ltb}
 use lib.ListN.{length}
 use borrow.Author.Tests.{eqb-true, eq-eqb, leb-true, ltb-true}
-use Rattle.record.specs.Members.{leader, has, idOf, idRound, idMember, isRound}
+use Rattle.record.specs.Members.{leader, has, idOf, idRound, idMember, isRound, rounds, slots, votedRounds}
 use Rattle.record.specs.Refusals.{numberOf, firstNo}
 use Rattle.record.specs.declared.refusal.Refusal.{Refusal}
 use Rattle.record.proofs.Booleans.{which, and-left, and-right, and-both, or-cases, or-left, or-right}
@@ -23,8 +23,9 @@ use Rattle.protocol.proofs.Lists.{rising, among-append, once}
 use Rattle.protocol.proofs.History.{id-round, id-member}
 use Rattle.protocol.proofs.Chain.{chain-some, chain-held, walk-rising}
 use Rattle.protocol.proofs.Journal.{extend-once}
-use Rattle.replica.specs.Layout.{stateSize, heldAt}
-use Rattle.replica.specs.State.{memberCount, committedRound, heldMask, orderedMask, timeoutsMask, noVotesMask, leaderList, journalList, vertices, dag}
+use Rattle.record.specs.Layout.{weakSlots}
+use Rattle.replica.specs.Layout.{stateSize, masksAt, heldAt, timeoutsKind, noVotesKind, orderedKind, memberCountAt}
+use Rattle.replica.specs.State.{memberCount, committedRound, heldMask, orderedMask, leaderList, journalList, vertices, dag, addMember}
 use Rattle.replica.specs.State.{heldId, orderedId}
 use Rattle.replica.specs.WellFormed.{wellFormed}
 use Rattle.replica.specs.Outcome.{outcome}
@@ -32,30 +33,31 @@ use Rattle.replica.proofs.Formed.{WellFormed, Leaders, Journal, Led, led-append
 use Rattle.replica.proofs.Dags.{held-id, in-mask}
 use Rattle.replica.proofs.Keeping.{Keeps, front-kept, masks-kept, cells-kept, held-kept, held-id-kept}
 use Rattle.commits.specs.Commit.{taken, commit, committable, lowest, commitUpTo, commitAll, raiseRound}
-use Rattle.ordering.specs.Calls.{putVertex, hear, takeBody, takeFirstBody, takeTimeout, takeNoVote, placeQuestions, vertexQuestions, firstQuestions}
+use Rattle.ordering.specs.Calls.{putVertex, hear, takeBody, takeFirstBody, takeTimeout, takeNoVote, placeQuestions, vertexQuestions}
+use Rattle.ordering.specs.Calls.{firstQuestions, noteRefusal}
 use Rattle.ordering.specs.Kept.{LeavesWellFormed, KeepsWellFormed}
 use Rattle.commits.specs.Standing.{Standing, Room}
 use Rattle.commits.proofs.Ground.{standing, room-limit}
 use Rattle.commits.proofs.Frames.{OffLists, off-front, off-zeros, off-mask, off-cells}
 use Rattle.commits.proofs.Growing.{Committed, grown, leaders-fit}
 use Rattle.ordering.proofs.Turns.{record-passed, parents-passed, note-passed}
-use Rattle.ordering.proofs.Marks.{formed-raise, formed-put, formed-hear, formed-timeout, formed-no-vote}
+use Rattle.ordering.proofs.Marks.{formed-raise, formed-put, formed-hear, formed-note}
 
 -- ---- the leaders taken
 
 -- leaders of rising rounds, that h has, and one after them
-led-rising : (n : ℕ) (h : ℕ → Bool) → 0 < n → n ≤ 16 → (low high q : ℕ) (rs : List ℕ) → rising low rs high ≡ true → high < q
+led-rising : (n : ℕ) (h : ℕ → Bool) → 0 < n → n ≤ slots → (low high q : ℕ) (rs : List ℕ) → rising low rs high ≡ true → high < q
     → ((r : ℕ) → among (rs ++ q ∷ []) r ≡ true → h (leaderId n r) ≡ true) → Led n h low (map (leaderId n) (rs ++ q ∷ [])) q
 unfolding Led rising among
 led-rising n h pos few low high q [] e k f =
-    let a : leader n q < 16 = omega (arith, leader-lt n q pos) in (
+    let a : leader n q < slots = omega (arith, leader-lt n q pos) in (
       f q (or-left _ (eq-eqb q q refl)),
       id-member q (leader n q) a ∙ ap (leader n) (sym (id-round q (leader n q) a)),
       rw (id-round q (leader n q) a) (omega (arith, leb-true low high e)),
       id-round q (leader n q) a,
     )
 led-rising n h pos few low high q (r ∷ rs) e k f =
-    let a : leader n r < 16 = omega (arith, leader-lt n r pos) in (
+    let a : leader n r < slots = omega (arith, leader-lt n r pos) in (
       f r (or-left _ (eq-eqb r r refl)),
       id-member r (leader n r) a ∙ ap (leader n) (sym (id-round r (leader n r) a)),
       rw (id-round r (leader n r) a) (ltb-true low r (and-left _ _ e)),
@@ -64,7 +66,7 @@ led-rising n h pos few low high q (r ∷ rs) e k f =
 
 -- ---- a commit
 
-module _ (l : List ℕ) (S : WellFormed l) (q : ℕ) (above : committedRound l < q) (high : q ≤ 31)
+module _ (l : List ℕ) (S : WellFormed l) (q : ℕ) (above : committedRound l < q) (high : q ≤ votedRounds)
     (h : held (vertices l) q (leader (memberCount l) q) ≡ true) where
   C : Committed l q (commit l q)
   C = grown l S q above high h
@@ -73,9 +75,9 @@ module _ (l : List ℕ) (S : WellFormed l) (q : ℕ) (above : committedRound l <
   F = C .kept
 
   members : memberCount (commit l q) ≡ memberCount l
-  members = F .same 0 (off-front 0 (omega arith))
+  members = F .same memberCountAt (off-front memberCountAt (omega arith))
 
-  held-off : (r : ℕ) → 1 ≤ r → r ≤ 32 → OffLists (heldAt r)
+  held-off : (r : ℕ) → 1 ≤ r → r ≤ rounds → OffLists (heldAt r)
   held-off r a b = off-mask r 0 a b (omega arith)
 
   held-same : (y : ℕ) → heldId (commit l q) y ≡ heldId l y
@@ -92,7 +94,7 @@ module _ (l : List ℕ) (S : WellFormed l) (q : ℕ) (above : committedRound l <
     where
       there : (r : ℕ) → held (vertices l) r (leader (memberCount l) r) ≡ true → heldId l (leaderId (memberCount l) r) ≡ true
       there r e =
-          let a : leader (memberCount l) r < 16 = omega (arith, leader-lt (memberCount l) r (omega (arith, S .front .low)), S .front .high) in
+          let a : leader (memberCount l) r < slots = omega (arith, leader-lt (memberCount l) r (omega (arith, S .front .low)), S .front .high) in
           held-id l (S .size) (leaderId (memberCount l) r)
           ∙ ap₂ (λ (x y : ℕ). held (vertices l) x y) (id-round r (leader (memberCount l) r) a) (id-member r (leader (memberCount l) r) a) ∙ e
 
@@ -117,12 +119,12 @@ module _ (l : List ℕ) (S : WellFormed l) (q : ℕ) (above : committedRound l <
     rest = λ i a b. C .journal-rest i a b ∙ S .journal .rest i (omega (arith, C .journal-count)) b;
   }
     where
-      now-held : (r p : ℕ) → 1 ≤ r → r ≤ 32 → has (orderedMask (commit l q) r) p ≡ true → has (heldMask (commit l q) r) p ≡ true
+      now-held : (r p : ℕ) → 1 ≤ r → r ≤ rounds → has (orderedMask (commit l q) r) p ≡ true → has (heldMask (commit l q) r) p ≡ true
       now-held r p a b e =
-          let k : p < 16 = omega (arith, has-bound (memberCount l) (orderedMask (commit l q) r) p (C .ordered-low r a b) e, S .front .high) in
+          let k : p < slots = omega (arith, has-bound (memberCount l) (orderedMask (commit l q) r) p (C .ordered-low r a b) e, S .front .high) in
           held-kept OffLists l (commit l q) F held-off r p a b ∙ was k
         where
-          was : p < 16 → has (heldMask l r) p ≡ true
+          was : p < slots → has (heldMask l r) p ≡ true
           was k =
               let t : orderedId (commit l q) (idOf r p) ≡ true = rw (id-round r p k, id-member r p k) (and-both (round-in r a b) e) in
               ⊎-elim
@@ -136,8 +138,8 @@ module _ (l : List ℕ) (S : WellFormed l) (q : ℕ) (above : committedRound l <
   formed-commit = record {
     size = F .size ∙ S .size;
     front = front-kept OffLists l (commit l q) F off-front off-zeros (S .front);
-    masks = masks-kept OffLists l (commit l q) F (off-front 0 (omega arith)) off-mask (S .masks);
-    cells = cells-kept OffLists l (commit l q) F held-off off-cells (off-front 0 (omega arith)) (S .cells);
+    masks = masks-kept OffLists l (commit l q) F (off-front memberCountAt (omega arith)) off-mask (S .masks);
+    cells = cells-kept OffLists l (commit l q) F held-off off-cells (off-front memberCountAt (omega arith)) (S .cells);
     leaders = commit-leaders-formed;
     journal = commit-journal-formed;
   }
@@ -150,23 +152,23 @@ module _ (l : List ℕ) (S : WellFormed l) (q : ℕ) (above : committedRound l <
 
 -- what a committable round is
 pub committable-round : (l : List ℕ) (q : ℕ) → committable l q ≡ true
-    → (committedRound l < q) × (q ≤ 31) × (committed (memberCount l) (dag l) q ≡ true) × (held (vertices l) q (leader (memberCount l) q) ≡ true)
+    → (committedRound l < q) × (q ≤ votedRounds) × (committed (memberCount l) (dag l) q ≡ true) × (held (vertices l) q (leader (memberCount l) q) ≡ true)
 unfolding committable
 committable-round l q e =
-    let t : (leb q 31 && committed (memberCount l) (dag l) q) ≡ true = and-right (ltb (committedRound l) q) _ e in
-    let c : committed (memberCount l) (dag l) q ≡ true = and-right (leb q 31) _ t in
+    let t : (leb q votedRounds && committed (memberCount l) (dag l) q) ≡ true = and-right (ltb (committedRound l) q) _ e in
+    let c : committed (memberCount l) (dag l) q ≡ true = and-right (leb q votedRounds) _ t in
     (ltb-true _ _ (and-left _ _ e), leb-true _ _ (and-left _ _ t), c, committed-held (memberCount l) (dag l) q c)
 
 -- All commits that follow keep the state formed.
 pub formed-commits : (k : ℕ) (l : List ℕ) → WellFormed l → WellFormed (commitUpTo l k)
 unfolding commitUpTo
 formed-commits zero l S = S
-formed-commits (suc k) l S = go (which (ltb (lowest l) 32)) (formed-commits k (commit l (lowest l)))
+formed-commits (suc k) l S = go (which (ltb (lowest l) rounds)) (formed-commits k (commit l (lowest l)))
   where
-    go : (ltb (lowest l) 32 ≡ true) ⊎ (ltb (lowest l) 32 ≡ false)
+    go : (ltb (lowest l) rounds ≡ true) ⊎ (ltb (lowest l) rounds ≡ false)
         → (WellFormed (commit l (lowest l)) → WellFormed (commitUpTo (commit l (lowest l)) k)) → WellFormed (commitUpTo l (suc k))
     go (inl e) ih =
-        let w = committable-round l (lowest l) (least-sat 32 (committable l) (ltb-true _ _ e)) in
+        let w = committable-round l (lowest l) (least-sat rounds (committable l) (ltb-true _ _ e)) in
         rw e (ih (formed-commit l S (lowest l) (w .0) (w .1) (w .3)))
     go (inr e) ih = rw e S
 
@@ -190,12 +192,16 @@ module _ (l : List ℕ) (S : WellFormed l) where
       → WellFormed (commitAll (raiseRound (putVertex l r p body)))
   formed-vertex r p body e =
       let w = record-passed l r p body (placeQuestions l r p body) e in
-      formed-commits 31 (raiseRound (putVertex l r p body))
+      formed-commits votedRounds (raiseRound (putVertex l r p body))
       (formed-raise (putVertex l r p body) (formed-put l S r p body (w .2) (parents-passed l r p body (w .3))))
 
   -- after an admitted first message
   pub formed-first : (r p : ℕ) (body : List ℕ) → numberOf (firstNo (firstQuestions l r p body)) ≡ 0 → WellFormed (commitAll (hear l r p body))
-  formed-first r p body e = formed-commits 31 (hear l r p body) (formed-hear l S r p body (record-passed l r p body _ e .1))
+  formed-first r p body e = formed-commits votedRounds (hear l r p body) (formed-hear l S r p body (record-passed l r p body _ e .1))
+
+  -- after an admitted timeout or no-vote, whose masks are the round's 3 and 4
+  pub formed-noted : (r p i : ℕ) → timeoutsKind ≤ i → i < orderedKind → numberOf (noteRefusal l r p i) ≡ 0 → WellFormed (addMember l (masksAt r + i) p)
+  formed-noted r p i from to e = let w = note-passed l r p _ e in formed-note l S r p (w .1) (w .2) (w .3) i (omega arith) to (λ d. omega arith)
 
 -- Every call keeps a well-formed state well formed.
 pub keeps : KeepsWellFormed
@@ -204,6 +210,6 @@ keeps l size e =
     let S = formed l size e in (
       λ r p body. leaves _ l _ S (formed-vertex l S r p body),
       λ r p body. leaves _ l _ S (formed-first l S r p body),
-      λ r p. leaves _ l _ S (λ d. let w = note-passed l r p (timeoutsMask l r) d in formed-raise _ (formed-timeout l S r p (w .1) (w .2) (w .3))),
-      λ r p. leaves _ l _ S (λ d. let w = note-passed l r p (noVotesMask l r) d in formed-no-vote l S r p (w .1) (w .2) (w .3)),
+      λ r p. leaves _ l _ S (λ d. formed-raise _ (formed-noted l S r p timeoutsKind (omega arith) (omega arith) d)),
+      λ r p. leaves _ l _ S (formed-noted l S r p noVotesKind (omega arith) (omega arith)),
     )

@@ -1,5 +1,5 @@
 pub mod Copying
-pub mod Search
+pub mod Missing
 pub mod Turns
 pub mod Writing
 pub mod Marks

@@ -6,10 +6,10 @@ use mathlib.Core.List.{List}
 use Prim.Native.Nat.{ℕ, zero, suc, _+_, _-_, _^_, _≤_, _<_}
 use native.Mathlib.Omega.{arith}
 use lib.Dec.{eqb, ltb}
-use lib.ListN.{length, getD, set, take, drop, length-set}
-use lib.Seq.{getD-set-same, getD-set-other, paste, length-paste}
+use lib.ListN.{length, getD, set, length-set}
+use lib.Seq.{getD-set-same, getD-set-other, length-paste}
 use borrow.Author.Tests.{eqb-true, eqb-false, eq-eqb, ltb-true, ltb-false}
-use Rattle.record.specs.Members.{legal, leader, has, add, idRound, idMember, isRound}
+use Rattle.record.specs.Members.{legal, leader, has, add, idRound, idMember, isRound, rounds, slots}
 use Rattle.record.specs.Refusals.{numberOf}
 use Rattle.record.specs.Questions.{bodyRefusal}
 use Rattle.record.specs.Admitted.{Admitted}
@@ -18,14 +18,16 @@ use Rattle.record.proofs.Masks.{has-zero, has-add, add-lt}
 use Rattle.record.proofs.Turn.{admitted}
 use Rattle.record.proofs.Rounds.{round-range}
 use Rattle.protocol.specs.Dag.{votes}
-use Rattle.replica.specs.Layout.{masksAt, heldAt, heardAt, votesAt, timeoutsAt, noVotesAt, cellAt}
-use Rattle.replica.specs.State.{memberCount, currentRound, heldMask, heardMask, votesMask, cell, heldId}
+use Rattle.record.specs.Layout.{bodySize, weakSlots}
+use Rattle.replica.specs.Layout.{votesKind, timeoutsKind, noVotesKind, orderedKind, currentRoundAt}
+use Rattle.replica.specs.Layout.{masksAt, heldAt, heardAt, votesAt, timeoutsAt, noVotesAt, cellAt, kinds, memberCountAt, zerosAt, heardKind}
+use Rattle.replica.specs.State.{memberCount, currentRound, heldMask, heardMask, votesMask, cell, heldId, addMember}
 use Rattle.replica.specs.Parents.{parentsHeld}
 use Rattle.replica.proofs.Formed.{Masks, Cells, WellFormed}
 use Rattle.replica.proofs.Keeping.{Keeps, keeps-set, keeps-part, parents-more, front-kept, masks-kept, cells-kept, held-kept, held-id-kept}
 use Rattle.replica.proofs.Keeping.{leaders-kept, journal-kept}
 use Rattle.commits.specs.Commit.{passable, highestPassable, raiseRound}
-use Rattle.ordering.specs.Calls.{addMember, putVertex, hear}
+use Rattle.ordering.specs.Calls.{putVertex, hear}
 use Rattle.ordering.proofs.Copying.{paste-before, paste-after, paste-part}
 
 -- ---- the current round
@@ -41,7 +43,7 @@ highest-high l (suc k) = go (which (passable l (suc k))) (highest-high l k)
     go (inr e) ih = rw e (omega arith)
 
 -- any round from 1 to 33
-pub formed-round : (l : List ℕ) (x : ℕ) → 1 ≤ x → x ≤ 33 → WellFormed l → WellFormed (set l 1 x)
+pub formed-round : (l : List ℕ) (x : ℕ) → 1 ≤ x → x ≤ rounds + 1 → WellFormed l → WellFormed (set l currentRoundAt x)
 formed-round l x a b S = record {
   size = p .size ∙ S .size;
   front = record {
@@ -50,7 +52,7 @@ formed-round l x a b S = record {
     high = rw n (S .front .high);
     round-low = rw here a;
     round-high = rw here b;
-    zeros = λ i k. p .same (5 + i) (λ e. omega arith) ∙ S .front .zeros i k;
+    zeros = λ i k. p .same (zerosAt + i) (λ e. omega arith) ∙ S .front .zeros i k;
   };
   masks = masks-kept K l l′ p (λ e. omega arith) (λ r i c d k e. omega arith) (S .masks);
   cells = cells-kept K l l′ p held (λ j c e. omega arith) (λ e. omega arith) (S .cells);
@@ -61,7 +63,7 @@ formed-round l x a b S = record {
 }
   where
     l′ : List ℕ
-    l′ = set l 1 x
+    l′ = set l currentRoundAt x
 
     K : ℕ → Type 0
     K j = j ≡ 1 → ⊥
@@ -70,21 +72,22 @@ formed-round l x a b S = record {
     p = keeps-set K l 1 x (λ j k e. k e)
 
     n : memberCount l′ ≡ memberCount l
-    n = p .same 0 (λ e. omega arith)
+    n = p .same memberCountAt (λ e. omega arith)
 
     here : currentRound l′ ≡ x
     here = getD-set-same l 1 x 0 (omega (arith, S .size))
 
-    held : (r : ℕ) → 1 ≤ r → r ≤ 32 → K (heldAt r)
+    held : (r : ℕ) → 1 ≤ r → r ≤ rounds → K (heldAt r)
     held r c d e = omega arith
 
 -- The round rule keeps the state formed.
 pub formed-raise : (l : List ℕ) → WellFormed l → WellFormed (raiseRound l)
 unfolding raiseRound
-formed-raise l S = go (which (ltb (currentRound l) (1 + highestPassable l 32)))
+formed-raise l S = go (which (ltb (currentRound l) (1 + highestPassable l rounds)))
   where
-    go : (ltb (currentRound l) (1 + highestPassable l 32) ≡ true) ⊎ (ltb (currentRound l) (1 + highestPassable l 32) ≡ false) → WellFormed (raiseRound l)
-    go (inl e) = rw e (formed-round l (1 + highestPassable l 32) (omega arith) (omega (arith, highest-high l 32)) S)
+    go : (ltb (currentRound l) (1 + highestPassable l rounds) ≡ true) ⊎ (ltb (currentRound l) (1 + highestPassable l rounds) ≡ false)
+        → WellFormed (raiseRound l)
+    go (inl e) = rw e (formed-round l (1 + highestPassable l rounds) (omega arith) (omega (arith, highest-high l rounds)) S)
     go (inr e) = rw e S
 
 -- ---- a member added to a mask
@@ -129,7 +132,7 @@ module _ (l : List ℕ) (at p : ℕ) (fits : at < length l) where
 
 -- j is none of the masks 1 to 4 of a round: heard, votes, timeouts, no-votes
 abbrev OffNotes : ℕ → Type 0
-OffNotes j = (r i : ℕ) → 1 ≤ r → r ≤ 32 → 1 ≤ i → i < 5 → j ≡ masksAt r + i → ⊥
+OffNotes j = (r i : ℕ) → 1 ≤ r → r ≤ rounds → 1 ≤ i → i < weakSlots → j ≡ masksAt r + i → ⊥
 
 -- a state in which only those masks differ
 formed-notes : (l l′ : List ℕ) → Keeps OffNotes l l′ → Masks l′ → WellFormed l → WellFormed l′
@@ -144,11 +147,11 @@ formed-notes l l′ p M S = record {
       (λ j h k r i a b c d e. omega arith) (λ r q a b e. held-kept OffNotes l l′ p held r q a b ∙ e) (S .journal);
 }
   where
-    held : (s : ℕ) → 1 ≤ s → s ≤ 32 → OffNotes (heldAt s)
+    held : (s : ℕ) → 1 ≤ s → s ≤ rounds → OffNotes (heldAt s)
     held s h k r i a b c d e = omega arith
 
-module _ (l : List ℕ) (S : WellFormed l) (r p : ℕ) (low : 1 ≤ r) (high : r ≤ 32) (few : p < memberCount l) where
-  module _ (i : ℕ) (from : 1 ≤ i) (to : i < 5) where
+module _ (l : List ℕ) (S : WellFormed l) (r p : ℕ) (low : 1 ≤ r) (high : r ≤ rounds) (few : p < memberCount l) where
+  module _ (i : ℕ) (from : 1 ≤ i) (to : i < weakSlots) where
     note-fits : masksAt r + i < length l
     note-fits = omega (arith, S .size)
 
@@ -163,7 +166,7 @@ module _ (l : List ℕ) (S : WellFormed l) (r p : ℕ) (low : 1 ≤ r) (high : r
     note-low j h = rw note-members (add-low l (masksAt r + i) p note-fits (memberCount l) j few h)
 
     -- where the votes are within heard, the masks are as they should be
-    note-masks : ((s q : ℕ) → 1 ≤ s → s ≤ 32 → has (votesMask (addMember l (masksAt r + i) p) s) q ≡ true
+    note-masks : ((s q : ℕ) → 1 ≤ s → s ≤ rounds → has (votesMask (addMember l (masksAt r + i) p) s) q ≡ true
         → has (heardMask (addMember l (masksAt r + i) p) s) q ≡ true)
         → votesMask (addMember l (masksAt r + i) p) 1 ≡ 0 → Masks (addMember l (masksAt r + i) p)
     note-masks f g = record {
@@ -195,14 +198,6 @@ module _ (l : List ℕ) (S : WellFormed l) (r p : ℕ) (low : 1 ≤ r) (high : r
 
       same : (s q : ℕ) → 1 ≤ s → votesAt s ≡ votesAt r → p ≡ q → has (heardMask l s) q ≡ true
       same s q a c d = ap₂ (λ (x y : ℕ). has (heardMask l x) y) (omega arith) (sym d) ∙ e
-
-  -- a timeout
-  pub formed-timeout : WellFormed (addMember l (timeoutsAt r) p)
-  formed-timeout = formed-note 3 (omega arith) (omega arith) (λ e. omega arith)
-
-  -- a no-vote
-  pub formed-no-vote : WellFormed (addMember l (noVotesAt r) p)
-  formed-no-vote = formed-note 4 (omega arith) (omega arith) (λ e. omega arith)
 
   -- ---- a first message
 
@@ -242,10 +237,10 @@ module _ (l : List ℕ) (S : WellFormed l) (r p : ℕ) (body : List ℕ) (ok : n
   low : 1 ≤ r
   low = A .round-low
 
-  high : r ≤ 32
+  high : r ≤ rounds
   high = A .round-high
 
-  few : p < 16
+  few : p < slots
   few = omega (arith, A .source-low, S .front .high)
 
   marked : List ℕ
@@ -258,46 +253,46 @@ module _ (l : List ℕ) (S : WellFormed l) (r p : ℕ) (body : List ℕ) (ok : n
   unfolding marked addMember
   mark-size = length-set l (heldAt r) (add (getD l (heldAt r) 0) p)
 
-  cell-fits : cellAt r p + 10 ≤ length marked
+  cell-fits : cellAt r p + bodySize ≤ length marked
   cell-fits = rw mark-size (omega (arith, low, high, few, S .size))
 
   -- the words that stay
   OffVertex : ℕ → Type 0
-  OffVertex j = (j ≡ heldAt r → ⊥) × (cellAt r p ≤ j → j < cellAt r p + 10 → ⊥)
+  OffVertex j = (j ≡ heldAt r → ⊥) × (cellAt r p ≤ j → j < cellAt r p + bodySize → ⊥)
 
-  word : (j : ℕ) → (cellAt r p ≤ j → j < cellAt r p + 10 → ⊥) → getD (putVertex l r p body) j 0 ≡ getD marked j 0
+  word : (j : ℕ) → (cellAt r p ≤ j → j < cellAt r p + bodySize → ⊥) → getD (putVertex l r p body) j 0 ≡ getD marked j 0
   unfolding putVertex marked
   word j h = ⊎-elim
-      (λ e. paste-before marked (cellAt r p) body 10 cell-fits (A .size) j (ltb-true j (cellAt r p) e))
-      (λ e. paste-after marked (cellAt r p) body 10 cell-fits (A .size) j (past (ltb-false j (cellAt r p) e) (which (ltb j (cellAt r p + 10)))))
+      (λ e. paste-before marked (cellAt r p) body bodySize cell-fits (A .size) j (ltb-true j (cellAt r p) e))
+      (λ e. paste-after marked (cellAt r p) body bodySize cell-fits (A .size) j (past (ltb-false j (cellAt r p) e) (which (ltb j (cellAt r p + bodySize)))))
       (which (ltb j (cellAt r p)))
     where
-      past : cellAt r p ≤ j → (ltb j (cellAt r p + 10) ≡ true) ⊎ (ltb j (cellAt r p + 10) ≡ false) → cellAt r p + 10 ≤ j
-      past a (inl e) = absurd (h a (ltb-true j (cellAt r p + 10) e))
-      past a (inr e) = ltb-false j (cellAt r p + 10) e
+      past : cellAt r p ≤ j → (ltb j (cellAt r p + bodySize) ≡ true) ⊎ (ltb j (cellAt r p + bodySize) ≡ false) → cellAt r p + bodySize ≤ j
+      past a (inl e) = absurd (h a (ltb-true j (cellAt r p + bodySize) e))
+      past a (inr e) = ltb-false j (cellAt r p + bodySize) e
 
   put-keeps : Keeps OffVertex l (putVertex l r p body)
   unfolding OffVertex
   put-keeps = record { size = put-size ∙ mark-size; same = λ j k. word j (k .1) ∙ other j (k .0) }
     where
       put-size : length (putVertex l r p body) ≡ length marked
-      put-size = unfold putVertex marked in length-paste marked (cellAt r p) body 10 cell-fits (omega (arith, A .size))
+      put-size = unfold putVertex marked in length-paste marked (cellAt r p) body bodySize cell-fits (omega (arith, A .size))
 
       other : (j : ℕ) → (j ≡ heldAt r → ⊥) → getD marked j 0 ≡ getD l j 0
       other j h = unfold marked in add-other l (heldAt r) p mark-fits j h
 
   put-cell : cell (putVertex l r p body) r p ≡ body
-  put-cell = unfold putVertex marked in paste-part marked (cellAt r p) body 10 cell-fits (A .size)
+  put-cell = unfold putVertex marked in paste-part marked (cellAt r p) body bodySize cell-fits (A .size)
 
   -- the held masks
-  mask-word : (s : ℕ) → 1 ≤ s → s ≤ 32 → heldMask (putVertex l r p body) s ≡ heldMask (addMember l (heldAt r) p) s
+  mask-word : (s : ℕ) → 1 ≤ s → s ≤ rounds → heldMask (putVertex l r p body) s ≡ heldMask (addMember l (heldAt r) p) s
   unfolding marked
   mask-word s a b = word (heldAt s) (λ c d. omega arith)
 
-  put-more : (s q : ℕ) → 1 ≤ s → s ≤ 32 → has (heldMask l s) q ≡ true → has (heldMask (putVertex l r p body) s) q ≡ true
+  put-more : (s q : ℕ) → 1 ≤ s → s ≤ rounds → has (heldMask l s) q ≡ true → has (heldMask (putVertex l r p body) s) q ≡ true
   put-more s q a b h = ap (λ (m : ℕ). has m q) (mask-word s a b) ∙ add-more l (heldAt r) p mark-fits (heldAt s) q h
 
-  put-new : (s q : ℕ) → 1 ≤ s → s ≤ 32 → has (heldMask (putVertex l r p body) s) q ≡ true → (has (heldMask l s) q ≡ true) ⊎ ((s ≡ r) × (p ≡ q))
+  put-new : (s q : ℕ) → 1 ≤ s → s ≤ rounds → has (heldMask (putVertex l r p body) s) q ≡ true → (has (heldMask l s) q ≡ true) ⊎ ((s ≡ r) × (p ≡ q))
   put-new s q a b h = ⊎-elim (λ c. inl c) (λ c. let e = c .0 in inr (omega (arith, low), c .1))
       (add-new l (heldAt r) p mark-fits (heldAt s) q (ap (λ (m : ℕ). has m q) (sym (mask-word s a b)) ∙ h))
 
@@ -312,49 +307,49 @@ module _ (l : List ℕ) (S : WellFormed l) (r p : ℕ) (body : List ℕ) (ok : n
 
   members : memberCount (putVertex l r p body) ≡ memberCount l
   unfolding OffVertex
-  members = put-keeps .same 0 (λ e. omega arith, λ a b. omega arith)
+  members = put-keeps .same memberCountAt (λ e. omega arith, λ a b. omega arith)
 
   -- a word of another mask
-  off-mask : (s i : ℕ) → 1 ≤ s → s ≤ 32 → 1 ≤ i → i < 6 → OffVertex (masksAt s + i)
+  off-mask : (s i : ℕ) → 1 ≤ s → s ≤ rounds → 1 ≤ i → i < kinds → OffVertex (masksAt s + i)
   unfolding OffVertex
   off-mask s i a b c d = (λ e. omega arith, λ e f. omega arith)
 
   put-masks : Masks (putVertex l r p body)
   put-masks = record {
     held-low = λ s a b. rw (members, mask-word s a b) (add-low l (heldAt r) p mark-fits (memberCount l) (heldAt s) (A .source-low) (M .held-low s a b));
-    heard-low = λ s a b. rw (members, same s 1 a b (omega arith) (omega arith)) (M .heard-low s a b);
-    votes-low = λ s a b. rw (members, same s 2 a b (omega arith) (omega arith)) (M .votes-low s a b);
-    timeouts-low = λ s a b. rw (members, same s 3 a b (omega arith) (omega arith)) (M .timeouts-low s a b);
-    no-votes-low = λ s a b. rw (members, same s 4 a b (omega arith) (omega arith)) (M .no-votes-low s a b);
-    votes-heard = λ s q a b h. ap (λ (m : ℕ). has m q) (same s 1 a b (omega arith) (omega arith))
-        ∙ M .votes-heard s q a b (ap (λ (m : ℕ). has m q) (sym (same s 2 a b (omega arith) (omega arith))) ∙ h);
-    votes-first = same 1 2 (omega arith) (omega arith) (omega arith) (omega arith) ∙ M .votes-first;
+    heard-low = λ s a b. rw (members, same s heardKind a b (omega arith) (omega arith)) (M .heard-low s a b);
+    votes-low = λ s a b. rw (members, same s votesKind a b (omega arith) (omega arith)) (M .votes-low s a b);
+    timeouts-low = λ s a b. rw (members, same s timeoutsKind a b (omega arith) (omega arith)) (M .timeouts-low s a b);
+    no-votes-low = λ s a b. rw (members, same s noVotesKind a b (omega arith) (omega arith)) (M .no-votes-low s a b);
+    votes-heard = λ s q a b h. ap (λ (m : ℕ). has m q) (same s heardKind a b (omega arith) (omega arith))
+        ∙ M .votes-heard s q a b (ap (λ (m : ℕ). has m q) (sym (same s votesKind a b (omega arith) (omega arith))) ∙ h);
+    votes-first = same 1 votesKind (omega arith) (omega arith) (omega arith) (omega arith) ∙ M .votes-first;
   }
     where
       M : Masks l
       M = S .masks
 
-      same : (s i : ℕ) → 1 ≤ s → s ≤ 32 → 1 ≤ i → i < 6 → getD (putVertex l r p body) (masksAt s + i) 0 ≡ getD l (masksAt s + i) 0
+      same : (s i : ℕ) → 1 ≤ s → s ≤ rounds → 1 ≤ i → i < kinds → getD (putVertex l r p body) (masksAt s + i) 0 ≡ getD l (masksAt s + i) 0
       same s i a b c d = put-keeps .same (masksAt s + i) (off-mask s i a b c d)
 
   -- the other cells
-  other-cell : (s q : ℕ) → (cellAt s q ≡ cellAt r p → ⊥) → (j : ℕ) → cellAt s q ≤ j → j < cellAt s q + 10 → OffVertex j
+  other-cell : (s q : ℕ) → (cellAt s q ≡ cellAt r p → ⊥) → (j : ℕ) → cellAt s q ≤ j → j < cellAt s q + bodySize → OffVertex j
   unfolding OffVertex
   other-cell s q h j a b = (λ e. omega (arith, low, high), λ c d. h (omega arith))
 
   cell-same : (s q : ℕ) → (cellAt s q ≡ cellAt r p → ⊥) → cell (putVertex l r p body) s q ≡ cell l s q
-  cell-same s q h = keeps-part OffVertex l (putVertex l r p body) put-keeps (cellAt s q) 10 (other-cell s q h)
+  cell-same s q h = keeps-part OffVertex l (putVertex l r p body) put-keeps (cellAt s q) bodySize (other-cell s q h)
 
-  same-place : (s q : ℕ) → 1 ≤ s → q < 16 → cellAt s q ≡ cellAt r p → (s ≡ r) × (q ≡ p)
+  same-place : (s q : ℕ) → 1 ≤ s → q < slots → cellAt s q ≡ cellAt r p → (s ≡ r) × (q ≡ p)
   same-place s q a b e = let d : s ≡ r = omega (arith, low, few) in (d, omega arith)
 
   put-cells : Cells (putVertex l r p body)
   put-cells = record { admits = admits; parents = parents; zero-cell = zeros }
     where
-      old : (s q : ℕ) → 1 ≤ s → s ≤ 32 → (cellAt s q ≡ cellAt r p → ⊥) → has (heldMask (putVertex l r p body) s) q ≡ true → has (heldMask l s) q ≡ true
+      old : (s q : ℕ) → 1 ≤ s → s ≤ rounds → (cellAt s q ≡ cellAt r p → ⊥) → has (heldMask (putVertex l r p body) s) q ≡ true → has (heldMask l s) q ≡ true
       old s q a b h e = ⊎-elim (λ c. c) (λ c. absurd (h (ap₂ cellAt (c .0) (sym (c .1))))) (put-new s q a b e)
 
-      admits : (s q : ℕ) → 1 ≤ s → s ≤ 32 → q < 16 → has (heldMask (putVertex l r p body) s) q ≡ true
+      admits : (s q : ℕ) → 1 ≤ s → s ≤ rounds → q < slots → has (heldMask (putVertex l r p body) s) q ≡ true
           → numberOf (bodyRefusal (memberCount (putVertex l r p body)) s q (cell (putVertex l r p body) s q)) ≡ 0
       admits s q a b k h = go (which (eqb (cellAt s q) (cellAt r p)))
         where
@@ -367,7 +362,7 @@ module _ (l : List ℕ) (S : WellFormed l) (r p : ℕ) (body : List ℕ) (ok : n
               let d = eqb-false (cellAt s q) (cellAt r p) e in
               ap₂ (λ (n : ℕ) (c : List ℕ). numberOf (bodyRefusal n s q c)) members (cell-same s q d) ∙ S .cells .admits s q a b k (old s q a b d h)
 
-      parents : (s q : ℕ) → 1 ≤ s → s ≤ 32 → q < 16 → has (heldMask (putVertex l r p body) s) q ≡ true
+      parents : (s q : ℕ) → 1 ≤ s → s ≤ rounds → q < slots → has (heldMask (putVertex l r p body) s) q ≡ true
           → parentsHeld (putVertex l r p body) s (cell (putVertex l r p body) s q) ≡ true
       parents s q a b k h = parents-more l (putVertex l r p body) put-id s (cell (putVertex l r p body) s q) (go (which (eqb (cellAt s q) (cellAt r p))))
         where
@@ -379,7 +374,7 @@ module _ (l : List ℕ) (S : WellFormed l) (r p : ℕ) (body : List ℕ) (ok : n
               let d = eqb-false (cellAt s q) (cellAt r p) e in
               ap (parentsHeld l s) (cell-same s q d) ∙ S .cells .parents s q a b k (old s q a b d h)
 
-      zeros : (s q i : ℕ) → 1 ≤ s → s ≤ 32 → q < 16 → i < 10 → has (heldMask (putVertex l r p body) s) q ≡ false
+      zeros : (s q i : ℕ) → 1 ≤ s → s ≤ rounds → q < slots → i < bodySize → has (heldMask (putVertex l r p body) s) q ≡ false
           → getD (putVertex l r p body) (cellAt s q + i) 0 ≡ 0
       zeros s q i a b k m h = go (which (eqb (cellAt s q) (cellAt r p)))
         where
@@ -403,7 +398,7 @@ module _ (l : List ℕ) (S : WellFormed l) (r p : ℕ) (body : List ℕ) (ok : n
     cells = put-cells;
     leaders = leaders-kept OffVertex l (putVertex l r p body) put-keeps (λ e. omega arith, λ b c. omega arith) (λ e. omega arith, λ b c. omega arith)
         (λ e. omega arith, λ b c. omega arith) (λ j a b. (λ e. omega (arith, low, high), λ c d. omega arith)) put-id (S .leaders);
-    journal = journal-kept OffVertex l (putVertex l r p body) put-keeps (λ s a b. off-mask s 5 a b (omega arith) (omega arith)) (
+    journal = journal-kept OffVertex l (putVertex l r p body) put-keeps (λ s a b. off-mask s orderedKind a b (omega arith) (omega arith)) (
       λ e. omega arith,
       λ b c. omega arith,
     )

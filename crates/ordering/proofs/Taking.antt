@@ -1,42 +1,53 @@
 -- The calls put together: refused with the words as they were, or admitted step by step. Assumes nothing.
-use mathlib.Core.Path.{_≡_, refl, sym, ap, _∙_, subst}
+use mathlib.Core.Path.{_≡_, refl, sym, ap, _∙_}
 use mathlib.Core.Bool.{true}
+use mathlib.Core.Logic.{⊎-elim}
 use mathlib.Core.List.{List, [], _∷_}
 use Prim.Native.Nat.{ℕ, _+_, _≤_, _<_}
 use native.Mathlib.Omega.{arith}
+use lib.Dec.{eqb}
 use lib.ListN.{length, take, drop, getD, length-drop}
 use lib.Seq.{take-all, getD-drop}
+use borrow.Author.Tests.{eqb-true}
 use Rattle.record.specs.Refusals.{numberOf, firstNo}
-use Rattle.record.specs.Layout.{roundOf, sourceOf, bodyOf, strongOf}
+use Rattle.record.specs.Layout.{roundOf, sourceOf, bodyOf, strongOf, recordSize, bodySize, bodyPlace}
 use Rattle.record.specs.Questions.{bodyRefusal}
 use Rattle.record.specs.Admitted.{Admitted}
 use Rattle.record.specs.declared.refusal.Refusal.{Refusal}
-use Rattle.replica.specs.Layout.{stateSize, masksAt}
-use Rattle.replica.specs.State.{memberCount, leaderCount, journalCount, timeoutsMask, noVotesMask}
+use Rattle.record.proofs.Booleans.{which}
+use Rattle.record.specs.Members.{rounds, slots}
+use Rattle.replica.specs.Layout.{stateSize, masksAt, timeoutsAt, kinds, leaderCountAt, journalCountAt, timeoutsKind}
+use Rattle.replica.specs.State.{memberCount, addMember}
 use Rattle.replica.specs.Parents.{parentsHeld}
 use Rattle.replica.specs.WellFormed.{wellFormed}
-use Rattle.replica.specs.Outcome.{Outcome, told, refusedBy, admitted, outcome}
+use Rattle.replica.specs.Outcome.{Outcome, told, nothingAdded, admitted, outcome}
 use Rattle.replica.specs.declared.answer.Answer.{Answer}
 use Rattle.replica.proofs.Formed.{WellFormed, well-formed}
 use Rattle.commits.specs.Commit.{raiseRound, commitAll}
-use Rattle.ordering.specs.Calls.{addMember, placeQuestions, vertexQuestions, putVertex, takeBody, takeVertex, firstQuestions, hear}
-use Rattle.ordering.specs.Calls.{takeFirstBody, takeFirstMessage, noteQuestions}
+use Rattle.ordering.specs.Calls.{placeQuestions, vertexQuestions, putVertex, takeBody, takeVertex, firstQuestions, hear}
+use Rattle.ordering.specs.Calls.{takeFirstBody, takeFirstMessage, noteRefusal, takeNote, takeTimeout}
 use Rattle.ordering.proofs.Turns.{outcome-refused, outcome-admitted, record-passed, parents-passed, note-passed}
 use Rattle.ordering.proofs.Heard.{hear-body}
 use Rattle.ordering.proofs.Counts.{same-growth, no-growth}
-use Rattle.ordering.proofs.Writing.{Calm, calm-self, calm-then, raise-calm, put-calm, hear-calm, note-calm}
+use Rattle.ordering.proofs.Writing.{Calm, calm-then, raise-calm, put-calm, hear-calm, note-calm}
 use Rattle.ordering.proofs.Marks.{formed-put, formed-raise, formed-hear}
 
 -- an answer with a refusal, where the words stay
-told-refused : (l : List ℕ) (a : Answer) (why : Refusal) → a ≡ refusedBy why → told a l ≡ told (refusedBy why) l
+told-refused : (l : List ℕ) (a : Answer) (why : Refusal) → a ≡ nothingAdded why → told a l ≡ told (nothingAdded why) l
 told-refused l a why e = ap (λ (x : Answer). told x l) e
+
+-- an outcome has the number 0 only where no question stopped the call
+outcome-zero : (why : Refusal) (l after : List ℕ) → outcome why l after .number ≡ 0 → numberOf why ≡ 0
+unfolding outcome
+outcome-zero why l after h = ⊎-elim (λ e. eqb-true (numberOf why) 0 e) (λ e. rw e at h) (which (eqb (numberOf why) 0))
 
 -- the counts after a calm change
 calm-growth : {l m : List ℕ} → Calm l m → (after : List ℕ) → admitted m after ≡ admitted l after
-calm-growth {l} {m} C after = same-growth l m after (C .head 3 (omega arith) (λ e. omega arith)) (C .head 4 (omega arith) (λ e. omega arith))
+calm-growth {l} {m} C after = same-growth l m after (C .head leaderCountAt (omega arith) (λ e. omega arith))
+    (C .head journalCountAt (omega arith) (λ e. omega arith))
 
 calm-still : {l m : List ℕ} → Calm l m → record { number = 0; id = 0; leaders = 0; journal = 0; words = m } ≡ admitted l m
-calm-still {l} {m} C = no-growth l m (C .head 3 (omega arith) (λ e. omega arith)) (C .head 4 (omega arith) (λ e. omega arith))
+calm-still {l} {m} C = no-growth l m (C .head leaderCountAt (omega arith) (λ e. omega arith)) (C .head journalCountAt (omega arith) (λ e. omega arith))
 
 calm-count : {l m : List ℕ} → Calm l m → memberCount l ≡ memberCount m
 calm-count C = sym (C .head 0 (omega arith) (λ e. omega arith))
@@ -59,16 +70,16 @@ ready n l S e = record { size = S .size; formed = well-formed l S; members = e; 
 pub record VertexTaken (l rec : List ℕ) : Type 0 where
   pub formed : WellFormed l
   pub admit : Admitted (memberCount l) (roundOf rec) (sourceOf rec) (bodyOf rec)
-  pub long : length rec ≡ 12
-  pub few : sourceOf rec < 16
-  pub part : length (take 10 (drop 2 rec)) ≡ 10
-  pub put : (m : List ℕ) → m ≡ putVertex l (roundOf rec) (sourceOf rec) (take 10 (drop 2 rec)) → Ready (memberCount l) m
-  pub raised : (m r : List ℕ) → m ≡ putVertex l (roundOf rec) (sourceOf rec) (take 10 (drop 2 rec)) → r ≡ raiseRound m → Ready (memberCount l) r
-  pub done : (m r : List ℕ) (o : Outcome) → m ≡ putVertex l (roundOf rec) (sourceOf rec) (take 10 (drop 2 rec)) → r ≡ raiseRound m
+  pub long : length rec ≡ recordSize
+  pub few : sourceOf rec < slots
+  pub part : length (take bodySize (drop bodyPlace rec)) ≡ bodySize
+  pub put : (m : List ℕ) → m ≡ putVertex l (roundOf rec) (sourceOf rec) (take bodySize (drop bodyPlace rec)) → Ready (memberCount l) m
+  pub raised : (m r : List ℕ) → m ≡ putVertex l (roundOf rec) (sourceOf rec) (take bodySize (drop bodyPlace rec)) → r ≡ raiseRound m → Ready (memberCount l) r
+  pub done : (m r : List ℕ) (o : Outcome) → m ≡ putVertex l (roundOf rec) (sourceOf rec) (take bodySize (drop bodyPlace rec)) → r ≡ raiseRound m
       → o ≡ admitted r (commitAll r) → o ≡ takeVertex l rec
 
 module _ (l rec : List ℕ) (why : Refusal) (e : why ≡ firstNo (vertexQuestions l (roundOf rec) (sourceOf rec) (bodyOf rec))) where
-  pub vertex-refused : (numberOf why ≡ 0 → ⊥) → (a : Answer) → a ≡ refusedBy why → told a l ≡ takeVertex l rec
+  pub vertex-refused : (numberOf why ≡ 0 → ⊥) → (a : Answer) → a ≡ nothingAdded why → told a l ≡ takeVertex l rec
   unfolding takeBody
   vertex-refused h a d = told-refused l a why d ∙ outcome-refused why _ l _ e h
 
@@ -78,11 +89,11 @@ module _ (l rec : List ℕ) (why : Refusal) (e : why ≡ firstNo (vertexQuestion
         × (numberOf (firstNo (placeQuestions l (roundOf rec) (sourceOf rec) (bodyOf rec))) ≡ 0)
     passed = record-passed l (roundOf rec) (sourceOf rec) (bodyOf rec) (placeQuestions l (roundOf rec) (sourceOf rec) (bodyOf rec)) (sym (ap numberOf e) ∙ h)
 
-    few : sourceOf rec < 16
+    few : sourceOf rec < slots
     few = omega (arith, passed .1 .source-low, passed .0 .front .high)
 
-    whole : take 10 (drop 2 rec) ≡ bodyOf rec
-    whole = take-all 10 (drop 2 rec) (omega (arith, passed .1 .size))
+    whole : take bodySize (drop bodyPlace rec) ≡ bodyOf rec
+    whole = take-all bodySize (drop bodyPlace rec) (omega (arith, passed .1 .size))
 
     calm : Calm l (putVertex l (roundOf rec) (sourceOf rec) (bodyOf rec))
     calm = put-calm l (roundOf rec) (sourceOf rec) (bodyOf rec) (passed .0 .size) (passed .1 .round-low) (passed .1 .round-high) few (passed .1 .size)
@@ -103,7 +114,7 @@ module _ (l rec : List ℕ) (why : Refusal) (e : why ≡ firstNo (vertexQuestion
     vertex-taken = record {
       formed = passed .0;
       admit = passed .1;
-      long = omega (arith, passed .1 .size, length-drop 2 rec);
+      long = omega (arith, passed .1 .size, length-drop bodyPlace rec);
       few = few;
       part = rw whole (passed .1 .size);
       put = λ m d. rw (d, whole) (ready _ _ put-formed (calm-count calm));
@@ -117,14 +128,14 @@ module _ (l rec : List ℕ) (why : Refusal) (e : why ≡ firstNo (vertexQuestion
 pub record FirstTaken (l rec : List ℕ) : Type 0 where
   pub formed : WellFormed l
   pub admit : Admitted (memberCount l) (roundOf rec) (sourceOf rec) (bodyOf rec)
-  pub long : length rec ≡ 12
+  pub long : length rec ≡ recordSize
   pub strong : roundOf rec ≡ 1 → getD rec 2 0 ≡ 0
   pub heard : (m : List ℕ) → m ≡ hear l (roundOf rec) (sourceOf rec) (getD rec 2 0 ∷ []) → Ready (memberCount l) m
   pub done : (m : List ℕ) (o : Outcome) → m ≡ hear l (roundOf rec) (sourceOf rec) (getD rec 2 0 ∷ []) → o ≡ admitted m (commitAll m)
       → o ≡ takeFirstMessage l rec
 
 module _ (l rec : List ℕ) (why : Refusal) (e : why ≡ firstNo (firstQuestions l (roundOf rec) (sourceOf rec) (bodyOf rec))) where
-  pub first-refused : (numberOf why ≡ 0 → ⊥) → (a : Answer) → a ≡ refusedBy why → told a l ≡ takeFirstMessage l rec
+  pub first-refused : (numberOf why ≡ 0 → ⊥) → (a : Answer) → a ≡ nothingAdded why → told a l ≡ takeFirstMessage l rec
   unfolding takeFirstBody
   first-refused h a d = told-refused l a why d ∙ outcome-refused why _ l _ e h
 
@@ -145,36 +156,31 @@ module _ (l rec : List ℕ) (why : Refusal) (e : why ≡ firstNo (firstQuestions
     first-taken = record {
       formed = first-passed .0;
       admit = first-passed .1;
-      long = omega (arith, first-passed .1 .size, length-drop 2 rec);
+      long = omega (arith, first-passed .1 .size, length-drop bodyPlace rec);
       strong = λ z. sym (getD-drop 2 rec 0 0) ∙ first-passed .1 .strong-first z;
       heard = λ m d. rw (d, hear-body l (roundOf rec) (sourceOf rec) rec)
           (ready _ _ (formed-hear l (first-passed .0) (roundOf rec) (sourceOf rec) (bodyOf rec) (first-passed .1)) (calm-count calm-heard));
       done = λ m o d f. f ∙ rw (d, hear-body l (roundOf rec) (sourceOf rec) rec) first-done;
     }
 
--- ---- a timeout and a no-vote: the signer joins the i-th mask of the round, and after it the words are changed by `after`
+-- ---- a timeout and a no-vote: the signer joins the i-th mask of the round
 
 -- what each later step may use of a note that no question stopped
-pub record NoteTaken (i : ℕ) (after : List ℕ → List ℕ) (l : List ℕ) (r p : ℕ) : Type 0 where
+pub record NoteTaken (l : List ℕ) (r p i : ℕ) : Type 0 where
   pub formed : WellFormed l
   pub low : 1 ≤ r
-  pub high : r ≤ 32
-  pub few : p < 16
-  pub some : 0 < memberCount l
-  pub members : (at : ℕ) (m : List ℕ) → at ≡ masksAt r → m ≡ addMember l (at + i) p → memberCount l ≡ memberCount m
-  pub done : (at : ℕ) (m o : List ℕ) → at ≡ masksAt r → m ≡ addMember l (at + i) p → o ≡ after m
-      → record { number = 0; id = 0; leaders = 0; journal = 0; words = o }
-      ≡ outcome (firstNo (noteQuestions l r p (getD l (masksAt r + i) 0))) l (after (addMember l (masksAt r + i) p))
+  pub high : r ≤ rounds
+  pub few : p < slots
+  pub calm : Calm l (addMember l (masksAt r + i) p)
+  pub done : (at : ℕ) (m : List ℕ) → at ≡ masksAt r → m ≡ addMember l (at + i) p
+      → record { number = 0; id = 0; leaders = 0; journal = 0; words = m } ≡ takeNote l r p i
 
-module _ (l : List ℕ) (r p mask : ℕ) (why : Refusal) (e : why ≡ firstNo (noteQuestions l r p mask)) where
-  pub note-refused : (x : ℕ) → x ≡ numberOf why → (x ≡ 0 → ⊥) → (a : Answer) → a ≡ refusedBy why → (m : List ℕ)
-      → told a l ≡ outcome (firstNo (noteQuestions l r p mask)) l m
-  note-refused x f h a d m = told-refused l a why d ∙ outcome-refused why _ l m e (λ z. h (f ∙ z))
+module _ (l : List ℕ) (r p i : ℕ) (why : Refusal) (e : why ≡ noteRefusal l r p i) (x : ℕ) (f : x ≡ numberOf why) where
+  pub note-refused : (x ≡ 0 → ⊥) → (a : Answer) → a ≡ nothingAdded why → told a l ≡ takeNote l r p i
+  note-refused h a d = told-refused l a why d ∙ outcome-refused why _ l _ e (λ z. h (f ∙ z))
 
-module _ (i : ℕ) (to : i < 6) (after : List ℕ → List ℕ) (calm : (m : List ℕ) → Calm m (after m)) (l : List ℕ) (r p : ℕ) (why : Refusal)
-    (e : why ≡ firstNo (noteQuestions l r p (getD l (masksAt r + i) 0))) (x : ℕ) (f : x ≡ numberOf why) (z : x ≡ 0) where
-  note-taken : NoteTaken i after l r p
-  note-taken =
+  pub note-taken : i < kinds → x ≡ 0 → NoteTaken l r p i
+  note-taken to z =
       let h : numberOf why ≡ 0 = sym f ∙ z in
       let w = note-passed l r p _ (sym (ap numberOf e) ∙ h) in
       let C = note-calm l r i p (w .1) (w .2) to in
@@ -183,14 +189,43 @@ module _ (i : ℕ) (to : i < 6) (after : List ℕ → List ℕ) (calm : (m : Lis
         low = w .1;
         high = w .2;
         few = omega (arith, w .3, w .0 .front .high);
-        some = omega (arith, w .0 .front .low);
-        members = λ at m a d. rw (d, a) (calm-count C);
-        done = λ at m o a d g. rw (g, d, a) (calm-still (calm-then C (calm _)) ∙ outcome-admitted why _ l _ e h);
+        calm = C;
+        done = λ at m a d. rw (d, a) (calm-still C ∙ outcome-admitted why _ l _ e h);
       }
 
-module _ (l : List ℕ) (r p : ℕ) (why : Refusal) where
-  pub timeout-taken : why ≡ firstNo (noteQuestions l r p (timeoutsMask l r)) → (x : ℕ) → x ≡ numberOf why → x ≡ 0 → NoteTaken 3 raiseRound l r p
-  timeout-taken = note-taken 3 (omega arith) raiseRound raise-calm l r p why
+-- ---- a timeout: the round rule after a note that was admitted
 
-  pub no-vote-taken : why ≡ firstNo (noteQuestions l r p (noVotesMask l r)) → (x : ℕ) → x ≡ numberOf why → x ≡ 0 → NoteTaken 4 (λ m. m) l r p
-  no-vote-taken = note-taken 4 (omega arith) (λ m. m) calm-self l r p why
+-- what the round rule may use of the words m that the note left
+pub record TimeoutTaken (l : List ℕ) (r p : ℕ) (a : Answer) (m : List ℕ) : Type 0 where
+  pub size : length m ≡ stateSize
+  pub some : 0 < memberCount m
+  pub done : (o : List ℕ) → o ≡ raiseRound m → told a o ≡ takeTimeout l r p
+
+module _ (l : List ℕ) (r p : ℕ) (a : Answer) (m : List ℕ) (e : told a m ≡ takeNote l r p timeoutsKind) (x : ℕ) (f : x ≡ numberOf (a .refusal)) where
+  why : Refusal
+  why = noteRefusal l r p timeoutsKind
+
+  noted : List ℕ
+  noted = addMember l (timeoutsAt r) p
+
+  pub timeout-refused : (x ≡ 0 → ⊥) → told a m ≡ takeTimeout l r p
+  unfolding takeTimeout why
+  timeout-refused h = e ∙ sym (outcome-refused why why l _ refl stopped) ∙ outcome-refused why why l _ refl stopped
+    where
+      stopped : numberOf why ≡ 0 → ⊥
+      stopped z = h (f ∙ ap (λ (o : Outcome). o .number) (e ∙ sym (outcome-admitted why why l _ refl z)))
+
+  pub timeout-taken : x ≡ 0 → TimeoutTaken l r p a m
+  unfolding takeTimeout why noted
+  timeout-taken z =
+      let h = outcome-zero why l noted (ap (λ (o : Outcome). o .number) (sym e) ∙ sym f ∙ z) in
+      let k = note-taken l r p timeoutsKind why refl 0 (sym h) (omega arith) refl in
+      let d = e ∙ sym (k .done _ noted refl refl) in
+      let w = ap (λ (o : Outcome). o .words) d in
+      record {
+        size = rw w (k .calm .size ∙ k .formed .size);
+        some = rw w (omega (arith, calm-count (k .calm), k .formed .front .low));
+        done = λ o g. rw g (ap
+            (λ (t : Outcome). record { number = t .number; id = t .id; leaders = t .leaders; journal = t .journal; words = raiseRound (t .words) }) d
+            ∙ calm-still (calm-then (k .calm) (raise-calm noted)) ∙ outcome-admitted why why l _ refl h);
+      }

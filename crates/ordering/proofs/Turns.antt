@@ -8,9 +8,9 @@ use lib.ListN.{length, take, drop, length-drop}
 use lib.Seq.{take-all}
 use borrow.Author.Tests.{eqb-false, eq-eqb, ne-eqb}
 use Rattle.record.specs.Below.{least}
-use Rattle.record.specs.Members.{rounds, slots, legal, has}
+use Rattle.record.specs.Members.{rounds, slots, legal, has, idLimit}
 use Rattle.record.specs.Refusals.{numberOf, Question, firstNo, numbered}
-use Rattle.record.specs.Layout.{roundOf, sourceOf, bodyOf}
+use Rattle.record.specs.Layout.{roundOf, sourceOf, bodyOf, recordSize, bodySize, bodyPlace}
 use Rattle.record.specs.Questions.{signerQuestions, recordQuestions, signerRefusal, bodyRefusal, recordRefusal}
 use Rattle.record.specs.declared.refusal.Refusal.{Refusal}
 use Rattle.record.specs.declared.refusal.Refusal.the-variants.{None, Duplicate, Conflict, MissingParent}
@@ -19,11 +19,10 @@ use Rattle.record.proofs.Below.{any-intro, any-false, least-sat, least-off}
 use Rattle.record.proofs.Masks.{legal-range}
 use Rattle.record.proofs.Turn.{next, stop, done, both-yes, front-no, front-yes, both-fronts, numbered-law, placed}
 use Rattle.record.proofs.Turn as turn
-use Rattle.protocol.specs.Journal.{idLimit}
 use Rattle.replica.specs.Layout.{stateSize}
 use Rattle.replica.specs.State.{memberCount, heldMask}
 use Rattle.replica.specs.Parents.{missing, parentsHeld}
-use Rattle.replica.specs.Outcome.{told, refusedBy, admitted, outcome}
+use Rattle.replica.specs.Outcome.{told, nothingAdded, admitted, outcome}
 use Rattle.replica.specs.Status.{stateQuestions}
 use Rattle.replica.proofs.StatusLaws.{state-numbered, state-ok}
 use Rattle.replica.proofs.Formed.{WellFormed, formed}
@@ -56,9 +55,9 @@ pub record StateKnown (l rec : List ℕ) (rest : List Question) : Type 0 where
 pub record RecordKnown (l rec : List ℕ) (rest : List Question) : Type 0 where
   pub formed : WellFormed l
   pub admit : Admitted (memberCount l) (roundOf rec) (sourceOf rec) (bodyOf rec)
-  pub long : length rec ≡ 12
-  pub whole : take 10 (drop 2 rec) ≡ bodyOf rec
-  pub body : numberOf (bodyRefusal (memberCount l) (roundOf rec) (sourceOf rec) (take 10 (drop 2 rec))) ≡ 0
+  pub long : length rec ≡ recordSize
+  pub whole : take bodySize (drop bodyPlace rec) ≡ bodyOf rec
+  pub body : numberOf (bodyRefusal (memberCount l) (roundOf rec) (sourceOf rec) (take bodySize (drop bodyPlace rec))) ≡ 0
   pub last : (s : Refusal) → s ≡ firstNo rest
       → s ≡ firstNo (stateQuestions l ++ (recordQuestions (memberCount l) (roundOf rec) (sourceOf rec) (bodyOf rec) ++ rest))
 
@@ -76,11 +75,11 @@ module _ (l rec : List ℕ) (rest : List Question) (why : Refusal) (e : why ≡ 
       let s = state-ok l (sym (ap numberOf e) ∙ h) in
       let n = sym (ap numberOf d) ∙ k in
       let a = turn.admitted (memberCount l) (roundOf rec) (sourceOf rec) (bodyOf rec) n in
-      let w = take-all 10 (drop 2 rec) (omega (arith, a .size)) in
+      let w = take-all bodySize (drop bodyPlace rec) (omega (arith, a .size)) in
       record {
         formed = formed l (s .0) (s .1);
         admit = a;
-        long = omega (arith, a .size, length-drop 2 rec);
+        long = omega (arith, a .size, length-drop bodyPlace rec);
         whole = w;
         body = rw w n;
         last = λ t f. past-asked l _ rest why e h r d (numbered-law (memberCount l) (roundOf rec) (sourceOf rec) .1 (bodyOf rec)) k t f;
@@ -88,12 +87,12 @@ module _ (l rec : List ℕ) (rest : List Question) (why : Refusal) (e : why ≡ 
 
 -- ---- the smallest missing parent
 
-missing-found : (l : List ℕ) (r : ℕ) (body : List ℕ) (x : ℕ) → x ≡ least idLimit (missing l r body) → x < 528 → parentsHeld l r body ≡ false
+missing-found : (l : List ℕ) (r : ℕ) (body : List ℕ) (x : ℕ) → x ≡ least idLimit (missing l r body) → x < idLimit → parentsHeld l r body ≡ false
 unfolding parentsHeld
 missing-found l r body x e h = ap not (any-intro idLimit (missing l r body) (least idLimit (missing l r body)) (omega arith)
     (least-sat idLimit (missing l r body) (omega arith)))
 
-none-lacking : (l : List ℕ) (r : ℕ) (body : List ℕ) → 528 ≤ least idLimit (missing l r body) → parentsHeld l r body ≡ true
+none-lacking : (l : List ℕ) (r : ℕ) (body : List ℕ) → idLimit ≤ least idLimit (missing l r body) → parentsHeld l r body ≡ true
 unfolding parentsHeld
 none-lacking l r body h = ap not (any-false idLimit (missing l r body) (λ y k. least-off idLimit (missing l r body) y (omega arith)))
 
@@ -102,12 +101,12 @@ none-lacking l r body h = ap not (any-false idLimit (missing l r body) (λ y k. 
 -- what is known of an admitted record: which answer each finding gives
 pub record PlaceKnown (l : List ℕ) (n r p : ℕ) (body : List ℕ) : Type 0 where
   pub admit : Admitted n r p body
-  pub few : p < 16
+  pub few : p < slots
   pub same : has (heldMask l r) p ≡ true → sameBody l r p body ≡ true → Duplicate ≡ firstNo (placeQuestions l r p body)
   pub other : has (heldMask l r) p ≡ true → sameBody l r p body ≡ false → Conflict ≡ firstNo (placeQuestions l r p body)
-  pub lacking : (x : ℕ) → has (heldMask l r) p ≡ false → x ≡ least idLimit (missing l r body) → x < 528
+  pub lacking : (x : ℕ) → has (heldMask l r) p ≡ false → x ≡ least idLimit (missing l r body) → x < idLimit
       → MissingParent x ≡ firstNo (placeQuestions l r p body)
-  pub free : has (heldMask l r) p ≡ false → 528 ≤ least idLimit (missing l r body) → None ≡ firstNo (placeQuestions l r p body)
+  pub free : has (heldMask l r) p ≡ false → idLimit ≤ least idLimit (missing l r body) → None ≡ firstNo (placeQuestions l r p body)
 
 pub place-known : (l : List ℕ) (n r p : ℕ) (body : List ℕ) → legal n ≡ true → numberOf (bodyRefusal n r p body) ≡ 0 → PlaceKnown l n r p body
 place-known l n r p body g e =
@@ -171,7 +170,7 @@ module _ (l : List ℕ) (r p mask : ℕ) (why : Refusal) (e : why ≡ firstNo (s
 
 -- ---- outcomes
 
-pub outcome-refused : (why q : Refusal) (l after : List ℕ) → why ≡ q → (numberOf why ≡ 0 → ⊥) → told (refusedBy why) l ≡ outcome q l after
+pub outcome-refused : (why q : Refusal) (l after : List ℕ) → why ≡ q → (numberOf why ≡ 0 → ⊥) → told (nothingAdded why) l ≡ outcome q l after
 unfolding outcome
 outcome-refused why q l after e h = rw (← e, ne-eqb (numberOf why) 0 h)
 

@@ -9,18 +9,19 @@ use lib.Dec.{eqb, ltb}
 use lib.ListN.{length, getD, set, take, drop, length-set}
 use lib.Seq.{getD-set-same, getD-set-other, paste, length-paste}
 use borrow.Author.Tests.{eqb-true, eqb-false, eq-eqb, ltb-true, ltb-false}
-use Rattle.record.specs.Members.{leader, has, add, isRound}
-use Rattle.record.specs.Layout.{strongOf}
+use Rattle.record.specs.Members.{leader, has, add, isRound, rounds, slots}
+use Rattle.record.specs.Layout.{strongOf, bodySize}
 use Rattle.record.proofs.Booleans.{which, never, and-left, and-right, and-both, and-cong, cond-true, cond-cong}
 use Rattle.record.proofs.Masks.{has-add, has-add-same, has-zero, has-one, has-bound}
 use Rattle.record.proofs.Rounds.{round-range, round-in}
 use Rattle.protocol.specs.Dag.{present, votes}
-use Rattle.replica.specs.Layout.{masksAt, heldAt, heardAt, votesAt, cellAt}
+use Rattle.replica.specs.Layout.{journalSize, cellsAt, leaderCountAt, journalCountAt, timeoutsKind}
+use Rattle.replica.specs.Layout.{masksAt, heldAt, heardAt, votesAt, cellAt, stateSize, headSize, kinds, leadersAt, leadersSize, journalAt}
 use Rattle.replica.specs.State.{memberCount, currentRound, committedRound, leaderCount, journalCount, heldMask, heardMask, votesMask, leaderList}
-use Rattle.replica.specs.State.{journalList, cell, vertices, firsts}
+use Rattle.replica.specs.State.{journalList, cell, vertices, firsts, addMember}
 use Rattle.replica.proofs.Keeping.{Keeps, keeps-part, vertices-kept}
 use Rattle.commits.specs.Commit.{highestPassable, raiseRound}
-use Rattle.ordering.specs.Calls.{addMember, putVertex, hear}
+use Rattle.ordering.specs.Calls.{putVertex, hear}
 use Rattle.ordering.proofs.Copying.{paste-before, paste-after, paste-part}
 use Rattle.commits.proofs.Frame.{Alike, alike-self, alike-set, loose-head}
 
@@ -29,11 +30,11 @@ use Rattle.commits.proofs.Frame.{Alike, alike-self, alike-set, loose-head}
 -- all words of the head but the current round, and those of both lists, are the same
 pub record Calm (l m : List ℕ) : Type 0 where
   pub size : length m ≡ length l
-  pub head : (j : ℕ) → j < 8 → (j ≡ 1 → ⊥) → getD m j 0 ≡ getD l j 0
-  pub lists : (j : ℕ) → 200 ≤ j → j < 744 → getD m j 0 ≡ getD l j 0
+  pub head : (j : ℕ) → j < headSize → (j ≡ 1 → ⊥) → getD m j 0 ≡ getD l j 0
+  pub lists : (j : ℕ) → leadersAt ≤ j → j < cellsAt → getD m j 0 ≡ getD l j 0
 
 -- nothing changed
-pub calm-self : (l : List ℕ) → Calm l l
+calm-self : (l : List ℕ) → Calm l l
 calm-self l = record { size = refl; head = λ j a b. refl; lists = λ j a b. refl }
 
 -- one change after another
@@ -53,7 +54,7 @@ calm-round l x = record {
 }
 
 -- a word of the masks
-calm-mask : (l : List ℕ) (i x : ℕ) → 8 ≤ i → i < 200 → Calm l (set l i x)
+calm-mask : (l : List ℕ) (i x : ℕ) → headSize ≤ i → i < leadersAt → Calm l (set l i x)
 calm-mask l i x low high = record {
   size = length-set l i x;
   head = λ j a b. getD-set-other l i j x 0 (λ e. omega arith);
@@ -78,24 +79,26 @@ module _ {l m : List ℕ} (C : Calm l m) where
   calm-committed = C .head 2 (omega arith) (λ e. omega arith)
 
   -- the leader list
-  pub calm-leaders : leaderCount l ≤ 32 → leaderList m ≡ leaderList l
-  calm-leaders few = rw (C .head 3 (omega arith) (λ e. omega arith)) (part-same l m 200 (leaderCount l) (C .size) (λ j a b. C .lists j a (omega arith)))
+  pub calm-leaders : leaderCount l ≤ leadersSize → leaderList m ≡ leaderList l
+  calm-leaders few = rw (C .head leaderCountAt (omega arith) (λ e. omega arith)) (part-same l m leadersAt (leaderCount l) (C .size)
+      (λ j a b. C .lists j a (omega arith)))
 
   -- the journal
-  pub calm-journal : journalCount l ≤ 512 → journalList m ≡ journalList l
-  calm-journal few = rw (C .head 4 (omega arith) (λ e. omega arith)) (part-same l m 232 (journalCount l) (C .size)
+  pub calm-journal : journalCount l ≤ journalSize → journalList m ≡ journalList l
+  calm-journal few = rw (C .head journalCountAt (omega arith) (λ e. omega arith)) (part-same l m journalAt (journalCount l) (C .size)
       (λ j a b. C .lists j (omega arith) (omega arith)))
 
 -- ---- where the vertices and the first messages stay
 
 -- the vertices rest on the held masks and the cells
-vertices-by : (l m : List ℕ) → length m ≡ length l → ((s : ℕ) → 1 ≤ s → s ≤ 32 → heldMask m s ≡ heldMask l s) → ((j : ℕ) → 744 ≤ j → getD m j 0 ≡ getD l j 0)
+vertices-by : (l m : List ℕ) → length m ≡ length l → ((s : ℕ) → 1 ≤ s → s ≤ rounds → heldMask m s ≡ heldMask l s)
+    → ((j : ℕ) → cellsAt ≤ j → getD m j 0 ≡ getD l j 0)
     → vertices m ≡ vertices l
 vertices-by l m size masks cells = vertices-kept (λ j. getD m j 0 ≡ getD l j 0) l m (same-words l m size) masks cells
 
 -- a first message rests on its two bits
-firsts-by : (l m : List ℕ) → memberCount m ≡ memberCount l → (s q : ℕ) → (1 ≤ s → s ≤ 32 → has (heardMask m s) q ≡ has (heardMask l s) q)
-    → (1 ≤ s → s ≤ 32 → has (votesMask m s) q ≡ has (votesMask l s) q) → firsts m s q ≡ firsts l s q
+firsts-by : (l m : List ℕ) → memberCount m ≡ memberCount l → (s q : ℕ) → (1 ≤ s → s ≤ rounds → has (heardMask m s) q ≡ has (heardMask l s) q)
+    → (1 ≤ s → s ≤ rounds → has (votesMask m s) q ≡ has (votesMask l s) q) → firsts m s q ≡ firsts l s q
 unfolding firsts
 firsts-by l m members s q heard voted = cond-cong
     (and-cong {a = isRound s} refl (λ e. let w = round-range s e in heard (w .0) (w .1)))
@@ -107,36 +110,36 @@ firsts-by l m members s q heard voted = cond-cong
 -- the lists stay
 pub raise-calm : (l : List ℕ) → Calm l (raiseRound l)
 unfolding raiseRound
-raise-calm l = go (which (ltb (currentRound l) (1 + highestPassable l 32)))
+raise-calm l = go (which (ltb (currentRound l) (1 + highestPassable l rounds)))
   where
-    go : (ltb (currentRound l) (1 + highestPassable l 32) ≡ true) ⊎ (ltb (currentRound l) (1 + highestPassable l 32) ≡ false) → Calm l (raiseRound l)
-    go (inl e) = rw e (calm-round l (1 + highestPassable l 32))
+    go : (ltb (currentRound l) (1 + highestPassable l rounds) ≡ true) ⊎ (ltb (currentRound l) (1 + highestPassable l rounds) ≡ false) → Calm l (raiseRound l)
+    go (inl e) = rw e (calm-round l (1 + highestPassable l rounds))
     go (inr e) = rw e (calm-self l)
 
 -- the records stay
 pub raise-alike : (l : List ℕ) → Alike l (raiseRound l)
 unfolding raiseRound
-raise-alike l = go (which (ltb (currentRound l) (1 + highestPassable l 32)))
+raise-alike l = go (which (ltb (currentRound l) (1 + highestPassable l rounds)))
   where
-    go : (ltb (currentRound l) (1 + highestPassable l 32) ≡ true) ⊎ (ltb (currentRound l) (1 + highestPassable l 32) ≡ false) → Alike l (raiseRound l)
-    go (inl e) = rw e (alike-set l 1 (1 + highestPassable l 32) (loose-head 1 (omega arith) (omega arith)))
+    go : (ltb (currentRound l) (1 + highestPassable l rounds) ≡ true) ⊎ (ltb (currentRound l) (1 + highestPassable l rounds) ≡ false) → Alike l (raiseRound l)
+    go (inl e) = rw e (alike-set l 1 (1 + highestPassable l rounds) (loose-head 1 (omega arith) (omega arith)))
     go (inr e) = rw e (alike-self l)
 
 -- a member in the timeouts or in the no-votes of round r
-module _ (l : List ℕ) (r i p : ℕ) (low : 1 ≤ r) (high : r ≤ 32) where
+module _ (l : List ℕ) (r i p : ℕ) (low : 1 ≤ r) (high : r ≤ rounds) where
   -- the lists stay
-  pub note-calm : i < 6 → Calm l (addMember l (masksAt r + i) p)
+  pub note-calm : i < kinds → Calm l (addMember l (masksAt r + i) p)
   unfolding addMember
   note-calm h = calm-mask l (masksAt r + i) _ (omega arith) (omega arith)
 
   -- the records stay
-  pub note-alike : 3 ≤ i → i < 6 → Alike l (addMember l (masksAt r + i) p)
+  pub note-alike : timeoutsKind ≤ i → i < kinds → Alike l (addMember l (masksAt r + i) p)
   unfolding addMember
   note-alike h k = alike-set l (masksAt r + i) _ (record { low = omega arith; high = omega arith; apart = λ s j a b c e. omega arith })
 
 -- ---- a first message
 
-module _ (l : List ℕ) (r p : ℕ) (body : List ℕ) (size : length l ≡ 5864) (low : 1 ≤ r) (high : r ≤ 32) where
+module _ (l : List ℕ) (r p : ℕ) (body : List ℕ) (size : length l ≡ stateSize) (low : 1 ≤ r) (high : r ≤ rounds) where
   -- the words after it: both masks of the round, and all others
   heard-word : (j : ℕ) → (j ≡ heardAt r → ⊥) → (j ≡ votesAt r → ⊥) → getD (hear l r p body) j 0 ≡ getD l j 0
   unfolding hear addMember
@@ -252,7 +255,8 @@ module _ (l : List ℕ) (r p : ℕ) (body : List ℕ) (size : length l ≡ 5864)
 
 -- ---- a vertex
 
-module _ (l : List ℕ) (r p : ℕ) (body : List ℕ) (size : length l ≡ 5864) (low : 1 ≤ r) (high : r ≤ 32) (few : p < 16) (long : length body ≡ 10) where
+module _ (l : List ℕ) (r p : ℕ) (body : List ℕ) (size : length l ≡ stateSize) (low : 1 ≤ r) (high : r ≤ rounds) (few : p < slots) (long : length body
+    ≡ bodySize) where
   -- the held mask is written first
   marked : List ℕ
   marked = addMember l (heldAt r) p
@@ -273,31 +277,32 @@ module _ (l : List ℕ) (r p : ℕ) (body : List ℕ) (size : length l ≡ 5864)
   mark-here = getD-set-same l (heldAt r) _ 0 (omega arith)
 
   -- the cell lies within the state
-  fits : cellAt r p + 10 ≤ length marked
+  fits : cellAt r p + bodySize ≤ length marked
   fits = omega (arith, mark-size)
 
   -- then the cell
-  put-is : putVertex l r p body ≡ paste marked (cellAt r p) body 10
+  put-is : putVertex l r p body ≡ paste marked (cellAt r p) body bodySize
   unfolding putVertex marked
   put-is = refl
 
   -- a word before the cells
-  put-before : (j : ℕ) → j < 744 → getD (putVertex l r p body) j 0 ≡ getD marked j 0
-  put-before j h = ap (λ (x : List ℕ). getD x j 0) put-is ∙ paste-before marked (cellAt r p) body 10 fits long j (omega arith)
+  put-before : (j : ℕ) → j < cellsAt → getD (putVertex l r p body) j 0 ≡ getD marked j 0
+  put-before j h = ap (λ (x : List ℕ). getD x j 0) put-is ∙ paste-before marked (cellAt r p) body bodySize fits long j (omega arith)
 
   -- the size stays
   put-size : length (putVertex l r p body) ≡ length l
-  put-size = ap length put-is ∙ length-paste marked (cellAt r p) body 10 fits (omega arith) ∙ mark-size
+  put-size = ap length put-is ∙ length-paste marked (cellAt r p) body bodySize fits (omega arith) ∙ mark-size
 
   -- a word of a cell but this one
-  put-off : (j : ℕ) → 744 ≤ j → (cellAt r p ≤ j → j < cellAt r p + 10 → ⊥) → getD (putVertex l r p body) j 0 ≡ getD l j 0
-  put-off j a h = ap (λ (x : List ℕ). getD x j 0) put-is ∙ go (which (ltb j (cellAt r p))) (which (ltb j (cellAt r p + 10))) ∙ mark-other j (λ e. omega arith)
+  put-off : (j : ℕ) → cellsAt ≤ j → (cellAt r p ≤ j → j < cellAt r p + bodySize → ⊥) → getD (putVertex l r p body) j 0 ≡ getD l j 0
+  put-off j a h = ap (λ (x : List ℕ). getD x j 0) put-is ∙ go (which (ltb j (cellAt r p))) (which (ltb j (cellAt r p + bodySize)))
+      ∙ mark-other j (λ e. omega arith)
     where
-      go : (ltb j (cellAt r p) ≡ true) ⊎ (ltb j (cellAt r p) ≡ false) → (ltb j (cellAt r p + 10) ≡ true) ⊎ (ltb j (cellAt r p + 10) ≡ false)
-          → getD (paste marked (cellAt r p) body 10) j 0 ≡ getD marked j 0
-      go (inl e) d = paste-before marked (cellAt r p) body 10 fits long j (ltb-true j (cellAt r p) e)
-      go (inr e) (inl d) = absurd (h (ltb-false j (cellAt r p) e) (ltb-true j (cellAt r p + 10) d))
-      go (inr e) (inr d) = paste-after marked (cellAt r p) body 10 fits long j (ltb-false j (cellAt r p + 10) d)
+      go : (ltb j (cellAt r p) ≡ true) ⊎ (ltb j (cellAt r p) ≡ false) → (ltb j (cellAt r p + bodySize) ≡ true) ⊎ (ltb j (cellAt r p + bodySize) ≡ false)
+          → getD (paste marked (cellAt r p) body bodySize) j 0 ≡ getD marked j 0
+      go (inl e) d = paste-before marked (cellAt r p) body bodySize fits long j (ltb-true j (cellAt r p) e)
+      go (inr e) (inl d) = absurd (h (ltb-false j (cellAt r p) e) (ltb-true j (cellAt r p + bodySize) d))
+      go (inr e) (inr d) = paste-after marked (cellAt r p) body bodySize fits long j (ltb-false j (cellAt r p + bodySize) d)
 
   -- the lists stay
   pub put-calm : Calm l (putVertex l r p body)
@@ -318,16 +323,16 @@ module _ (l : List ℕ) (r p : ℕ) (body : List ℕ) (size : length l ≡ 5864)
   unfolding vertices
   put-here = cond-true _ _ (and-both (round-in r low high) (ap (λ (m : ℕ). has m p) (put-before (heldAt r) (omega arith) ∙ mark-here)
       ∙ has-add-same (heldMask l r) p))
-      ∙ ap (λ (x : List ℕ). take 10 (drop (cellAt r p) x)) put-is ∙ paste-part marked (cellAt r p) body 10 fits long
+      ∙ ap (λ (x : List ℕ). take bodySize (drop (cellAt r p) x)) put-is ∙ paste-part marked (cellAt r p) body bodySize fits long
 
   -- any other stays, where no mask has a bit at 16 or above
-  pub put-other : ((s : ℕ) → 1 ≤ s → s ≤ 32 → heldMask l s < 2 ^ 16) → (s q : ℕ) → (eqb r s && eqb p q) ≡ false
+  pub put-other : ((s : ℕ) → 1 ≤ s → s ≤ rounds → heldMask l s < 2 ^ slots) → (s q : ℕ) → (eqb r s && eqb p q) ≡ false
       → vertices (putVertex l r p body) s q ≡ vertices l s q
   unfolding vertices
   put-other small s q e = cond-cong (and-cong {a = isRound s} refl (λ d. let w = round-range s d in bit (w .0) (w .1) (which (eqb r s))))
       (λ d. same d) refl
     where
-      bit : 1 ≤ s → s ≤ 32 → (eqb r s ≡ true) ⊎ (eqb r s ≡ false) → has (heldMask (putVertex l r p body) s) q ≡ has (heldMask l s) q
+      bit : 1 ≤ s → s ≤ rounds → (eqb r s ≡ true) ⊎ (eqb r s ≡ false) → has (heldMask (putVertex l r p body) s) q ≡ has (heldMask l s) q
       bit a b (inl d) =
           let k : eqb p q ≡ false = ⊎-elim (λ t. never (and-both d t) e) (λ t. t) (which (eqb p q)) in
           let h : r ≡ s = eqb-true r s d in
@@ -340,6 +345,7 @@ module _ (l : List ℕ) (r p : ℕ) (body : List ℕ) (size : length l ≡ 5864)
       same : (isRound s && has (heldMask (putVertex l r p body) s) q) ≡ true → cell (putVertex l r p body) s q ≡ cell l s q
       same d =
           let w = round-range s (and-left (isRound s) _ d) in
-          let k : q < 16 = has-bound 16 (heldMask l s) q (small s (w .0) (w .1)) (sym (bit (w .0) (w .1) (which (eqb r s))) ∙ and-right (isRound s) _ d) in
-          part-same l (putVertex l r p body) (cellAt s q) 10 put-size (λ j a b. put-off j (omega arith) (λ x y. never (and-both
+          let k : q < slots = has-bound slots (heldMask l s) q (small s (w .0) (w .1)) (sym (bit (w .0) (w .1) (which (eqb r s)))
+          ∙ and-right (isRound s) _ d) in
+          part-same l (putVertex l r p body) (cellAt s q) bodySize put-size (λ j a b. put-off j (omega arith) (λ x y. never (and-both
           (eq-eqb r s (omega arith)) (eq-eqb p q (omega arith))) e))

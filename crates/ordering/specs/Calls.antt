@@ -3,27 +3,22 @@ use mathlib.Core.Bool.{Bool, cond, not, _&&_}
 use mathlib.Core.List.{List, [], _∷_, _++_}
 use Prim.Native.Nat.{ℕ, _+_, _-_}
 use lib.Dec.{eqb}
-use lib.ListN.{getD, set, length}
+use lib.ListN.{getD}
 use lib.Seq.{paste}
 use Rattle.record.specs.Below.{all, least}
-use Rattle.record.specs.Members.{has, add}
+use Rattle.record.specs.Members.{has, add, idLimit}
 use Rattle.record.specs.Refusals.{Question, firstNo}
 use Rattle.record.specs.Layout.{bodySize, roundOf, sourceOf, bodyOf}
 use Rattle.record.specs.Questions.{signerQuestions, recordQuestions}
 use Rattle.record.specs.declared.refusal.Refusal.{Refusal}
 use Rattle.record.specs.declared.refusal.Refusal.the-variants.{Duplicate, Conflict, MissingParent}
 use Rattle.protocol.specs.Dag.{votes}
-use Rattle.protocol.specs.Journal.{idLimit}
-use Rattle.replica.specs.Layout.{masksAt, heldAt, heardAt, votesAt, timeoutsAt, noVotesAt, cellAt}
-use Rattle.replica.specs.State.{memberCount, heldMask, heardMask, timeoutsMask, noVotesMask, cell}
+use Rattle.replica.specs.Layout.{masksAt, heldAt, heardAt, votesAt, timeoutsAt, noVotesAt, cellAt, timeoutsKind, noVotesKind, maskAt}
+use Rattle.replica.specs.State.{memberCount, heldMask, heardMask, timeoutsMask, noVotesMask, cell, addMember, maskOf}
 use Rattle.replica.specs.Parents.{missing, parentsHeld}
 use Rattle.replica.specs.Outcome.{Outcome, outcome}
 use Rattle.replica.specs.Status.{stateQuestions}
 use Rattle.commits.specs.Commit.{raiseRound, commitAll}
-
--- member p is added to the mask in the word at
-unfoldable pub addMember : List ℕ → ℕ → ℕ → List ℕ
-addMember l at p = set l at (add (getD l at 0) p)
 
 -- ---- a vertex
 
@@ -80,12 +75,16 @@ takeFirstMessage l rec = takeFirstBody l (roundOf rec) (sourceOf rec) (bodyOf re
 abbrev pub noteQuestions : List ℕ → ℕ → ℕ → ℕ → List Question
 noteQuestions l r p mask = stateQuestions l ++ (signerQuestions (memberCount l) r p ++ ((not (has mask p), Duplicate) ∷ []))
 
--- of the mask of that kind among its round's six
+-- of the mask of that kind of its round
 abbrev pub noteRefusal : List ℕ → ℕ → ℕ → ℕ → Refusal
-noteRefusal l r p kind = firstNo (noteQuestions l r p (getD l (masksAt r + kind) 0))
+noteRefusal l r p kind = firstNo (noteQuestions l r p (maskOf l kind r))
+
+-- the signer joins that mask
+abbrev pub takeNote : List ℕ → ℕ → ℕ → ℕ → Outcome
+takeNote l r p kind = outcome (noteRefusal l r p kind) l (addMember l (maskAt kind r) p)
 
 unfoldable pub takeTimeout : List ℕ → ℕ → ℕ → Outcome
-takeTimeout l r p = outcome (firstNo (noteQuestions l r p (timeoutsMask l r))) l (raiseRound (addMember l (timeoutsAt r) p))
+takeTimeout l r p = outcome (noteRefusal l r p timeoutsKind) l (raiseRound (addMember l (timeoutsAt r) p))
 
 unfoldable pub takeNoVote : List ℕ → ℕ → ℕ → Outcome
-takeNoVote l r p = outcome (firstNo (noteQuestions l r p (noVotesMask l r))) l (addMember l (noVotesAt r) p)
+takeNoVote l r p = takeNote l r p noVotesKind

@@ -1,18 +1,28 @@
 -- What an inner function of the calls asks of what it is lent. No claim rests on it.
 use mathlib.Core.Path.{_≡_}
+use mathlib.Core.Bool.{true}
 use mathlib.Core.List.{List}
 use Prim.Native.Nat.{ℕ, _≤_, _<_}
 use lib.ListN.{length}
+use Rattle.record.specs.Members.{legal, rounds, slots}
+use Rattle.record.specs.Refusals.{numberOf}
+use Rattle.record.specs.Questions.{bodyRefusal}
 use Rattle.replica.specs.Layout.{stateSize}
 use Rattle.replica.specs.State.{memberCount}
+
+-- the words of a state, and a vertex that the record's questions admit among n members
+pub record Placing (l : List ℕ) (n r p : ℕ) (body : List ℕ) : Type 0 where
+  pub size : length l ≡ stateSize
+  pub legit : legal n ≡ true
+  pub admitted : numberOf (bodyRefusal n r p body) ≡ 0
 
 -- the words of a state of n members, and the round, source and strong mask of a first message that the record's questions admit
 pub record Hearing (l : List ℕ) (n r p strong : ℕ) : Type 0 where
   pub size : length l ≡ stateSize
   pub members : n ≡ memberCount l
   pub some : 0 < n
-  pub few : n ≤ 16
+  pub few : n ≤ slots
   pub low : 1 ≤ r
-  pub high : r ≤ 32
-  pub source : p < 16
+  pub high : r ≤ rounds
+  pub source : p < slots
   pub first : r ≡ 1 → strong ≡ 0

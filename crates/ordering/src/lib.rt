@@ -1,2 +1,6 @@
-// The calls that admit something.
-pub mod calls;
+// The calls that admit something: a vertex, a first message, a timeout, a no-vote.
+pub mod first;
+pub mod notes;
+mod search;
+mod steps;
+pub mod vertex;

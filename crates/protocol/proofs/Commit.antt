@@ -8,7 +8,7 @@ use native.Mathlib.Omega.{arith}
 use lib.Dec.{leb}
 use borrow.Author.Tests.{leb-true, leb-false, le-leb}
 use Rattle.record.specs.Below.{count}
-use Rattle.record.specs.Members.{quorum, leader}
+use Rattle.record.specs.Members.{quorum, leader, votedRounds}
 use Rattle.record.proofs.Booleans.{which, never, and-left, and-right, and-both, or-cases, or-left, or-right, cond-cong}
 use Rattle.record.proofs.Below.{count-mono, count-cong}
 use Rattle.protocol.specs.Dag.{Dag, present, held, votes, enough, committed, lastUpTo, last}
@@ -56,15 +56,15 @@ up-to-highest n d (suc k) q l h c = go (which (committed n d (suc k))) (eq-or-lt
 
 -- the last round is committed, if there is one
 pub last-committed : (n : ℕ) (d : Dag) → Settled n d (last n d)
-last-committed n d = up-to-committed n d 31
+last-committed n d = up-to-committed n d votedRounds
 
 -- it is at most 31, for votes for round 32 would be of round 33
-pub last-low : (n : ℕ) (d : Dag) → last n d ≤ 31
-last-low n d = up-to-low n d 31
+pub last-low : (n : ℕ) (d : Dag) → last n d ≤ votedRounds
+last-low n d = up-to-low n d votedRounds
 
 -- and no round from there up to 31 is committed
-pub committed-above : (n : ℕ) (d : Dag) (q : ℕ) → last n d < q → q ≤ 31 → committed n d q ≡ false
-committed-above n d q l h = ⊎-elim (λ c. absurd (omega (arith, up-to-highest n d 31 q (omega arith) h c))) (λ e. e) (which (committed n d q))
+pub committed-above : (n : ℕ) (d : Dag) (q : ℕ) → last n d < q → q ≤ votedRounds → committed n d q ≡ false
+committed-above n d q l h = ⊎-elim (λ c. absurd (omega (arith, up-to-highest n d votedRounds q (omega arith) h c))) (λ e. e) (which (committed n d q))
 
 -- ---- a DAG that gains records
 
@@ -103,7 +103,7 @@ module _ (n : ℕ) (d e : Dag) (W : Within d e) where
 
   -- so for the last of all
   pub last-grows : last n d ≤ last n e
-  last-grows = up-to-grows 31
+  last-grows = up-to-grows votedRounds
 
 -- ---- two DAGs with the same vertices, and the same votes of first messages
 

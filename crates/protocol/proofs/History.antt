@@ -8,14 +8,13 @@ use native.Mathlib.Omega.{arith}
 use lib.Dec.{eqb, leb}
 use borrow.Author.Tests.{leb-true, leb-false, eqb-true, eq-eqb}
 use Rattle.record.specs.Below.{any}
-use Rattle.record.specs.Members.{legal, has, idOf, idRound, idMember}
-use Rattle.record.specs.Layout.{strongOf, weakCountOf, weakOf}
+use Rattle.record.specs.Members.{legal, has, idOf, idRound, idMember, idLimit, rounds, slots}
+use Rattle.record.specs.Layout.{strongOf, weakCountOf, weakOf, weakSlots}
 use Rattle.record.proofs.Booleans.{which, never, and-left, and-right, and-both, or-cases, or-left, or-right}
 use Rattle.record.proofs.Below.{any-intro, any-elim}
 use Rattle.record.proofs.Masks.{legal-range, has-zero, has-bound}
 use Rattle.protocol.specs.Dag.{Records, held}
 use Rattle.protocol.specs.Paths.{historyUpTo, history}
-use Rattle.protocol.specs.Journal.{idLimit}
 use Rattle.protocol.specs.Premises.{ValidVertices}
 use Rattle.protocol.proofs.Paths.{parent-present, weak-present}
 
@@ -24,10 +23,10 @@ pub id-split : (y : ℕ) → idOf (idRound y) (idMember y) ≡ y
 id-split y = omega arith
 
 -- the round and the member of an id
-pub id-round : (r p : ℕ) → p < 16 → idRound (idOf r p) ≡ r
+pub id-round : (r p : ℕ) → p < slots → idRound (idOf r p) ≡ r
 id-round r p l = omega arith
 
-pub id-member : (r p : ℕ) → p < 16 → idMember (idOf r p) ≡ p
+pub id-member : (r p : ℕ) → p < slots → idMember (idOf r p) ≡ p
 id-member r p l = omega arith
 
 -- The edges fall by a round at least, to members of the group.
@@ -43,7 +42,7 @@ edges n v g W = record {
       (above r p m e, has-bound n (strongOf (v r p)) m (a .strong-low) e);
   weak-low = λ r p i l.
       let a = W .admitted r p (weak-present _ i l) in
-      let k : i < 5 = omega (arith, a .weak-few, legal-range n g .high) in
+      let k : i < weakSlots = omega (arith, a .weak-few, legal-range n g .high) in
       (a .weak-low i k l, omega (arith, a .weak-high i k l), a .weak-member i k l);
 }
   where
@@ -97,9 +96,9 @@ module _ (n : ℕ) (v : Records) where
 
   -- ---- closure under parents
 
-  module _ (high : n ≤ 16) (E : Edges n v) where
+  module _ (high : n ≤ slots) (E : Edges n v) where
     -- what is in the history of a vertex of the history is in it
-    history-trans : (k r p t q z : ℕ) → r ≤ k → p < 16 → q < 16 → ((j : ℕ) → t ≤ j → zero < j → historyUpTo n v j t q z ≡ true)
+    history-trans : (k r p t q z : ℕ) → r ≤ k → p < slots → q < slots → ((j : ℕ) → t ≤ j → zero < j → historyUpTo n v j t q z ≡ true)
         → historyUpTo n v k r p (idOf t q) ≡ true → historyUpTo n v k r p z ≡ true
     history-trans zero r p t q z l lp lq s h = never h (none-yet r p (idOf t q))
     history-trans (suc k) r p t q z l lp lq s h =
@@ -115,7 +114,7 @@ module _ (n : ℕ) (v : Records) where
         member-of e = omega arith
 
     -- with each vertex a history has its strong parents and its weak ones
-    pub history-strong : (r p t q m : ℕ) → p < 16 → q < 16 → has (strongOf (v t q)) m ≡ true → history n v r p (idOf t q) ≡ true
+    pub history-strong : (r p t q m : ℕ) → p < slots → q < slots → has (strongOf (v t q)) m ≡ true → history n v r p (idOf t q) ≡ true
         → history n v r p (idOf (t - 1) m) ≡ true
     history-strong r p t q m lp lq c = history-trans r r p t q _ (omega arith) lp lq step
       where
@@ -124,7 +123,7 @@ module _ (n : ℕ) (v : Records) where
         step (suc j) lj pj = let b = E .strong-low t q m c in by-strong j t q m _ (b .1) c (by-self j (t - 1) m (omega (arith, b .0)))
 
     -- the same for weak parents
-    pub history-weak : (r p t q i : ℕ) → p < 16 → q < 16 → i < weakCountOf (v t q) → history n v r p (idOf t q) ≡ true
+    pub history-weak : (r p t q i : ℕ) → p < slots → q < slots → i < weakCountOf (v t q) → history n v r p (idOf t q) ≡ true
         → history n v r p (weakOf (v t q) i) ≡ true
     history-weak r p t q i lp lq li = history-trans r r p t q _ (omega arith) lp lq step
       where
@@ -161,9 +160,9 @@ module _ (n : ℕ) (v : Records) (g : legal n ≡ true) (W : ValidVertices n v) 
       self : idOf r p ≡ y → Named n v r y
       self q =
           let a = W .admitted r p h in
-          let k : n ≤ 16 = legal-range n g .high in
+          let k : n ≤ slots = legal-range n g .high in
           let lp : p < n = a .source-low in
-          let lr : r ≤ 32 = a .round-high in
+          let lr : r ≤ rounds = a .round-high in
           let lr′ : 1 ≤ r = a .round-low in
           let er : idRound y ≡ r = omega arith in
           let ep : idMember y ≡ p = omega arith in

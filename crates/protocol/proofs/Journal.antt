@@ -8,14 +8,14 @@ use native.Mathlib.Omega.{arith}
 use lib.Dec.{eqb, leb, ltb}
 use borrow.Author.Tests.{leb-true, leb-false, lt-ltb, ltb-true, eqb-true, eq-eqb, not-true}
 use Rattle.record.specs.Below.{any}
-use Rattle.record.specs.Members.{leader, has, idOf, idRound, idMember}
+use Rattle.record.specs.Members.{leader, has, idOf, idRound, idMember, idLimit}
 use Rattle.record.specs.Layout.{strongOf, weakCountOf, weakOf}
 use Rattle.record.proofs.Booleans.{which, never, and-left, and-right, and-both, and-cong, or-cases, or-left, or-right}
 use Rattle.record.proofs.Below.{any-cong, select-cong}
 use Rattle.protocol.specs.Dag.{Records, Dag, held}
 use Rattle.protocol.specs.Paths.{linked, historyUpTo, history}
 use Rattle.protocol.specs.Chain.{walk}
-use Rattle.protocol.specs.Journal.{idLimit, among, fresh, extend, journalOf}
+use Rattle.protocol.specs.Journal.{among, fresh, extend, journalOf}
 use Rattle.protocol.specs.Premises.{DagPremises}
 use Rattle.protocol.specs.Claims.{Prefix}
 use Rattle.protocol.proofs.Paths.{path-held, path-same}

@@ -9,13 +9,13 @@ use lib.Dec.{leb}
 use lib.ListN.{length, getD}
 use borrow.Author.Tests.{leb-true, leb-false}
 use Rattle.record.specs.Below.{select}
-use Rattle.record.specs.Members.{legal, leader, has, idRound, idMember}
+use Rattle.record.specs.Members.{legal, leader, has, idRound, idMember, rounds, idLimit, slots, votedRounds}
 use Rattle.record.proofs.Booleans.{which, never}
 use Rattle.record.proofs.Below.{select-cong}
 use Rattle.protocol.specs.Dag.{Records, Dag, held, votes, last}
 use Rattle.protocol.specs.Paths.{path, history}
 use Rattle.protocol.specs.Chain.{walk, chain, leaderId, leaders}
-use Rattle.protocol.specs.Journal.{idLimit, among, fresh, extend, journalOf, journal}
+use Rattle.protocol.specs.Journal.{among, fresh, extend, journalOf, journal}
 use Rattle.protocol.specs.Premises.{ValidVertices}
 use Rattle.protocol.specs.Masks.{historyMasks}
 use Rattle.protocol.proofs.Commit.{up-to-cong}
@@ -56,7 +56,7 @@ module _ (n : ℕ) (v w : Records) (h : (r p : ℕ) → v r p ≡ w r p) where
 module _ (n : ℕ) (d e : Dag) (same : (r p : ℕ) → d .vertex r p ≡ e .vertex r p)
     (alike : (r p : ℕ) → votes n r (d .first (suc r) p) ≡ votes n r (e .first (suc r) p)) where
   pub last-cong : last n d ≡ last n e
-  last-cong = up-to-cong n d e same alike 31
+  last-cong = up-to-cong n d e same alike votedRounds
 
   pub leaders-cong : leaders n d ≡ leaders n e
   leaders-cong = ap₂ (λ (v : Records) (q : ℕ). map (leaderId n) (chain n v 0 q)) (records-ext (d .vertex) (e .vertex) same) last-cong
@@ -89,9 +89,9 @@ module _ (n : ℕ) (v : Records) where
           (history-held n v g W (w .0) (leader n (w .0)) y (chain-held n v low q (w .0) h (w .1)) (w .2))
 
   -- a journal of ids of rounds 1 to q, each once, has at most 16 q
-  pub journal-length : (j : List ℕ) (q : ℕ) → once j ≡ true → ((y : ℕ) → among j y ≡ true → Named n v q y) → length j ≤ 16 * q
+  pub journal-length : (j : List ℕ) (q : ℕ) → once j ≡ true → ((y : ℕ) → among j y ≡ true → Named n v q y) → length j ≤ slots * q
   journal-length j q p h =
-      omega (arith, once-span 16 (16 * suc q) j (omega arith) p (λ y e. let N = h y e in (omega (arith, N .low), omega (arith, N .high))))
+      omega (arith, once-span slots (slots * suc q) j (omega arith) p (λ y e. let N = h y e in (omega (arith, N .low), omega (arith, N .high))))
 
 -- what is fresh, by the masks of the history
 pub fresh-masks : (n : ℕ) (v : Records) → legal n ≡ true → ValidVertices n v → (j : List ℕ) (r : ℕ) → held v r (leader n r) ≡ true

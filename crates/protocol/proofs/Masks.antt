@@ -13,8 +13,8 @@ use lib.ListN.{length, getD, take, replicate, length-set, length-take, length-re
 use lib.Seq.{getD-set-same, getD-set-other, getD-take}
 use borrow.Author.Tests.{eqb-true, eqb-false, eq-eqb}
 use Rattle.record.specs.Below.{any}
-use Rattle.record.specs.Members.{legal, has, idOf, idRound, idMember}
-use Rattle.record.specs.Layout.{strongOf, weakCountOf, weakOf}
+use Rattle.record.specs.Members.{legal, has, idOf, idRound, idMember, rounds, slots}
+use Rattle.record.specs.Layout.{strongOf, weakCountOf, weakOf, weakCountPlace, strongPlace}
 use Rattle.record.proofs.Booleans.{which, never, and-left, and-right, and-both, and-fails-right, or-cases, or-left, or-right, bool-ext}
 use Rattle.record.proofs.Below.{any-intro, any-elim, any-false}
 use Rattle.record.proofs.Masks.{legal-range, has-zero, has-one, has-or}
@@ -47,7 +47,7 @@ unfolding join
 join-length h t m = length-set h (t - 1) _
 
 -- bits joined in round t are there, and no others
-pub join-marked : (h : List ℕ) (t m s q : ℕ) → length h ≡ 32 → 1 ≤ t → t ≤ 32 → 1 ≤ s → marked (join h t m) s q ≡ (marked h s q || (eqb t s && has m q))
+pub join-marked : (h : List ℕ) (t m s q : ℕ) → length h ≡ rounds → 1 ≤ t → t ≤ rounds → 1 ≤ s → marked (join h t m) s q ≡ (marked h s q || (eqb t s && has m q))
 unfolding join
 join-marked h t m s q z lt ht ls = go (which (eqb t s))
   where
@@ -85,7 +85,8 @@ fill-length n v h zero = refl
 fill-length n v h (suc k) = fill-length n v (joinRound v h (suc (suc k)) n) k ∙ joinRound-length v h (suc (suc k)) n
 
 -- so for weak parents
-pub joinWeak-marked : (h body : List ℕ) (k s q : ℕ) → length h ≡ 32 → ((i : ℕ) → i < k → (1 ≤ idRound (weakOf body i)) × (idRound (weakOf body i) ≤ 32)) → 1 ≤ s
+pub joinWeak-marked : (h body : List ℕ) (k s q : ℕ) → length h ≡ rounds
+    → ((i : ℕ) → i < k → (1 ≤ idRound (weakOf body i)) × (idRound (weakOf body i) ≤ rounds)) → 1 ≤ s
     → marked (joinWeak h body k) s q ≡ (marked h s q || weakParent body k s q)
 unfolding joinWeak weakParent any
 joinWeak-marked h body zero s q z b l = sym (or-false (marked h s q))
@@ -96,9 +97,9 @@ joinWeak-marked h body (suc k) s q z b l =
     (has-one (idMember (weakOf body k)) q))
     ∙ or-assoc (marked h s q) _ _
 
-module _ (n : ℕ) (v : Records) (high : n ≤ 16) (E : Edges n v) where
+module _ (n : ℕ) (v : Records) (high : n ≤ slots) (E : Edges n v) where
   -- and for all parents of a vertex
-  pub joinParents-marked : (h : List ℕ) (r p s q : ℕ) → length h ≡ 32 → 2 ≤ r → r ≤ 32 → 1 ≤ s
+  pub joinParents-marked : (h : List ℕ) (r p s q : ℕ) → length h ≡ rounds → 2 ≤ r → r ≤ rounds → 1 ≤ s
       → marked (joinParents v h r p) s q ≡ (marked h s q || parent (v r p) r s q)
   unfolding joinParents parent
   joinParents-marked h r p s q z l k ls =
@@ -135,7 +136,7 @@ module _ (n : ℕ) (v : Records) (high : n ≤ 16) (E : Edges n v) where
       none x (inl e) = absurd (omega (arith, parent-low r x s q e .1))
       none x (inr e) = e
 
-  joinRound-marked : (h : List ℕ) (r k s q : ℕ) → length h ≡ 32 → 2 ≤ r → r ≤ 32 → 1 ≤ s
+  joinRound-marked : (h : List ℕ) (r k s q : ℕ) → length h ≡ rounds → 2 ≤ r → r ≤ rounds → 1 ≤ s
       → marked (joinRound v h r k) s q ≡ (marked h s q || parentsOf h r k s q)
   unfolding joinRound parentsOf any
   joinRound-marked h r zero s q z l u ls = sym (or-false (marked h s q))
@@ -153,7 +154,7 @@ module _ (n : ℕ) (v : Records) (high : n ≤ 16) (E : Edges n v) where
 
   -- ---- filling
 
-  module _ (k : ℕ) (h : List ℕ) (z : length h ≡ 32) (u : suc (suc k) ≤ 32) where
+  module _ (k : ℕ) (h : List ℕ) (z : length h ≡ rounds) (u : suc (suc k) ≤ rounds) where
     round-keeps : (s q : ℕ) → 1 ≤ s → marked h s q ≡ true → marked (joinRound v h (suc (suc k)) n) s q ≡ true
     round-keeps s q ls e = joinRound-marked h (suc (suc k)) n s q z (omega arith) u ls ∙ or-left _ e
 
@@ -171,15 +172,15 @@ module _ (n : ℕ) (v : Records) (high : n ≤ 16) (E : Edges n v) where
 
   -- with each vertex of a round above low the masks have its parents
   abbrev Closed : ℕ → List ℕ → Type 0
-  Closed low h = (r x s q : ℕ) → low < r → r ≤ 32 → x < n → marked h r x ≡ true → parent (v r x) r s q ≡ true → marked h s q ≡ true
+  Closed low h = (r x s q : ℕ) → low < r → r ≤ rounds → x < n → marked h r x ≡ true → parent (v r x) r s q ≡ true → marked h s q ≡ true
 
-  fill-keeps : (k : ℕ) (h : List ℕ) → length h ≡ 32 → suc k ≤ 32 → (s q : ℕ) → 1 ≤ s → marked h s q ≡ true → marked (fill n v h k) s q ≡ true
+  fill-keeps : (k : ℕ) (h : List ℕ) → length h ≡ rounds → suc k ≤ rounds → (s q : ℕ) → 1 ≤ s → marked h s q ≡ true → marked (fill n v h k) s q ≡ true
   unfolding fill
   fill-keeps zero h z u s q ls e = e
   fill-keeps (suc k) h z u s q ls e =
       fill-keeps k (joinRound v h (suc (suc k)) n) (joinRound-length v h (suc (suc k)) n ∙ z) (omega arith) s q ls (round-keeps k h z u s q ls e)
 
-  fill-closed : (k : ℕ) (h : List ℕ) → length h ≡ 32 → suc k ≤ 32 → Closed (suc k) h → Closed 1 (fill n v h k)
+  fill-closed : (k : ℕ) (h : List ℕ) → length h ≡ rounds → suc k ≤ rounds → Closed (suc k) h → Closed 1 (fill n v h k)
   unfolding fill
   fill-closed zero h z u C = C
   fill-closed (suc k) h z u C = fill-closed k (joinRound v h (suc (suc k)) n) (joinRound-length v h (suc (suc k)) n ∙ z) (omega arith) next
@@ -196,7 +197,7 @@ module _ (n : ℕ) (v : Records) (high : n ≤ 16) (E : Edges n v) where
 
   -- and nothing that a closed set with the first masks does not have
   fill-formed : (H : ℕ → ℕ → Bool) → ((r x s q : ℕ) → x < n → H r x ≡ true → parent (v r x) r s q ≡ true → H s q ≡ true)
-      → (k : ℕ) (h : List ℕ) → length h ≡ 32 → suc k ≤ 32 → ((s q : ℕ) → 1 ≤ s → marked h s q ≡ true → H s q ≡ true)
+      → (k : ℕ) (h : List ℕ) → length h ≡ rounds → suc k ≤ rounds → ((s q : ℕ) → 1 ≤ s → marked h s q ≡ true → H s q ≡ true)
       → (s q : ℕ) → 1 ≤ s → marked (fill n v h k) s q ≡ true → H s q ≡ true
   unfolding fill parentsOf
   fill-formed H closed zero h z u S = S
@@ -211,7 +212,7 @@ module _ (n : ℕ) (v : Records) (high : n ≤ 16) (E : Edges n v) where
           (or-cases _ _ (sym (joinRound-marked h (suc (suc k)) n s q z (omega arith) u ls) ∙ e))
 
   -- closed masks have the history of each vertex that they have
-  closed-history : (h : List ℕ) → Closed 1 h → (k r p y : ℕ) → r ≤ 32 → p < n → marked h r p ≡ true → historyUpTo n v k r p y ≡ true
+  closed-history : (h : List ℕ) → Closed 1 h → (k r p y : ℕ) → r ≤ rounds → p < n → marked h r p ≡ true → historyUpTo n v k r p y ≡ true
       → marked h (idRound y) (idMember y) ≡ true
   closed-history h C zero r p y lr lp e d = never d (none-yet n v r p y)
   closed-history h C (suc k) r p y lr lp e d =
@@ -234,19 +235,19 @@ module _ (n : ℕ) (v : Records) (high : n ≤ 16) (E : Edges n v) where
 
   -- ---- the masks of a history
 
-  module _ (r p : ℕ) (lr : 1 ≤ r) (hr : r ≤ 32) (lp : p < n) where
+  module _ (r p : ℕ) (lr : 1 ≤ r) (hr : r ≤ rounds) (lp : p < n) where
     first-masks : List ℕ
-    first-masks = join (replicate 32 0) r (2 ^ p)
+    first-masks = join (replicate rounds 0) r (2 ^ p)
 
-    first-length : length first-masks ≡ 32
+    first-length : length first-masks ≡ rounds
     unfolding first-masks
-    first-length = join-length (replicate 32 0) r (2 ^ p) ∙ length-replicate {A = ℕ} 32 0
+    first-length = join-length (replicate rounds 0) r (2 ^ p) ∙ length-replicate {A = ℕ} rounds 0
 
     first-marked : (s q : ℕ) → 1 ≤ s → marked first-masks s q ≡ (eqb r s && eqb p q)
     unfolding first-masks
     first-marked s q ls =
-        join-marked (replicate 32 0) r (2 ^ p) s q (length-replicate {A = ℕ} 32 0) lr hr ls
-        ∙ ap₂ (λ (a b : Bool). a || (eqb r s && b)) (ap (λ (x : ℕ). has x q) (zeros 32 (s - 1)) ∙ has-zero q) (has-one p q)
+        join-marked (replicate rounds 0) r (2 ^ p) s q (length-replicate {A = ℕ} rounds 0) lr hr ls
+        ∙ ap₂ (λ (a b : Bool). a || (eqb r s && b)) (ap (λ (x : ℕ). has x q) (zeros rounds (s - 1)) ∙ has-zero q) (has-one p q)
       where
         zeros : (k i : ℕ) → _≡_ {A = ℕ} (getD (replicate k 0) i 0) 0
         zeros zero i = refl
@@ -268,7 +269,7 @@ module _ (n : ℕ) (v : Records) (high : n ≤ 16) (E : Edges n v) where
         (or-cases (eqb (t - 1) s && has (strongOf (v t x)) q) _ d)
 
     -- the filled masks name exactly the history
-    masks-history : (t q : ℕ) → 1 ≤ t → q < 16 → marked (historyMasks n v r p) t q ≡ history n v r p (idOf t q)
+    masks-history : (t q : ℕ) → 1 ≤ t → q < slots → marked (historyMasks n v r p) t q ≡ history n v r p (idOf t q)
     unfolding historyMasks first-masks
     masks-history t q lt lq = bool-ext
         (fill-formed (λ s q. history n v r p (idOf s q)) history-closed (r - 1) first-masks first-length (omega arith) start t q lt)
@@ -293,17 +294,17 @@ history-claim n v g W r p h t q lt ht lq =
 
 -- ---- bodies cut off before their weak ids
 
-cut-strong : (body : List ℕ) → strongOf (take 4 body) ≡ strongOf body
+cut-strong : (body : List ℕ) → strongOf (take weakCountPlace body) ≡ strongOf body
 unfolding strongOf
-cut-strong body = getD-take 4 body 0 0 (omega arith)
+cut-strong body = getD-take weakCountPlace body strongPlace 0 (omega arith)
 
-cut-weak : (body : List ℕ) → weakCountOf (take 4 body) ≡ 0
+cut-weak : (body : List ℕ) → weakCountOf (take weakCountPlace body) ≡ 0
 unfolding weakCountOf
-cut-weak body = List·getD-eq-default (take 4 body) 0 (rw (length-take 4 body) (omega arith))
+cut-weak body = List·getD-eq-default (take weakCountPlace body) 0 (rw (length-take weakCountPlace body) (omega arith))
 
 module _ (n : ℕ) (v : Records) (g : legal n ≡ true) (W : ValidVertices n v) where
   abbrev cut : Records
-  cut r p = take 4 (v r p)
+  cut r p = take weakCountPlace (v r p)
 
   cut-edges : Edges n cut
   cut-edges = record {
@@ -312,7 +313,7 @@ module _ (n : ℕ) (v : Records) (g : legal n ≡ true) (W : ValidVertices n v) 
   }
 
   -- their histories are what paths reach
-  cut-history : (r p t q : ℕ) → p < 16 → q < 16 → held v r p ≡ true → history n cut r p (idOf t q) ≡ path n v r p t q
+  cut-history : (r p t q : ℕ) → p < slots → q < slots → held v r p ≡ true → history n cut r p (idOf t q) ≡ path n v r p t q
   cut-history zero p t q lp lq h = none-yet n cut zero p (idOf t q) ∙ sym (no-path p t q)
     where
       no-path : (p t q : ℕ) → path n v zero p t q ≡ false

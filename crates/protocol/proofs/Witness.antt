@@ -10,8 +10,8 @@ use lib.Dec.{eqb, leb, ltb, lit≤}
 use lib.ListN.{length, getD}
 use borrow.Author.Tests.{leb-true, lt-ltb, le-leb, ltb-true, eqb-true, eq-eqb, not-true}
 use Rattle.record.specs.Below.{all, any, count, select}
-use Rattle.record.specs.Members.{legal, has, leader, idRound, idMember}
-use Rattle.record.specs.Layout.{roundOf, sourceOf, bodyOf, strongOf, timeoutsOf, noVotesOf, weakCountOf, weakOf}
+use Rattle.record.specs.Members.{legal, has, leader, idRound, idMember, rounds}
+use Rattle.record.specs.Layout.{roundOf, sourceOf, bodyOf, strongOf, timeoutsOf, noVotesOf, weakCountOf, weakOf, bodySize}
 use Rattle.record.specs.Admitted.{Admitted}
 use Rattle.record.proofs.Booleans.{which, never, and-left, and-right, and-both, or-left, or-right}
 use Rattle.record.proofs.Below.{all-elim}
@@ -90,9 +90,9 @@ lacks r b = leb 2 r && not (has (strongOf b) (leader 4 (r - 1)))
 -- the tests of a record
 fits : ℕ → ℕ → List ℕ → List Bool
 fits r p b =
-    eqb (length b) 10
+    eqb (length b) bodySize
     ∷ leb 1 r
-    ∷ leb r 32
+    ∷ leb r rounds
     ∷ ltb p 4
     ∷ ltb (strongOf b) 16
     ∷ ltb (timeoutsOf b) 16
@@ -120,9 +120,9 @@ pass (b ∷ l) e (suc i) = pass l (and-right b _ e) i
 fits-admitted : (r p : ℕ) (b : List ℕ) → both (fits r p b) ≡ true → Admitted 4 r p b
 unfolding fits quorumIn lacks
 fits-admitted r p b e = record {
-  size = eqb-true (length b) 10 (pass t e 0);
+  size = eqb-true (length b) bodySize (pass t e 0);
   round-low = leb-true 1 r (pass t e 1);
-  round-high = leb-true r 32 (pass t e 2);
+  round-high = leb-true r rounds (pass t e 2);
   source-low = ltb-true p 4 (pass t e 3);
   strong-low = ltb-true (strongOf b) 16 (pass t e 4);
   timeouts-low = ltb-true (timeoutsOf b) 16 (pass t e 5);

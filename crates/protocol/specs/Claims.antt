@@ -22,7 +22,8 @@ Settled n d q = zero < q → committed n d q ≡ true
 module _ (n : ℕ) {I : Type 0} (dag : I → Dag) where
   -- If one DAG commits round q directly, strong paths lead to its leader's vertex from every later leader's vertex, in any DAG of the family.
   abbrev pub KeyLemma : Type 0
-  KeyLemma = (i j : I) (q r : ℕ) → zero < q → committed n (dag i) q ≡ true → q < r → held (dag j .vertex) r (leader n r) ≡ true → linked n (dag j .vertex) r q ≡ true
+  KeyLemma = (i j : I) (q r : ℕ) → zero < q → committed n (dag i) q ≡ true → q < r → held (dag j .vertex) r (leader n r) ≡ true
+      → linked n (dag j .vertex) r q ≡ true
 
   -- For committed rounds c ≤ q the chain of q is the chain of c followed by the part of q's walk above c, and so for the journals.
   abbrev pub Growth : Type 0

@@ -4,7 +4,7 @@ use mathlib.Core.List.{List, [], _∷_}
 use Prim.Native.Nat.{ℕ, zero, suc}
 use lib.Dec.{eqb, leb}
 use Rattle.record.specs.Below.{count}
-use Rattle.record.specs.Members.{quorum, leader, has}
+use Rattle.record.specs.Members.{quorum, leader, has, votedRounds}
 use Rattle.record.specs.Layout.{roundOf, sourceOf, bodyOf, strongOf}
 
 -- the body of the record of each round and member, and [] where there is none
@@ -53,4 +53,4 @@ module _ (n : ℕ) where
 
   -- the last directly committed round
   abbrev pub last : Dag → ℕ
-  last d = lastUpTo d 31
+  last d = lastUpTo d votedRounds

@@ -1,17 +1,13 @@
 -- The journal.
 use mathlib.Core.Bool.{Bool, false, not, _&&_, _||_}
 use mathlib.Core.List.{List, [], _∷_, _++_}
-use Prim.Native.Nat.{ℕ, _*_}
+use Prim.Native.Nat.{ℕ}
 use lib.Dec.{eqb}
 use Rattle.record.specs.Below.{select}
-use Rattle.record.specs.Members.{leader}
+use Rattle.record.specs.Members.{leader, idLimit, rounds}
 use Rattle.protocol.specs.Dag.{Records, Dag, last}
 use Rattle.protocol.specs.Paths.{history}
 use Rattle.protocol.specs.Chain.{chain}
-
--- all ids are below this: rounds are at most 32
-abbrev pub idLimit : ℕ
-idLimit = 16 * 33
 
 -- y stands in the list
 unfoldable pub among : List ℕ → ℕ → Bool

@@ -5,8 +5,8 @@ use mathlib.Core.List.{List}
 use Prim.Native.Nat.{ℕ, zero, suc, _-_, _^_, _≤_, _<_}
 use lib.Bits.{bitOr}
 use lib.ListN.{getD, set, take, replicate}
-use Rattle.record.specs.Members.{legal, has, add, meets, idOf, idRound, idMember}
-use Rattle.record.specs.Layout.{strongOf, weakCountOf, weakOf}
+use Rattle.record.specs.Members.{legal, has, add, meets, idOf, idRound, idMember, rounds, slots}
+use Rattle.record.specs.Layout.{strongOf, weakCountOf, weakOf, weakCountPlace}
 use Rattle.protocol.specs.Dag.{Records, held, votes, enough}
 use Rattle.protocol.specs.Paths.{path, history}
 use Rattle.protocol.specs.Premises.{ValidVertices}
@@ -51,7 +51,7 @@ module _ (n : ℕ) where
 
   -- the history of the vertex of round r and member p, as masks
   unfoldable pub historyMasks : Records → ℕ → ℕ → List ℕ
-  historyMasks v r p = fill v (join (replicate 32 0) r (2 ^ p)) (r - 1)
+  historyMasks v r p = fill v (join (replicate rounds 0) r (2 ^ p)) (r - 1)
 
   -- the mask of the voters meets the quorum exactly if enough members vote
   abbrev pub VotersClaim : Type 0
@@ -65,9 +65,9 @@ module _ (n : ℕ) where
   -- the masks name exactly the history
   abbrev pub HistoryClaim : Type 0
   HistoryClaim = (v : Records) → legal n ≡ true → ValidVertices n v → (r p : ℕ) → held v r p ≡ true
-      → (t q : ℕ) → 1 ≤ t → t ≤ 32 → q < 16 → has (getD (historyMasks v r p) (t - 1) 0) q ≡ history n v r p (idOf t q)
+      → (t q : ℕ) → 1 ≤ t → t ≤ rounds → q < slots → has (getD (historyMasks v r p) (t - 1) 0) q ≡ history n v r p (idOf t q)
 
   -- and with strong edges alone, which are those of bodies cut off before their weak ids, exactly what paths reach
   abbrev pub StrongHistoryClaim : Type 0
   StrongHistoryClaim = (v : Records) → legal n ≡ true → ValidVertices n v → (r p : ℕ) → held v r p ≡ true
-      → (t q : ℕ) → 1 ≤ t → t ≤ 32 → q < 16 → has (getD (historyMasks (λ r p. take 4 (v r p)) r p) (t - 1) 0) q ≡ path n v r p t q
+      → (t q : ℕ) → 1 ≤ t → t ≤ rounds → q < slots → has (getD (historyMasks (λ r p. take weakCountPlace (v r p)) r p) (t - 1) 0) q ≡ path n v r p t q

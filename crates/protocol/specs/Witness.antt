@@ -5,7 +5,7 @@ use mathlib.Core.List.{List, [], _∷_, _++_}
 use Prim.Native.Nat.{ℕ}
 use lib.Dec.{eqb}
 use Rattle.record.specs.Members.{has}
-use Rattle.record.specs.Layout.{strongOf, noVotesOf}
+use Rattle.record.specs.Layout.{strongOf, noVotesOf, recordWords}
 use Rattle.protocol.specs.Dag.{Dag, recordsOf, held, votes, enough, committed}
 use Rattle.protocol.specs.Chain.{leaders}
 use Rattle.protocol.specs.Journal.{journal}
@@ -13,10 +13,10 @@ use Rattle.protocol.specs.Premises.{DagPremises}
 
 -- the record of a round and a source with these masks of strong parents, timeouts and no-votes, and one with a weak id
 abbrev pub plain : ℕ → ℕ → ℕ → ℕ → ℕ → List ℕ
-plain r p strong timeouts noVotes = r ∷ p ∷ strong ∷ timeouts ∷ noVotes ∷ 0 ∷ 0 ∷ 0 ∷ 0 ∷ 0 ∷ 0 ∷ 0 ∷ []
+plain r p strong timeouts noVotes = recordWords r p strong timeouts noVotes 0 []
 
 abbrev pub withWeak : ℕ → ℕ → ℕ → ℕ → ℕ → ℕ → List ℕ
-withWeak r p strong timeouts noVotes weak = r ∷ p ∷ strong ∷ timeouts ∷ noVotes ∷ 0 ∷ 1 ∷ weak ∷ 0 ∷ 0 ∷ 0 ∷ 0 ∷ []
+withWeak r p strong timeouts noVotes weak = recordWords r p strong timeouts noVotes 0 (weak ∷ [])
 
 -- What both DAGs hold: round 1, and two rounds of members 0, 2 and 3 (mask 13) that vote for neither leader. The leader of round 3 carries no-votes against
 -- that of round 2, and has a weak edge to that of round 1 (id 16).
@@ -26,7 +26,8 @@ early =
     ∷ plain 2 0 14 14 0 ∷ plain 2 2 14 14 0 ∷ plain 2 3 14 14 0
     ∷ plain 3 0 13 13 0 ∷ withWeak 3 2 13 13 13 16 ∷ plain 3 3 13 13 0 ∷ []
 
--- What the first holds besides: two rounds of member 1, by which strong edges lead from the leader of round 4 to that of round 2, and two more rounds of the others.
+-- What the first holds besides: two rounds of member 1, by which strong edges lead from the leader of round 4 to that of round 2, and two more rounds of
+-- the others.
 unfoldable pub late : List (List ℕ)
 late =
     plain 2 1 15 0 0 ∷ plain 3 1 15 0 0
@@ -53,7 +54,8 @@ pub record DagWitness : Type 0 where
   -- member 1 votes in one DAG and not in the other
   pub two-faced : (votes 4 3 (witnessDag true .first 4 1) ≡ false) × (votes 4 3 (witnessDag false .first 4 1) ≡ true)
   -- the vertex of the leader of round 2 is there, the next leader has no edge to it, and a no-vote certificate in its place
-  pub skipped : (held (witnessDag true .vertex) 2 1 ≡ true) × (has (strongOf (witnessDag true .vertex 3 2)) 1 ≡ false) × (noVotesOf (witnessDag true .vertex 3 2) ≡ 13)
+  pub skipped : (held (witnessDag true .vertex) 2 1 ≡ true) × (has (strongOf (witnessDag true .vertex 3 2)) 1
+      ≡ false) × (noVotesOf (witnessDag true .vertex 3 2) ≡ 13)
   -- the first DAG commits round 4 by vertices, the second round 3 by first messages alone
   pub by-vertices : enough 4 (λ p. votes 4 4 (witnessDag true .vertex 5 p)) ≡ true
   pub by-messages : (enough 4 (λ p. votes 4 3 (witnessDag false .vertex 4 p)) ≡ false) × (committed 4 (witnessDag false) 3 ≡ true)

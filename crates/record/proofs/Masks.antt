@@ -12,7 +12,7 @@ use lib.Dec.{eqb, leb, eqb·zero-suc, eqb·suc-zero, eqb·suc-suc, lit<}
 use lib.Pow.{pow-mono, pow-lt, pow-pos, shl-exact, split}
 use borrow.Author.Tests.{leb-true, leb-false, lt-ltb, ltb-true, eqb-true, eq-eqb, ne-eqb}
 use Rattle.record.specs.Below.{count}
-use Rattle.record.specs.Members.{legal, faulty, quorum, leader, has, add, within, meets}
+use Rattle.record.specs.Members.{legal, faulty, quorum, leader, has, add, within, meets, rounds, slots}
 use Rattle.record.proofs.Booleans.{which, and-left, and-right, and-both, or-right, bool-ext}
 use Rattle.record.proofs.Below.{count-cong, count-low}
 
@@ -21,22 +21,22 @@ use Rattle.record.proofs.Below.{count-cong, count-low}
 -- what a legal member count is
 pub record Legal (n : ℕ) : Type 0 where
   pub low : 4 ≤ n
-  pub high : n ≤ 16
+  pub high : n ≤ slots
   pub thirds : n ≡ 3 * faulty n + 1
 
 pub legal-range : (n : ℕ) → legal n ≡ true → Legal n
 unfolding legal
 legal-range n e =
-    let r : (leb n 16 && eqb (n % 3) 1) ≡ true = and-right (leb 4 n) _ e in
-    let m : n % 3 ≡ 1 = eqb-true _ _ (and-right (leb n 16) _ r) in
-    record { low = leb-true 4 n (and-left (leb 4 n) _ e); high = leb-true n 16 (and-left _ _ r); thirds = omega arith }
+    let r : (leb n slots && eqb (n % 3) 1) ≡ true = and-right (leb 4 n) _ e in
+    let m : n % 3 ≡ 1 = eqb-true _ _ (and-right (leb n slots) _ r) in
+    record { low = leb-true 4 n (and-left (leb 4 n) _ e); high = leb-true n slots (and-left _ _ r); thirds = omega arith }
 
 pub leader-lt : (n r : ℕ) → 0 < n → leader n r < n
 unfolding leader
 leader-lt n r l = mod-lt (r - 1) l
 
 -- a leader of the 32 rounds is a bit of a word
-pub leader-small : (n r : ℕ) → r ≤ 32 → leader n r < 32
+pub leader-small : (n r : ℕ) → r ≤ rounds → leader n r < 32
 unfolding leader
 leader-small n r l = omega (arith, mod-le (r - 1) n)
 

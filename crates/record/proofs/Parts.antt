@@ -9,11 +9,12 @@ use lib.Dec.{eqb}
 use lib.ListN.{length}
 use lib.Pow.{pow-pos}
 use borrow.Author.Tests.{eqb-true, eqb-false, eq-eqb}
-use Rattle.record.specs.Members.{leader, within, meets}
+use Rattle.record.specs.Members.{leader, within, meets, rounds}
 use Rattle.record.specs.Refusals.{numberOf}
-use Rattle.record.specs.Layout.{strongOf, timeoutsOf, noVotesOf}
-use Rattle.record.specs.Questions.{masksOk, strongOk, lacksLeader, quorumIf, timeoutsOk, noVotesOk, masksAdmitted}
-use Rattle.record.specs.Questions.{weakOk, signerQuestions, recordQuestions, bodyRefusal, Known}
+use Rattle.record.specs.Layout.{strongOf, timeoutsOf, noVotesOf, bodySize}
+use Rattle.record.specs.Questions.{masksOk, strongOk, lacksLeader, quorumIf, timeoutsOk, noVotesOk}
+use Rattle.record.specs.Questions.{weakOk, signerQuestions, recordQuestions, bodyRefusal}
+use Rattle.record.specs.Inner.{masksAdmitted, Known}
 use Rattle.record.specs.declared.questions.Terms.{Terms}
 use Rattle.record.proofs.Booleans.{and-left, and-right, and-both, and-fails-left, and-fails-right, bool-ext, passed, failed}
 use Rattle.record.proofs.Masks.{or-zero, lt-within}
@@ -48,7 +49,7 @@ module _ (n round source : ℕ) (body : List ℕ) where
       (and-both (lt-within n (timeoutsOf body) (omega (arith, pow-pos n))) (lt-within n (noVotesOf body) (omega (arith, pow-pos n))))) both))
 
   -- a body that 4 to 6 do not refuse is admitted exactly if its masks and its weak ids are
-  pub admitted-parts : 1 ≤ round → round ≤ 32 → source < n → length body ≡ 10
+  pub admitted-parts : 1 ≤ round → round ≤ rounds → source < n → length body ≡ bodySize
       → eqb (numberOf (bodyRefusal n round source body)) 0 ≡ (masksAdmitted n round source body && weakOk n round body)
   unfolding masksAdmitted recordQuestions signerQuestions
   admitted-parts low high member size = bool-ext there back

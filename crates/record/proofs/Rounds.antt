@@ -5,15 +5,15 @@ use Prim.Native.Nat.{ℕ, _≤_, _<_}
 use native.Mathlib.Omega.{arith}
 use lib.Dec.{leb, ltb}
 use borrow.Author.Tests.{leb-true, le-leb, lt-leb, ltb-true, lt-ltb}
-use Rattle.record.specs.Members.{isRound, idRound}
+use Rattle.record.specs.Members.{isRound, idRound, rounds, slots, idLimit}
 use Rattle.record.proofs.Booleans.{and-left, and-right, and-both, and-fails-left, and-fails-right, bool-ext}
 
 -- exactly the numbers from 1 to 32 are rounds
-pub round-in : (r : ℕ) → 1 ≤ r → r ≤ 32 → isRound r ≡ true
+pub round-in : (r : ℕ) → 1 ≤ r → r ≤ rounds → isRound r ≡ true
 unfolding isRound
-round-in r l h = and-both (le-leb 1 r l) (le-leb r 32 h)
+round-in r l h = and-both (le-leb 1 r l) (le-leb r rounds h)
 
-pub round-range : (r : ℕ) → isRound r ≡ true → (1 ≤ r) × (r ≤ 32)
+pub round-range : (r : ℕ) → isRound r ≡ true → (1 ≤ r) × (r ≤ rounds)
 unfolding isRound
 round-range r e = (leb-true _ _ (and-left (leb 1 r) _ e), leb-true _ _ (and-right (leb 1 r) _ e))
 
@@ -21,15 +21,15 @@ pub round-below : (r : ℕ) → r < 1 → isRound r ≡ false
 unfolding isRound
 round-below r h = and-fails-left _ (lt-leb 1 r h)
 
-pub round-above : (r : ℕ) → 32 < r → isRound r ≡ false
+pub round-above : (r : ℕ) → rounds < r → isRound r ≡ false
 unfolding isRound
-round-above r h = and-fails-right (leb 1 r) (lt-leb r 32 h)
+round-above r h = and-fails-right (leb 1 r) (lt-leb r rounds h)
 
 -- the ids are the numbers from 16 to 527
-pub id-low : (x : ℕ) → x < 16 → isRound (idRound x) ≡ false
+pub id-low : (x : ℕ) → x < slots → isRound (idRound x) ≡ false
 id-low x h = round-below (idRound x) (omega arith)
 
-pub id-test : (x : ℕ) → 16 ≤ x → ltb x 528 ≡ isRound (idRound x)
+pub id-test : (x : ℕ) → slots ≤ x → ltb x idLimit ≡ isRound (idRound x)
 id-test x h = bool-ext
-    (λ e. round-in (idRound x) (omega arith) (omega (arith, ltb-true x 528 e)))
-    (λ e. lt-ltb x 528 (omega (arith, round-range (idRound x) e .1)))
+    (λ e. round-in (idRound x) (omega arith) (omega (arith, ltb-true x idLimit e)))
+    (λ e. lt-ltb x idLimit (omega (arith, round-range (idRound x) e .1)))

@@ -8,9 +8,9 @@ use lib.Dec.{eqb, leb, ltb}
 use lib.ListN.{length, drop}
 use borrow.Author.Tests.{leb-true, ltb-true, lt-ltb, eqb-true, eqb-false, ne-eqb, eq-eqb, le-leb}
 use Rattle.record.specs.Below.{count}
-use Rattle.record.specs.Members.{faulty, quorum, leader, has, within, meets, idRound, idMember}
+use Rattle.record.specs.Members.{faulty, quorum, leader, has, within, meets, idRound, idMember, rounds}
 use Rattle.record.specs.Refusals.{numberOf, Question, firstNo, numbered}
-use Rattle.record.specs.Layout.{strongOf, timeoutsOf, noVotesOf, weakCountOf, weakOf}
+use Rattle.record.specs.Layout.{strongOf, timeoutsOf, noVotesOf, weakCountOf, weakOf, bodySize, weakSlots}
 use Rattle.record.specs.Questions.{masksOk, strongOk, lacksLeader, quorumIf, timeoutsOk, noVotesOk, weakIdOk, rises, slotOk, weakOk}
 use Rattle.record.specs.Questions.{signerQuestions, recordQuestions, bodyRefusal}
 use Rattle.record.specs.Admitted.{SignerLaw, AdmittedLaw, NumberedLaw}
@@ -65,7 +65,7 @@ unfolding numbered signerQuestions recordQuestions
 numbered-law n round source = (refl, λ body. refl)
 
 -- where questions 4 to 6 are answered yes, those from 7 on decide
-pub known : (n round source : ℕ) (body : List ℕ) {r : Refusal} → 1 ≤ round → round ≤ 32 → source < n → length body ≡ 10
+pub known : (n round source : ℕ) (body : List ℕ) {r : Refusal} → 1 ≤ round → round ≤ rounds → source < n → length body ≡ bodySize
     → r ≡ firstNo (drop 3 (recordQuestions n round source body)) → r ≡ bodyRefusal n round source body
 unfolding recordQuestions signerQuestions
 known n round source body l h k e d =
@@ -119,11 +119,11 @@ unfolding quorumIf
 wanted n t mask l e h = met n mask l (sym (cond-true (meets n mask) (eqb mask 0) h) ∙ e)
 
 -- what a used slot holds
-used : (n round : ℕ) (body : List ℕ) → weakOk n round body ≡ true → (i : ℕ) → i < 5 → i < weakCountOf body
+used : (n round : ℕ) (body : List ℕ) → weakOk n round body ≡ true → (i : ℕ) → i < weakSlots → i < weakCountOf body
     → (rises body i && weakIdOk n round (weakOf body i)) ≡ true
 unfolding weakOk slotOk
 used n round body e i l h =
-    let s : slotOk n round body i ≡ true = all-elim 5 (slotOk n round body) (and-right (leb (weakCountOf body) (faulty n)) _ e) i l in
+    let s : slotOk n round body i ≡ true = all-elim weakSlots (slotOk n round body) (and-right (leb (weakCountOf body) (faulty n)) _ e) i l in
     sym (cond-true (rises body i && weakIdOk n round (weakOf body i)) (eqb (weakOf body i) 0) (lt-ltb i (weakCountOf body) h)) ∙ s
 
 pub weak-id : (n round x : ℕ) → weakIdOk n round x ≡ true → (idMember x < n) × (1 ≤ idRound x) × (idRound x + 2 ≤ round)

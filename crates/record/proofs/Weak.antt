@@ -10,8 +10,9 @@ use lib.Dec.{eqb, leb, ltb}
 use borrow.Author.Tests.{leb-true, leb-false, le-leb, lt-leb, lt-ltb, ltb-true, ne-eqb, not-true, not-false}
 use Rattle.record.specs.Below.{all}
 use Rattle.record.specs.Members.{faulty}
-use Rattle.record.specs.Layout.{weakSlots, weakCountOf, usedSlots, weakOf}
+use Rattle.record.specs.Layout.{weakSlots, weakCountOf, weakOf}
 use Rattle.record.specs.Questions.{weakIdOk, rises, usedOk, slotOk, weakOk}
+use Rattle.record.specs.Inner.{usedSlots, beforeIds}
 use Rattle.record.proofs.Booleans.{which, and-left, and-right, and-both, and-fails-left, bool-ext, cond-true, cond-false, passed, failed}
 use Rattle.record.proofs.Below.{all-none, all-more, all-stop, all-intro, all-elim}
 use Rattle.record.proofs.Masks.{or-zero}
@@ -28,23 +29,23 @@ rises-later : (body : List ℕ) (i : ℕ) → 1 ≤ i → rises body i ≡ ltb (
 unfolding rises
 rises-later body i l = cond-false true _ (ne-eqb i 0 (λ d. omega arith))
 
--- a weak id above the last one; the last one is 15 for the first slot, below every id
-weak-slot : (n round : ℕ) (body : List ℕ) (i last : ℕ) → (i ≡ 0 → last ≡ 15) → (1 ≤ i → last ≡ weakOf body (i - 1))
+-- a weak id above the last one; before the first slot it counts as below every id
+weak-slot : (n round : ℕ) (body : List ℕ) (i last : ℕ) → (i ≡ 0 → last ≡ beforeIds) → (1 ≤ i → last ≡ weakOf body (i - 1))
     → (ltb last (weakOf body i) && weakIdOk n round (weakOf body i)) ≡ usedOk n round body i
 weak-slot n round body zero last f g = rw (f refl, rises-first body) (bool-ext
-    (λ d. and-right (ltb 15 (weakOf body 0)) _ d)
-    (λ d. let w = weak-id n round (weakOf body 0) d in and-both (lt-ltb 15 (weakOf body 0) (omega (arith, w .1))) d))
+    (λ d. and-right (ltb beforeIds (weakOf body 0)) _ d)
+    (λ d. let w = weak-id n round (weakOf body 0) d in and-both (lt-ltb beforeIds (weakOf body 0) (omega (arith, w .1))) d))
 weak-slot n round body (suc i) last f g = rw (g (omega arith), rises-later body (suc i) (omega arith))
 
--- the first i pass, and the last one is that of the slot before, 15 at first
+-- the first i pass, and the last one is that of the slot before, or below every id at first
 pub record Risen (n round : ℕ) (body : List ℕ) (count last i : ℕ) : Type 0 where
   pub below : i ≤ count
-  pub above : 15 ≤ last
-  pub first : i ≡ 0 → last ≡ 15
+  pub above : beforeIds ≤ last
+  pub first : i ≡ 0 → last ≡ beforeIds
   pub later : 1 ≤ i → last ≡ weakOf body (i - 1)
   pub pass : all i (usedOk n round body) ≡ true
 
-pub risen-start : (n round : ℕ) (body : List ℕ) (count : ℕ) → Risen n round body count 15 0
+pub risen-start : (n round : ℕ) (body : List ℕ) (count : ℕ) → Risen n round body count beforeIds 0
 risen-start n round body count = record { below = omega arith; above = omega arith; first = λ _. refl; later = λ h. absurd (omega arith); pass = all-none _ }
 
 module _ {n round : ℕ} {body : List ℕ} {count last i : ℕ} (R : Risen n round body count last i) where
@@ -136,7 +137,7 @@ module _ (n round : ℕ) (body : List ℕ) (f : ℕ) (e : f ≡ faulty n) where
 
 -- ---- slots that are not used, where no weak id is or one
 
-five : (t : ℕ → Bool) → all 5 t ≡ ((((t 0 && t 1) && t 2) && t 3) && t 4)
+five : (t : ℕ → Bool) → all weakSlots t ≡ ((((t 0 && t 1) && t 2) && t 3) && t 4)
 unfolding all
 five t = refl
 

@@ -7,7 +7,7 @@ use lib.ListN.{length}
 use Rattle.record.specs.Below.{count}
 use Rattle.record.specs.Members.{rounds, faulty, quorum, leader, has, idRound, idMember}
 use Rattle.record.specs.Refusals.{numberOf, numbered}
-use Rattle.record.specs.Layout.{bodySize, strongOf, timeoutsOf, noVotesOf, weakCountOf, weakOf}
+use Rattle.record.specs.Layout.{bodySize, strongOf, timeoutsOf, noVotesOf, weakCountOf, weakOf, weakSlots}
 use Rattle.record.specs.Questions.{signerQuestions, recordQuestions, signerRefusal, bodyRefusal}
 
 -- a round, and a member of the group
@@ -34,10 +34,10 @@ pub record Admitted (n round source : ℕ) (body : List ℕ) : Type 0 where
       → quorum n ≤ count n (has (noVotesOf body))
   -- weak ids are of members below n, rise strictly, and lie at least two rounds below
   pub weak-few : weakCountOf body ≤ faulty n
-  pub weak-member : (i : ℕ) → i < 5 → i < weakCountOf body → idMember (weakOf body i) < n
-  pub weak-low : (i : ℕ) → i < 5 → i < weakCountOf body → 1 ≤ idRound (weakOf body i)
-  pub weak-high : (i : ℕ) → i < 5 → i < weakCountOf body → idRound (weakOf body i) + 2 ≤ round
-  pub weak-rising : (i : ℕ) → i + 1 < 5 → i + 1 < weakCountOf body → weakOf body i < weakOf body (i + 1)
+  pub weak-member : (i : ℕ) → i < weakSlots → i < weakCountOf body → idMember (weakOf body i) < n
+  pub weak-low : (i : ℕ) → i < weakSlots → i < weakCountOf body → 1 ≤ idRound (weakOf body i)
+  pub weak-high : (i : ℕ) → i < weakSlots → i < weakCountOf body → idRound (weakOf body i) + 2 ≤ round
+  pub weak-rising : (i : ℕ) → i + 1 < weakSlots → i + 1 < weakCountOf body → weakOf body i < weakOf body (i + 1)
 
 -- every round and signer with the number 0 is so, and every record
 abbrev pub SignerLaw : Type 0

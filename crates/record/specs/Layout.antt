@@ -1,54 +1,81 @@
--- The words of a record: round, source, and a body of ten words.
-use mathlib.Core.Bool.{cond}
-use mathlib.Core.List.{List}
-use Prim.Native.Nat.{ℕ, _+_}
-use lib.Dec.{leb}
-use lib.ListN.{getD, drop}
+-- The words of a record: round, source, and a body. Every size and place of them is written here.
+use mathlib.Core.List.{List, _∷_, _++_}
+use Prim.Native.Nat.{ℕ, _+_, _-_}
+use lib.ListN.{length, getD, drop, replicate}
 
 abbrev pub recordSize : ℕ
 recordSize = 12
 
+-- of a whole record
+abbrev pub roundPlace : ℕ
+roundPlace = 0
+
+abbrev pub sourcePlace : ℕ
+sourcePlace = 1
+
+abbrev pub bodyPlace : ℕ
+bodyPlace = 2
+
+abbrev pub roundOf : List ℕ → ℕ
+roundOf rec = getD rec roundPlace 0
+
+abbrev pub sourceOf : List ℕ → ℕ
+sourceOf rec = getD rec sourcePlace 0
+
+abbrev pub bodyOf : List ℕ → List ℕ
+bodyOf rec = drop bodyPlace rec
+
+-- of a body
 abbrev pub bodySize : ℕ
 bodySize = 10
+
+abbrev pub strongPlace : ℕ
+strongPlace = 0
+
+abbrev pub timeoutsPlace : ℕ
+timeoutsPlace = 1
+
+abbrev pub noVotesPlace : ℕ
+noVotesPlace = 2
+
+abbrev pub tagPlace : ℕ
+tagPlace = 3
+
+abbrev pub weakCountPlace : ℕ
+weakCountPlace = 4
+
+abbrev pub weakPlace : ℕ
+weakPlace = 5
 
 abbrev pub weakSlots : ℕ
 weakSlots = 5
 
--- of a whole record
-abbrev pub roundOf : List ℕ → ℕ
-roundOf rec = getD rec 0 0
-
-abbrev pub sourceOf : List ℕ → ℕ
-sourceOf rec = getD rec 1 0
-
-abbrev pub bodyOf : List ℕ → List ℕ
-bodyOf rec = drop 2 rec
-
--- of a body; each is 0 of the empty body, which stands for no record
+-- each is 0 of the empty body, which stands for no record
 -- the mask of the parents in the round before
 unfoldable pub strongOf : List ℕ → ℕ
-strongOf body = getD body 0 0
+strongOf body = getD body strongPlace 0
 
 -- the mask of the signers of a timeout certificate for the round before
 unfoldable pub timeoutsOf : List ℕ → ℕ
-timeoutsOf body = getD body 1 0
+timeoutsOf body = getD body timeoutsPlace 0
 
 -- the mask of the signers of a no-vote certificate for the round before
 unfoldable pub noVotesOf : List ℕ → ℕ
-noVotesOf body = getD body 2 0
+noVotesOf body = getD body noVotesPlace 0
 
 -- the host's block: any number
 unfoldable pub tagOf : List ℕ → ℕ
-tagOf body = getD body 3 0
+tagOf body = getD body tagPlace 0
 
 -- how many weak ids are used
 unfoldable pub weakCountOf : List ℕ → ℕ
-weakCountOf body = getD body 4 0
-
--- how many slots that is: all, where the count is above their number
-unfoldable pub usedSlots : List ℕ → ℕ
-usedSlots body = cond (leb (weakCountOf body) weakSlots) (weakCountOf body) weakSlots
+weakCountOf body = getD body weakCountPlace 0
 
 -- the weak id in slot i
 unfoldable pub weakOf : List ℕ → ℕ → ℕ
-weakOf body i = getD body (5 + i) 0
+weakOf body i = getD body (weakPlace + i) 0
+
+-- a whole record: round, source, the three masks, the tag, and the weak ids in the first slots
+abbrev pub recordWords : ℕ → ℕ → ℕ → ℕ → ℕ → ℕ → List ℕ → List ℕ
+recordWords round source strong timeouts noVotes tag weak =
+    round ∷ source ∷ strong ∷ timeouts ∷ noVotes ∷ tag ∷ length weak ∷ (weak ++ replicate (weakSlots - length weak) 0)

@@ -10,6 +10,10 @@ use Rattle.record.specs.declared.members.Members.{Members}
 abbrev pub rounds : ℕ
 rounds = 32
 
+-- those that the next one can vote for, and that can be committed, are 1 to 31
+abbrev pub votedRounds : ℕ
+votedRounds = 31
+
 unfoldable pub isRound : ℕ → Bool
 isRound r = leb 1 r && leb r rounds
 
@@ -19,7 +23,7 @@ slots = 16
 
 -- n is 4, 7, 10, 13 or 16
 unfoldable pub legal : ℕ → Bool
-legal n = leb 4 n && (leb n 16 && eqb (n % 3) 1)
+legal n = leb 4 n && (leb n slots && eqb (n % 3) 1)
 
 -- f, the most members of n that may be faulty
 abbrev pub faulty : ℕ → ℕ
@@ -62,3 +66,7 @@ idRound x = x / slots
 
 abbrev pub idMember : ℕ → ℕ
 idMember x = x % slots
+
+-- every id of a round of the group is below it
+abbrev pub idLimit : ℕ
+idLimit = slots * (rounds + 1)

@@ -1,15 +1,13 @@
 -- Questions 4 to 11 of document 01: what is asked of a record of which only the member count n is known.
-use mathlib.Core.Path.{_≡_}
 use mathlib.Core.Bool.{Bool, true, cond, not, _&&_}
 use mathlib.Core.List.{List, [], _∷_, _++_}
-use Prim.Native.Nat.{ℕ, _+_, _-_, _≤_, _<_}
+use Prim.Native.Nat.{ℕ, _+_, _-_}
 use lib.Dec.{eqb, leb, ltb}
 use lib.ListN.{length}
 use Rattle.record.specs.Below.{all}
-use Rattle.record.specs.Members.{rounds, isRound, faulty, leader, has, within, meets, idRound, idMember}
+use Rattle.record.specs.Members.{isRound, faulty, leader, has, within, meets, idRound, idMember}
 use Rattle.record.specs.Refusals.{Question, firstNo}
 use Rattle.record.specs.Layout.{bodySize, weakSlots, roundOf, sourceOf, bodyOf, strongOf, timeoutsOf, noVotesOf, weakCountOf, weakOf}
-use Rattle.record.specs.declared.questions.Terms.{Terms}
 use Rattle.record.specs.declared.refusal.Refusal.{Refusal}
 use Rattle.record.specs.declared.refusal.Refusal.the-variants.{RecordSize, Round, Source, MaskBits, Strong, Timeouts, NoVotes, Weak}
 
@@ -40,11 +38,6 @@ timeoutsOk n round body = quorumIf n (lacksLeader n round (strongOf body)) (time
 unfoldable pub noVotesOk : ℕ → ℕ → ℕ → List ℕ → Bool
 noVotesOk n round source body = quorumIf n (lacksLeader n round (strongOf body) && eqb source (leader n round)) (noVotesOf body)
 
--- 7 to 10 together: what is asked of the three masks
-unfoldable pub masksAdmitted : ℕ → ℕ → ℕ → List ℕ → Bool
-masksAdmitted n round source body =
-    masksOk n body && (strongOk n round (strongOf body) && (timeoutsOk n round body && noVotesOk n round source body))
-
 -- a weak id is of a member below n, and of a round from 1 to the record's round less 2
 unfoldable pub weakIdOk : ℕ → ℕ → ℕ → Bool
 weakIdOk n round x = ltb (idMember x) n && (leb 1 (idRound x) && leb (idRound x + 2) round)
@@ -68,7 +61,7 @@ weakOk n round body = leb (weakCountOf body) (faulty n) && all weakSlots (slotOk
 unfoldable pub signerQuestions : ℕ → ℕ → ℕ → List Question
 signerQuestions n round signer = (isRound round, Round) ∷ (ltb signer n, Source) ∷ []
 
--- The questions in turn. Question 4 is asked of the body: a record has 12 words exactly if its body has ten.
+-- The questions in turn. Question 4 is asked of the body: a record has its size exactly if its body has.
 unfoldable pub recordQuestions : ℕ → ℕ → ℕ → List ℕ → List Question
 recordQuestions n round source body =
     (eqb (length body) bodySize, RecordSize)
@@ -89,15 +82,3 @@ bodyRefusal n round source body = firstNo (recordQuestions n round source body)
 
 abbrev pub recordRefusal : ℕ → List ℕ → Refusal
 recordRefusal n rec = bodyRefusal n (roundOf rec) (sourceOf rec) (bodyOf rec)
-
--- what the questions need of n and the round, as `Terms`
-abbrev pub termsOf : ℕ → ℕ → Terms
-termsOf n round = record { n = n; previous = leader n (round - 1); leader = leader n round }
-
--- a body of which 4 to 6 are answered yes, with the terms of its round
-pub record Known (terms : Terms) (round source : ℕ) (body : List ℕ) : Type 0 where
-  pub terms-of : terms ≡ termsOf (terms .n) round
-  pub round-low : 1 ≤ round
-  pub round-high : round ≤ rounds
-  pub source-low : source < terms .n
-  pub size : length body ≡ bodySize

@@ -4,7 +4,8 @@ use mathlib.Core.List.{List, [], _∷_}
 use Prim.Native.Nat.{ℕ}
 use lib.Dec.{eqb}
 use Rattle.record.specs.declared.refusal.Refusal.{Refusal}
-use Rattle.record.specs.declared.refusal.Refusal.the-variants.{None, StateSize, MemberCount, Malformed, RecordSize, Round, Source, MaskBits, Strong, Timeouts, NoVotes, Weak, Duplicate, Conflict, MissingParent, PastEnd}
+use Rattle.record.specs.declared.refusal.Refusal.the-variants.{None, StateSize, MemberCount, Malformed, RecordSize, Round, Source, MaskBits}
+use Rattle.record.specs.declared.refusal.Refusal.the-variants.{Strong, Timeouts, NoVotes, Weak, Duplicate, Conflict, MissingParent, PastEnd}
 
 -- the paper's number
 abbrev pub numberOf : Refusal → ℕ

@@ -1,12 +1,21 @@
 // Rounds, masks of members, quorums and leaders.
 ghost use mathlib.Core.Path.{_≡_};
 ghost use Prim.Native.Nat.{ℕ, _<_, _≤_, _^_};
-ghost use Rattle.record.specs.Members.{isRound, legal, faulty, quorum, leader, has, within, meets, with};
+ghost use Rattle.record.specs.Members.{isRound, legal, faulty, quorum, leader, has, add, within, meets, with};
 
 pub const ROUNDS: u32 = 32;
 
+// One mask for each round.
+pub const MASKS: usize = ROUNDS as usize;
+
+// The rounds that the next one can vote for.
+pub const VOTED_ROUNDS: u32 = 31;
+
 // The ids of a round.
 pub const SLOTS: u32 = 16;
+
+// Every id of a round of the group is below it.
+pub const ID_LIMIT: u32 = SLOTS * (ROUNDS + 1);
 
 // A mask of members of a group of n.
 pub struct Members {
@@ -31,7 +40,7 @@ pub fn is_legal(n: u32) -> bool
     if n < 4 {
         return false;
     }
-    if 16 < n {
+    if SLOTS < n {
         return false;
     }
     n % 3 == 1
@@ -59,12 +68,28 @@ pub fn leader_of(n: u32, round: u32) -> u32
     (round - 1) % n
 }
 
-// The mask of member p alone.
+// The word with bit p alone.
 pub fn power(p: u32) -> u32
     requires { ⌜ p < 32 ⌝ }
     ensures { λ r. ⌜ r ≡ 2 ^ p ⌝ }
 {
     1u32 << p
+}
+
+// Bit p of the word is set.
+pub fn has_bit(word: u32, p: u32) -> bool
+    requires { ⌜ p < 32 ⌝ }
+    ensures { λ r. ⌜ r ≡ has word p ⌝ }
+{
+    (word >> p) % 2 == 1
+}
+
+// The word with bit p set.
+pub fn with_bit(word: u32, p: u32) -> u32
+    requires { ⌜ p < 32 ⌝ }
+    ensures { λ r. ⌜ r ≡ add word p ⌝ }
+{
+    word | power(p)
 }
 
 // The mask has no bit at n or above.
@@ -83,7 +108,7 @@ impl Members {
         ensures { λ r. ⌜ r ≡ with self p ⌝ }
     {
         Members {
-            bits: self.bits | power(p),
+            bits: with_bit(self.bits, p),
             n: self.n,
         }
     }
@@ -92,7 +117,7 @@ impl Members {
         requires { ⌜ p < 32 ⌝ }
         ensures { λ r. ⌜ r ≡ has (self .bits) p ⌝ }
     {
-        (self.bits >> p) % 2 == 1
+        has_bit(self.bits, p)
     }
 
     pub fn meets_quorum(self) -> bool

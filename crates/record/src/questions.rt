@@ -7,9 +7,10 @@ ghost use lib.ListN.{length};
 ghost use Rattle.record.specs.Below.{all};
 ghost use Rattle.record.specs.Members.{rounds, meets};
 ghost use Rattle.record.specs.Refusals.{numberOf};
-ghost use Rattle.record.specs.Layout.{bodySize, weakSlots, usedSlots, weakOf};
-ghost use Rattle.record.specs.Questions.{allWithin, strongOk, lacksLeader, quorumIf, masksAdmitted, weakIdOk, usedOk, weakOk};
-ghost use Rattle.record.specs.Questions.{signerRefusal, bodyRefusal, recordRefusal, termsOf, Known};
+ghost use Rattle.record.specs.Layout.{bodySize, weakSlots, weakOf};
+ghost use Rattle.record.specs.Questions.{allWithin, strongOk, lacksLeader, quorumIf, weakIdOk, usedOk, weakOk};
+ghost use Rattle.record.specs.Questions.{signerRefusal, bodyRefusal, recordRefusal};
+ghost use Rattle.record.specs.Inner.{masksAdmitted, termsOf, Known, usedSlots, beforeIds};
 use super::layout::BODY;
 use super::layout::BODY_SIZE;
 use super::layout::NO_VOTES;
@@ -30,6 +31,9 @@ use super::members::is_within;
 use super::members::leader_of;
 use super::refusal::Refusal;
 use super::refusal::number;
+
+// The number before the first id.
+const BEFORE_IDS: u32 = SLOTS - 1;
 
 // What the questions need of the group and the round, worked out once for all records of a round.
 pub struct Terms {
@@ -114,7 +118,7 @@ fn no_votes_ok(terms: Terms, source: u32, lack: bool, no_votes: u32) -> bool
 
 // 11, of the weak id x: it is above the last one, of a member below n, and at least two rounds below the record.
 fn weak_id_ok(n: u32, round: u32, last: u32, x: u32) -> bool
-    requires { ⌜ 15 ≤ last ⌝ }
+    requires { ⌜ beforeIds ≤ last ⌝ }
     ensures { λ r. ⌜ r ≡ (ltb last x && weakIdOk n round x) ⌝ }
 {
     if x <= last {
@@ -126,12 +130,12 @@ fn weak_id_ok(n: u32, round: u32, last: u32, x: u32) -> bool
     x / SLOTS + 2 <= round
 }
 
-// So for so many weak ids. The one before the first is 15, below every id.
+// So for so many weak ids. The one before the first counts as below every id.
 fn weak_ids_ok(n: u32, round: u32, body: &[u32], count: usize) -> bool
     requires { ⌜ (length (now body) ≡ bodySize) × (count ≤ weakSlots) ⌝ }
     ensures { λ r. ⌜ r ≡ all count (usedOk n round (now (body .entry))) ⌝ }
 {
-    let mut last: u32 = 15;
+    let mut last: u32 = BEFORE_IDS;
     let mut i: usize = 0;
     while i < count {
         let x = body[WEAK + i];

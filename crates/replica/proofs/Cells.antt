@@ -9,13 +9,14 @@ use lib.Dec.{eqb}
 use lib.ListN.{length, getD, take, drop, length-drop}
 use lib.Seq.{length-take-le}
 use Rattle.record.specs.Below.{all}
-use Rattle.record.specs.Members.{legal, has}
-use Rattle.record.specs.Questions.{termsOf, Known}
+use Rattle.record.specs.Members.{legal, has, rounds, slots}
+use Rattle.record.specs.Inner.{termsOf, Known}
 use Rattle.record.specs.declared.questions.Terms.{Terms}
 use Rattle.record.proofs.Booleans.{which, cond-true, cond-false, and-fails-left, passed, failed}
 use Rattle.record.proofs.Below.{all-none, all-cong, all-join}
 use Rattle.record.proofs.Masks.{has-zero, has-bound, legal-range}
-use Rattle.replica.specs.Layout.{cellAt}
+use Rattle.record.specs.Layout.{bodySize}
+use Rattle.replica.specs.Layout.{cellAt, stateSize, roundSize}
 use Rattle.replica.specs.State.{memberCount, heldMask, cell}
 use Rattle.replica.specs.WellFormed.{eachRound, masksWithin, recordOk, cellOk}
 use Rattle.replica.specs.Inner.{Grouped}
@@ -23,13 +24,13 @@ use Rattle.replica.proofs.Laws.{blank, part-zero}
 use Rattle.replica.proofs.Words.{masks-small, round-elim}
 
 -- the lent part is the cell
-cell-part : (l : List ℕ) (at a : ℕ) → at ≡ a → take ((at + 10) - at) (drop at l) ≡ take 10 (drop a l)
+cell-part : (l : List ℕ) (at a : ℕ) → at ≡ a → take ((at + bodySize) - at) (drop at l) ≡ take bodySize (drop a l)
 cell-part l at a e =
-    let ten : (at + 10) - at ≡ 10 = omega arith in
+    let ten : (at + bodySize) - at ≡ bodySize = omega arith in
     rw (ten, e)
 
 -- a cell that is not held
-cell-empty : (l : List ℕ) (r p : ℕ) → has (heldMask l r) p ≡ false → cellOk l r p ≡ all 10 (λ i. eqb (getD l (cellAt r p + i) 0) 0)
+cell-empty : (l : List ℕ) (r p : ℕ) → has (heldMask l r) p ≡ false → cellOk l r p ≡ all bodySize (λ i. eqb (getD l (cellAt r p + i) 0) 0)
 unfolding cellOk
 cell-empty l r p e = cond-false _ _ e
 
@@ -47,9 +48,10 @@ words-part l at end a k e f h =
     rw (d, e) (part-zero l a k h)
 
 -- the part is as long as a body
-cell-long : (l : List ℕ) (r p at : ℕ) → length l ≡ 5864 → r ≤ 32 → p < 16 → at ≡ cellAt r p → length (take ((at + 10) - at) (drop at l)) ≡ 10
+cell-long : (l : List ℕ) (r p at : ℕ) → length l ≡ stateSize → r ≤ rounds → p < slots → at ≡ cellAt r p
+    → length (take ((at + bodySize) - at) (drop at l)) ≡ bodySize
 cell-long l r p at size high few place =
-    ap length (cell-part l at (cellAt r p) place) ∙ length-take-le 10 (drop (cellAt r p) l) (omega (arith, length-drop (cellAt r p) l))
+    ap length (cell-part l at (cellAt r p) place) ∙ length-take-le bodySize (drop (cellAt r p) l) (omega (arith, length-drop (cellAt r p) l))
 
 -- the terms are those of the group
 pub terms-count : (l : List ℕ) (t : Terms) (r : ℕ) → t ≡ termsOf (memberCount l) r → t .n ≡ memberCount l
@@ -57,13 +59,13 @@ terms-count l t r e = rw e
 
 module _ (l : List ℕ) (r p at h : ℕ) (b : Bool) (place : at ≡ cellAt r p) (mask : h ≡ heldMask l r) (bit : b ≡ has h p) where
   -- nobody holds the cell
-  pub cell-blank : length l ≡ 5864 → r ≤ 32 → p < 16 → not b ≡ true → (z : Bool) → z ≡ blank l at (at + 10) → z ≡ cellOk l r p
+  pub cell-blank : length l ≡ stateSize → r ≤ rounds → p < slots → not b ≡ true → (z : Bool) → z ≡ blank l at (at + bodySize) → z ≡ cellOk l r p
   cell-blank size high few t z e =
-      e ∙ words-part l at (at + 10) (cellAt r p) 10 place (omega arith) (omega arith) ∙ sym (cell-empty l r p (failed (rw mask at bit) t))
+      e ∙ words-part l at (at + bodySize) (cellAt r p) bodySize place (omega arith) (omega arith) ∙ sym (cell-empty l r p (failed (rw mask at bit) t))
 
   -- or it is held: of its record 4 to 6 are answered yes, and it decides
-  pub cell-known : not b ≡ false → Grouped l → 1 ≤ r → r ≤ 32 → p < 16 → (t : Terms) → t ≡ termsOf (memberCount l) r
-      → Known t r p (take ((at + 10) - at) (drop at l))
+  pub cell-known : not b ≡ false → Grouped l → 1 ≤ r → r ≤ rounds → p < slots → (t : Terms) → t ≡ termsOf (memberCount l) r
+      → Known t r p (take ((at + bodySize) - at) (drop at l))
   cell-known held g low high few t e = rw e (record {
     terms-of = refl;
     round-low = low;
@@ -72,77 +74,78 @@ module _ (l : List ℕ) (r p at h : ℕ) (b : Bool) (place : at ≡ cellAt r p) 
     size = cell-long l r p at (g .size) high few place;
   })
 
-  pub cell-decides : not b ≡ false → (z : Bool) → z ≡ recordOk l r p (take ((at + 10) - at) (drop at l)) → z ≡ cellOk l r p
+  pub cell-decides : not b ≡ false → (z : Bool) → z ≡ recordOk l r p (take ((at + bodySize) - at) (drop at l)) → z ≡ cellOk l r p
   cell-decides t z e = e ∙ cell-held l r p _ (passed (rw mask at bit) t) (cell-part l at _ place)
 
 -- ---- cells that nobody holds, together
 
 -- the words of k cells from member a on
 cells-zero : (l : List ℕ) (r a k : ℕ)
-    → all (10 * k) (λ i. eqb (getD l (cellAt r a + i) 0) 0) ≡ all k (λ p. all 10 (λ i. eqb (getD l (cellAt r (a + p) + i) 0) 0))
+    → all (bodySize * k) (λ i. eqb (getD l (cellAt r a + i) 0) 0) ≡ all k (λ p. all bodySize (λ i. eqb (getD l (cellAt r (a + p) + i) 0) 0))
 unfolding all
 cells-zero l r a zero = refl
 cells-zero l r a (suc k) =
     ap (λ (m : ℕ). all m (λ i. eqb (getD l (cellAt r a + i) 0) 0)) more
-    ∙ all-join (10 * k) 10 (λ i. eqb (getD l (cellAt r a + i) 0) 0)
-    ∙ ap₂ _&&_ (cells-zero l r a k) (all-cong 10 _ _ (λ i b. ap (λ (m : ℕ). eqb (getD l m 0) 0) (place i)))
+    ∙ all-join (bodySize * k) bodySize (λ i. eqb (getD l (cellAt r a + i) 0) 0)
+    ∙ ap₂ _&&_ (cells-zero l r a k) (all-cong bodySize _ _ (λ i b. ap (λ (m : ℕ). eqb (getD l m 0) 0) (place i)))
   where
-    more : 10 * suc k ≡ 10 * k + 10
+    more : bodySize * suc k ≡ bodySize * k + bodySize
     more = omega arith
 
-    place : (i : ℕ) → cellAt r a + (10 * k + i) ≡ cellAt r (a + k) + i
+    place : (i : ℕ) → cellAt r a + (bodySize * k + i) ≡ cellAt r (a + k) + i
     place i = omega arith
 
 -- all cells of a round that holds nothing
-round-empty : (l : List ℕ) (r : ℕ) → heldMask l r ≡ 0 → all 160 (λ i. eqb (getD l (cellAt r 0 + i) 0) 0) ≡ all 16 (cellOk l r)
+round-empty : (l : List ℕ) (r : ℕ) → heldMask l r ≡ 0 → all roundSize (λ i. eqb (getD l (cellAt r 0 + i) 0) 0) ≡ all slots (cellOk l r)
 unfolding all
-round-empty l r e = cells-zero l r 0 16 ∙ all-cong 16 _ _ (λ p b. sym (cell-empty l r p (ap (λ (m : ℕ). has m p) e ∙ has-zero p)))
+round-empty l r e = cells-zero l r 0 slots ∙ all-cong slots _ _ (λ p b. sym (cell-empty l r p (ap (λ (m : ℕ). has m p) e ∙ has-zero p)))
 
 -- the cells from n on
-round-rest : (l : List ℕ) (r n : ℕ) → n ≤ 16 → heldMask l r < 2 ^ n
-    → (all n (cellOk l r) && all (10 * (16 - n)) (λ i. eqb (getD l (cellAt r n + i) 0) 0)) ≡ all 16 (cellOk l r)
+round-rest : (l : List ℕ) (r n : ℕ) → n ≤ slots → heldMask l r < 2 ^ n
+    → (all n (cellOk l r) && all (bodySize * (slots - n)) (λ i. eqb (getD l (cellAt r n + i) 0) 0)) ≡ all slots (cellOk l r)
 round-rest l r n h w =
-    ap (λ (b : Bool). all n (cellOk l r) && b) (cells-zero l r n (16 - n)
-    ∙ all-cong (16 - n) _ _ (λ p b. sym (cell-empty l r (n + p) (beyond p (which (has (heldMask l r) (n + p)))))))
-    ∙ sym (all-join n (16 - n) (cellOk l r)) ∙ ap (λ (m : ℕ). all m (cellOk l r)) whole
+    ap (λ (b : Bool). all n (cellOk l r) && b) (cells-zero l r n (slots - n)
+    ∙ all-cong (slots - n) _ _ (λ p b. sym (cell-empty l r (n + p) (beyond p (which (has (heldMask l r) (n + p)))))))
+    ∙ sym (all-join n (slots - n) (cellOk l r)) ∙ ap (λ (m : ℕ). all m (cellOk l r)) whole
   where
-    whole : n + (16 - n) ≡ 16
+    whole : n + (slots - n) ≡ slots
     whole = omega arith
 
     beyond : (p : ℕ) → (has (heldMask l r) (n + p) ≡ true) ⊎ (has (heldMask l r) (n + p) ≡ false) → has (heldMask l r) (n + p) ≡ false
     beyond p (inl d) = absurd (omega (arith, has-bound n (heldMask l r) (n + p) w d))
     beyond p (inr d) = d
 
-module _ (l : List ℕ) (r start : ℕ) (size : length l ≡ 5864) (low : 1 ≤ r) (high : r ≤ 32) (place : start ≡ cellAt r 0) where
+module _ (l : List ℕ) (r start : ℕ) (size : length l ≡ stateSize) (low : 1 ≤ r) (high : r ≤ rounds) (place : start ≡ cellAt r 0) where
   -- nothing is held
-  pub round-blank : (h : ℕ) (z : Bool) → h ≡ heldMask l r → h ≡ 0 → z ≡ blank l start (start + 160) → z ≡ all 16 (cellOk l r)
+  pub round-blank : (h : ℕ) (z : Bool) → h ≡ heldMask l r → h ≡ 0 → z ≡ blank l start (start + roundSize) → z ≡ all slots (cellOk l r)
   round-blank h z eh e ez =
-      ez ∙ words-part l start (start + 160) (cellAt r 0) 160 place (omega arith) (omega arith) ∙ round-empty l r (sym eh ∙ e)
+      ez ∙ words-part l start (start + roundSize) (cellAt r 0) roundSize place (omega arith) (omega arith) ∙ round-empty l r (sym eh ∙ e)
 
   -- or the cells of the members and then the others decide
   module _ (g : legal (memberCount l) ≡ true) (w : eachRound (masksWithin l) ≡ true) (m : Bool) (em : m ≡ all (memberCount l) (cellOk l r)) where
-    decides : (all (memberCount l) (cellOk l r) && all (10 * (16 - memberCount l)) (λ i. eqb (getD l (cellAt r (memberCount l) + i) 0) 0))
-        ≡ all 16 (cellOk l r)
+    decides : (all (memberCount l) (cellOk l r) && all (bodySize * (slots - memberCount l)) (λ i. eqb (getD l (cellAt r (memberCount l) + i) 0) 0))
+        ≡ all slots (cellOk l r)
     decides = round-rest l r (memberCount l) (legal-range _ g .high) (masks-small l r (round-elim (masksWithin l) w r low high) .held)
 
-    pub members-no : not m ≡ true → false ≡ all 16 (cellOk l r)
+    pub members-no : not m ≡ true → false ≡ all slots (cellOk l r)
     members-no t = sym (sym decides ∙ and-fails-left _ (failed em t))
 
-    pub others-decide : not m ≡ false → (z : Bool) → z ≡ all (10 * (16 - memberCount l)) (λ i. eqb (getD l (start + 10 * memberCount l + i) 0) 0)
-        → z ≡ all 16 (cellOk l r)
+    pub others-decide : not m ≡ false → (z : Bool) → z ≡ all (bodySize * (slots - memberCount l)) (λ i. eqb (getD l (start + bodySize * memberCount l + i) 0) 0)
+        → z ≡ all slots (cellOk l r)
     others-decide t z ez =
-        let rest : start + 10 * memberCount l ≡ cellAt r (memberCount l) = omega arith in
-        ez ∙ ap (λ (a : ℕ). all (10 * (16 - memberCount l)) (λ i. eqb (getD l (a + i) 0) 0)) rest ∙ rw (passed em t) at decides
+        let rest : start + bodySize * memberCount l ≡ cellAt r (memberCount l) = omega arith in
+        ez ∙ ap (λ (a : ℕ). all (bodySize * (slots - memberCount l)) (λ i. eqb (getD l (a + i) 0) 0)) rest ∙ rw (passed em t) at decides
 
 -- the cells from n on, for each n
 pub record RestCells (l : List ℕ) (n start : ℕ) : Type 0 where
-  pub some : (k : ℕ) (z : Bool) → n ≡ k → z ≡ blank l (start + 10 * k) (start + 160)
-      → z ≡ all (10 * (16 - n)) (λ i. eqb (getD l (start + 10 * n + i) 0) 0)
-  pub none : (n ≡ 4 → ⊥) → (n ≡ 7 → ⊥) → (n ≡ 10 → ⊥) → (n ≡ 13 → ⊥) → true ≡ all (10 * (16 - n)) (λ i. eqb (getD l (start + 10 * n + i) 0) 0)
+  pub some : (k : ℕ) (z : Bool) → n ≡ k → z ≡ blank l (start + bodySize * k) (start + roundSize)
+      → z ≡ all (bodySize * (slots - n)) (λ i. eqb (getD l (start + bodySize * n + i) 0) 0)
+  pub none : (n ≡ 4 → ⊥) → (n ≡ 7 → ⊥) → (n ≡ 10 → ⊥) → (n ≡ 13 → ⊥) → true ≡ all (bodySize * (slots - n)) (λ i. eqb (getD l (start + bodySize * n + i) 0) 0)
 
-pub rest-cells : (l : List ℕ) (n start : ℕ) → legal n ≡ true → start + 160 ≤ length l → RestCells l n start
+pub rest-cells : (l : List ℕ) (n start : ℕ) → legal n ≡ true → start + roundSize ≤ length l → RestCells l n start
 rest-cells l n start g h =
     let q = legal-range n g in record {
-      some = λ k z e ez. rw e (ez ∙ words-part l (start + 10 * k) (start + 160) (start + 10 * k) (10 * (16 - k)) refl (omega arith) (omega arith));
-      none = λ a b c d. let e : n ≡ 16 = omega arith in rw e (sym (all-none _));
+      some = λ k z e ez. rw e (ez ∙ words-part l (start + bodySize * k) (start + roundSize) (start + bodySize * k) (bodySize * (slots - k)) refl
+          (omega arith) (omega arith));
+      none = λ a b c d. let e : n ≡ slots = omega arith in rw e (sym (all-none _));
     }

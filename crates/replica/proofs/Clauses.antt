@@ -9,9 +9,10 @@ use lib.Dec.{eqb, leb, ltb}
 use lib.ListN.{length, getD, take, drop}
 use borrow.Author.Tests.{leb-true, le-leb, lt-leb, le-ltb, ltb-false, eq-eqb, ne-eqb}
 use Rattle.record.specs.Below.{all}
-use Rattle.record.specs.Members.{legal}
+use Rattle.record.specs.Members.{legal, rounds, slots, votedRounds}
 use Rattle.record.proofs.Booleans.{which, and-left, and-right, and-fails-left, and-fails-right, or-left, or-right, or-cases, never, bool-ext, passed, failed}
 use Rattle.record.proofs.Below.{all-intro, all-elim}
+use Rattle.replica.specs.Layout.{stateSize, headSize, leadersAt, leadersSize, journalAt, journalSize, cellsAt, zerosAt, zerosSize}
 use Rattle.replica.specs.State.{memberCount, currentRound, committedRound, leaderCount, journalCount, heldMask, heardMask, votesMask, orderedMask}
 use Rattle.replica.specs.WellFormed.{eachRound, subset, masksWithin, cellOk, leadersOk, journalOk, restZero, every, clauses, wellFormed}
 use Rattle.replica.proofs.Laws.{blank, part-zero}
@@ -62,13 +63,13 @@ module _ (l : List ℕ) (b : Bool) where
   pub body-masks : b ≡ bodyPart l → not b ≡ false → eachRound (masksWithin l) ≡ true
   body-masks e h = and-left (eachRound (masksWithin l)) _ (passed e h)
 
-  pub leaders-few : b ≡ leadersOk l → not b ≡ false → leaderCount l ≤ 32
+  pub leaders-few : b ≡ leadersOk l → not b ≡ false → leaderCount l ≤ leadersSize
   unfolding leadersOk
-  leaders-few e h = leb-true (leaderCount l) 32 (and-left (leb (leaderCount l) 32) _ (passed e h))
+  leaders-few e h = leb-true (leaderCount l) leadersSize (and-left (leb (leaderCount l) leadersSize) _ (passed e h))
 
-  pub journal-few : b ≡ journalOk l → not b ≡ false → journalCount l ≤ 512
+  pub journal-few : b ≡ journalOk l → not b ≡ false → journalCount l ≤ journalSize
   unfolding journalOk
-  journal-few e h = leb-true (journalCount l) 512 (and-left (leb (journalCount l) 512) _ (passed e h))
+  journal-few e h = leb-true (journalCount l) journalSize (and-left (leb (journalCount l) journalSize) _ (passed e h))
 
 -- where the first four hold, the last decides
 pub rest-decides : (l : List ℕ) (a b c d r : Bool) → a ≡ headPart l → not a ≡ false → b ≡ bodyPart l → not b ≡ false → c ≡ leadersOk l → not c ≡ false
@@ -93,16 +94,16 @@ module _ (l : List ℕ) (a : Bool) (ea : a ≡ legal (memberCount l)) where
     round-low h = simp (passed ea pa, lt-leb _ _ h)
 
     module _ (low : 1 ≤ currentRound l) where
-      pub round-high : 33 < currentRound l → false ≡ headPart l
+      pub round-high : rounds + 1 < currentRound l → false ≡ headPart l
       round-high h = simp (passed ea pa, le-leb _ _ low, lt-leb _ _ h)
 
-      module _ (high : currentRound l ≤ 33) where
-        pub committed-high : 31 < committedRound l → false ≡ headPart l
+      module _ (high : currentRound l ≤ rounds + 1) where
+        pub committed-high : votedRounds < committedRound l → false ≡ headPart l
         committed-high h = simp (passed ea pa, le-leb _ _ low, le-leb _ _ high, lt-leb _ _ h)
 
-        pub zeros-decide : committedRound l ≤ 31 → length l ≡ 5864 → (z : Bool) → z ≡ blank l 5 8 → z ≡ headPart l
+        pub zeros-decide : committedRound l ≤ votedRounds → length l ≡ stateSize → (z : Bool) → z ≡ blank l zerosAt headSize → z ≡ headPart l
         zeros-decide h size z e =
-            simp (passed ea pa, le-leb _ _ low, le-leb _ _ high, le-leb _ _ h, and-true) (e ∙ part-zero l 5 3 (omega arith))
+            simp (passed ea pa, le-leb _ _ low, le-leb _ _ high, le-leb _ _ h, and-true) (e ∙ part-zero l zerosAt zerosSize (omega arith))
 
 -- the masks and the cells
 module _ (l : List ℕ) (a : Bool) (ea : a ≡ eachRound (masksWithin l)) where
@@ -117,7 +118,7 @@ module _ (l : List ℕ) (a : Bool) (ea : a ≡ eachRound (masksWithin l)) where
       pub first-no : (v ≡ 0 → ⊥) → false ≡ bodyPart l
       first-no h = simp (passed ea pa, passed eb pb, ne-eqb _ _ (rw ev at h))
 
-      module _ (pv : v ≡ 0) (d : Bool) (ed : d ≡ eachRound (λ r. all 16 (cellOk l r))) where
+      module _ (pv : v ≡ 0) (d : Bool) (ed : d ≡ eachRound (λ r. all slots (cellOk l r))) where
         pub cells-no : not d ≡ true → false ≡ bodyPart l
         cells-no h = simp (passed ea pa, passed eb pb, eq-eqb _ _ (rw ev at pv), failed ed h, and-false)
 
@@ -125,7 +126,7 @@ module _ (l : List ℕ) (a : Bool) (ea : a ≡ eachRound (masksWithin l)) where
         ordered-decides h z e = simp (passed ea pa, passed eb pb, eq-eqb _ _ (rw ev at pv), passed ed h, and-true) e
 
 -- the counts of a well-formed state
-pub counts : (l : List ℕ) → wellFormed l ≡ true → (leaderCount l ≤ 32) × (journalCount l ≤ 512)
+pub counts : (l : List ℕ) → wellFormed l ≡ true → (leaderCount l ≤ leadersSize) × (journalCount l ≤ journalSize)
 counts l e =
     let a : (bodyPart l && (leadersOk l && (journalOk l && restZero l))) ≡ true = and-right (headPart l) _ (sym (well-parts l) ∙ e) in
     let b : (leadersOk l && (journalOk l && restZero l)) ≡ true = and-right (bodyPart l) _ a in
@@ -163,14 +164,16 @@ rest-part l at size count start h k e =
     rw (e, d) (part-zero l (at + count) (size - count) (omega arith) ∙ rest-words l at size count h)
 
 -- the two lists decide, one after the other
-module _ (l : List ℕ) (a : ℕ) (size : length l ≡ 5864) (few : leaderCount l ≤ 32) (ea : a ≡ leaderCount l) (y : Bool) (ey : y ≡ blank l (200 + a) 232) where
-  rest-leaders : y ≡ all 32 (λ i. ltb i (leaderCount l) || eqb (getD l (200 + i) 0) 0)
-  rest-leaders = ey ∙ rest-part l 200 32 _ a few (omega arith) ea
+module _ (l : List ℕ) (a : ℕ) (size : length l ≡ stateSize) (few : leaderCount l ≤ leadersSize) (ea : a ≡ leaderCount l) (y : Bool)
+    (ey : y ≡ blank l (leadersAt + a) journalAt) where
+  rest-leaders : y ≡ all leadersSize (λ i. ltb i (leaderCount l) || eqb (getD l (leadersAt + i) 0) 0)
+  rest-leaders = ey ∙ rest-part l leadersAt leadersSize _ a few (omega arith) ea
 
   pub rest-no : not y ≡ true → false ≡ restZero l
   unfolding restZero
   rest-no h = simp (failed rest-leaders h)
 
-  pub rest-journal : not y ≡ false → (b : ℕ) (z : Bool) → journalCount l ≤ 512 → b ≡ journalCount l → z ≡ blank l (232 + b) 744 → z ≡ restZero l
+  pub rest-journal : not y ≡ false → (b : ℕ) (z : Bool) → journalCount l ≤ journalSize → b ≡ journalCount l → z ≡ blank l (journalAt + b) cellsAt
+      → z ≡ restZero l
   unfolding restZero
-  rest-journal h b z many eb ez = simp (passed rest-leaders h) (ez ∙ rest-part l 232 512 _ b many (omega arith) eb)
+  rest-journal h b z many eb ez = simp (passed rest-leaders h) (ez ∙ rest-part l journalAt journalSize _ b many (omega arith) eb)

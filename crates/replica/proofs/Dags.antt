@@ -10,15 +10,14 @@ use native.Mathlib.Omega.{arith}
 use lib.ListN.{length, getD, drop}
 use lib.Seq.{getD-drop, getD-take}
 use borrow.Author.Tests.{eq-eqb}
-use Rattle.record.specs.Members.{leader, has, idOf, idRound, idMember, isRound}
-use Rattle.record.specs.Layout.{strongOf, weakCountOf, weakOf}
+use Rattle.record.specs.Members.{leader, has, idOf, idRound, idMember, isRound, rounds, slots, votedRounds, idLimit}
+use Rattle.record.specs.Layout.{strongOf, weakCountOf, weakOf, bodySize, weakSlots}
 use Rattle.record.specs.Admitted.{Admitted}
 use Rattle.record.proofs.Booleans.{which, never, and-left, and-right, and-both}
 use Rattle.record.proofs.Masks.{has-zero, has-one, has-bound}
 use Rattle.record.proofs.Turn.{admitted}
 use Rattle.record.proofs.Rounds.{round-in, round-range}
 use Rattle.protocol.specs.Dag.{present, held, votes}
-use Rattle.protocol.specs.Journal.{idLimit}
 use Rattle.protocol.specs.Premises.{ValidVertices}
 use Rattle.protocol.proofs.Paths.{parent-present, weak-present}
 use Rattle.protocol.proofs.History.{id-round, id-member}
@@ -37,11 +36,11 @@ some-words (w ∷ body) h = refl
 
 module _ (l : List ℕ) (size : length l ≡ stateSize) where
   -- a cell has ten words
-  pub cell-length : (r p : ℕ) → 1 ≤ r → r ≤ 32 → p < 16 → length (cell l r p) ≡ 10
-  cell-length r p a b k = length-part l (cellAt r p) 10 (omega arith)
+  pub cell-length : (r p : ℕ) → 1 ≤ r → r ≤ rounds → p < slots → length (cell l r p) ≡ bodySize
+  cell-length r p a b k = length-part l (cellAt r p) bodySize (omega arith)
 
   -- exactly the members of the held masks have a vertex
-  pub held-vertex : (r p : ℕ) → p < 16 → held (vertices l) r p ≡ (isRound r && has (heldMask l r) p)
+  pub held-vertex : (r p : ℕ) → p < slots → held (vertices l) r p ≡ (isRound r && has (heldMask l r) p)
   unfolding vertices
   held-vertex r p k = go (which (isRound r && has (heldMask l r) p))
     where
@@ -66,11 +65,11 @@ module _ (l : List ℕ) (size : length l ≡ stateSize) where
       go (inr e) = never h (rw e)
 
   -- a vertex is of a round from 1 to 32, and in the held mask
-  pub in-mask : (r p : ℕ) → held (vertices l) r p ≡ true → (1 ≤ r) × (r ≤ 32) × (has (heldMask l r) p ≡ true)
+  pub in-mask : (r p : ℕ) → held (vertices l) r p ≡ true → (1 ≤ r) × (r ≤ rounds) × (has (heldMask l r) p ≡ true)
   unfolding vertices
   in-mask r p h = go (which (isRound r && has (heldMask l r) p))
     where
-      go : ((isRound r && has (heldMask l r) p) ≡ true) ⊎ ((isRound r && has (heldMask l r) p) ≡ false) → (1 ≤ r) × (r ≤ 32) × (has (heldMask l r) p ≡ true)
+      go : ((isRound r && has (heldMask l r) p) ≡ true) ⊎ ((isRound r && has (heldMask l r) p) ≡ false) → (1 ≤ r) × (r ≤ rounds) × (has (heldMask l r) p ≡ true)
       go (inl e) = let w = round-range r (and-left _ _ e) in (w .0, w .1, and-right (isRound r) _ e)
       go (inr e) = never h (rw e)
 
@@ -78,21 +77,21 @@ module _ (l : List ℕ) (size : length l ≡ stateSize) where
 
 module _ (l : List ℕ) (S : WellFormed l) where
   -- what is held is of a member
-  pub in-group : (r p : ℕ) → 1 ≤ r → r ≤ 32 → has (heldMask l r) p ≡ true → p < memberCount l
+  pub in-group : (r p : ℕ) → 1 ≤ r → r ≤ rounds → has (heldMask l r) p ≡ true → p < memberCount l
   in-group r p a b h = has-bound (memberCount l) (heldMask l r) p (S .masks .held-low r a b) h
 
   -- a vertex is admitted
   pub admits : (r p : ℕ) → held (vertices l) r p ≡ true → Admitted (memberCount l) r p (vertices l r p)
   admits r p h =
       let w = in-mask l (S .size) r p h in
-      let k : p < 16 = omega (arith, in-group r p (w .0) (w .1) (w .2), S .front .high) in
+      let k : p < slots = omega (arith, in-group r p (w .0) (w .1) (w .2), S .front .high) in
       rw (vertex-cell l (S .size) r p h) (admitted (memberCount l) r p (cell l r p) (S .cells .admits r p (w .0) (w .1) k (w .2)))
 
   -- and its parents are held
   parent : (r p y : ℕ) → held (vertices l) r p ≡ true → y < idLimit → isParent r (vertices l r p) y ≡ true → held (vertices l) (idRound y) (idMember y) ≡ true
   parent r p y h k d =
       let w = in-mask l (S .size) r p h in
-      let m : p < 16 = omega (arith, in-group r p (w .0) (w .1) (w .2), S .front .high) in
+      let m : p < slots = omega (arith, in-group r p (w .0) (w .1) (w .2), S .front .high) in
       sym (held-id l (S .size) y)
       ∙ parents-elim l r (cell l r p) (S .cells .parents r p (w .0) (w .1) m (w .2)) y k (rw (vertex-cell l (S .size) r p h) at d)
 
@@ -104,9 +103,9 @@ module _ (l : List ℕ) (S : WellFormed l) where
       strong r p m s =
           let h : held (vertices l) r p ≡ true = parent-present _ m s in
           let a = admits r p h in
-          let k : m < 16 = omega (arith, has-bound (memberCount l) (strongOf (vertices l r p)) m (a .strong-low) s, S .front .high) in
+          let k : m < slots = omega (arith, has-bound (memberCount l) (strongOf (vertices l r p)) m (a .strong-low) s, S .front .high) in
           let b : 1 ≤ r = a .round-low in
-          let c : r ≤ 32 = a .round-high in
+          let c : r ≤ rounds = a .round-high in
           rw (id-round (r - 1) m k, id-member (r - 1) m k) at (parent r p (idOf (r - 1) m) h (omega arith)
           (strong-parent r (vertices l r p) (idOf (r - 1) m) (omega arith) (rw (id-member (r - 1) m k) s)))
 
@@ -115,11 +114,11 @@ module _ (l : List ℕ) (S : WellFormed l) where
       weak r p i m =
           let h : held (vertices l) r p ≡ true = weak-present _ i m in
           let a = admits r p h in
-          let k : i < 5 = omega (arith, a .weak-few, S .front .high) in
+          let k : i < weakSlots = omega (arith, a .weak-few, S .front .high) in
           parent r p (weakOf (vertices l r p) i) h (omega (arith, a .weak-high i k m, a .round-high)) (weak-parent r (vertices l r p) i m)
 
   -- the words of a vertex and of its cell are the same, for a cell not held is zero
-  pub vertex-words : (r p i : ℕ) → 1 ≤ r → r ≤ 32 → p < 16 → i < 10 → getD (vertices l r p) i 0 ≡ getD l (cellAt r p + i) 0
+  pub vertex-words : (r p i : ℕ) → 1 ≤ r → r ≤ rounds → p < slots → i < bodySize → getD (vertices l r p) i 0 ≡ getD l (cellAt r p + i) 0
   vertex-words r p i a b k m = go (which (has (heldMask l r) p))
     where
       none : has (heldMask l r) p ≡ false → vertices l r p ≡ []
@@ -129,13 +128,13 @@ module _ (l : List ℕ) (S : WellFormed l) where
       there e = held-vertex l (S .size) r p k ∙ and-both (round-in r a b) e
 
       go : (has (heldMask l r) p ≡ true) ⊎ (has (heldMask l r) p ≡ false) → getD (vertices l r p) i 0 ≡ getD l (cellAt r p + i) 0
-      go (inl e) = rw (vertex-cell l (S .size) r p (there e)) (getD-take 10 (drop (cellAt r p) l) i 0 m ∙ getD-drop (cellAt r p) l i 0)
+      go (inl e) = rw (vertex-cell l (S .size) r p (there e)) (getD-take bodySize (drop (cellAt r p) l) i 0 m ∙ getD-drop (cellAt r p) l i 0)
       go (inr e) = rw (none e) (sym (S .cells .zero-cell r p i a b k m e))
 
 -- ---- first messages
 
 -- where votes are heard, the first message of a member of round q + 1 votes for the leader of round q exactly if the votes mask has it
-pub first-vote : (l : List ℕ) (q p : ℕ) → 1 ≤ q → q ≤ 31 → (has (votesMask l (suc q)) p ≡ true → has (heardMask l (suc q)) p ≡ true)
+pub first-vote : (l : List ℕ) (q p : ℕ) → 1 ≤ q → q ≤ votedRounds → (has (votesMask l (suc q)) p ≡ true → has (heardMask l (suc q)) p ≡ true)
     → votes (memberCount l) q (firsts l (suc q) p) ≡ has (votesMask l (suc q)) p
 unfolding firsts strongOf
 first-vote l q p a b f = go (which (has (votesMask l (suc q)) p)) (which (has (heardMask l (suc q)) p))
@@ -151,5 +150,5 @@ first-vote l q p a b f = go (which (has (votesMask l (suc q)) p)) (which (has (h
     go (inr v) (inr h) = rw (ok, h, v) (has-zero (leader (memberCount l) q))
 
 -- so in a formed state
-pub formed-vote : (l : List ℕ) → WellFormed l → (q p : ℕ) → 1 ≤ q → q ≤ 31 → votes (memberCount l) q (firsts l (suc q) p) ≡ has (votesMask l (suc q)) p
+pub formed-vote : (l : List ℕ) → WellFormed l → (q p : ℕ) → 1 ≤ q → q ≤ votedRounds → votes (memberCount l) q (firsts l (suc q) p) ≡ has (votesMask l (suc q)) p
 formed-vote l S q p a b = first-vote l q p a b (S .masks .votes-heard (suc q) p (omega arith) (omega arith))

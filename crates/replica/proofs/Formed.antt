@@ -12,16 +12,17 @@ use lib.ListN.{length, getD, take, drop, length-drop}
 use lib.Seq.{take-suc, take-take, getD-drop, length-take-le}
 use borrow.Author.Tests.{leb-true, le-leb, ltb-true, lt-ltb, ltb-false, eqb-true, eq-eqb, ne-eqb, not-true}
 use Rattle.record.specs.Below.{all}
-use Rattle.record.specs.Members.{legal, leader, has, within, idRound, idMember}
+use Rattle.record.specs.Members.{legal, leader, has, within, idRound, idMember, idLimit, rounds, slots, votedRounds}
 use Rattle.record.specs.Refusals.{numberOf}
 use Rattle.record.specs.Questions.{bodyRefusal}
 use Rattle.record.proofs.Booleans.{which, never, and-left, and-right, and-both, or-cases, or-left, or-right, or-neither, bool-ext, cond-true, cond-false}
 use Rattle.record.proofs.Below.{all-elim, all-intro}
 use Rattle.record.proofs.Masks.{legal-range, within-lt, has-and, mask-ext}
 use Rattle.record.proofs.Rounds.{round-range}
-use Rattle.protocol.specs.Journal.{idLimit, among}
+use Rattle.protocol.specs.Journal.{among}
 use Rattle.protocol.proofs.Lists.{among-none, among-append, among-one, once, once-append, once-none}
-use Rattle.replica.specs.Layout.{stateSize, cellAt}
+use Rattle.record.specs.Layout.{bodySize}
+use Rattle.replica.specs.Layout.{stateSize, cellAt, leadersAt, leadersSize, journalAt, journalSize, zerosAt, zerosSize}
 use Rattle.replica.specs.State.{memberCount, currentRound, committedRound, leaderCount, journalCount, heldMask, heardMask, votesMask}
 use Rattle.replica.specs.State.{timeoutsMask, noVotesMask, orderedMask, leaderWord, journalWord, leaderList, journalList, cell, heldId}
 use Rattle.replica.specs.State.{orderedId}
@@ -35,26 +36,26 @@ use Rattle.replica.specs.WellFormed.{restZero, wellFormed}
 pub record Front (l : List ℕ) : Type 0 where
   pub members : legal (memberCount l) ≡ true
   pub low : 4 ≤ memberCount l
-  pub high : memberCount l ≤ 16
+  pub high : memberCount l ≤ slots
   pub round-low : 1 ≤ currentRound l
-  pub round-high : currentRound l ≤ 33
-  pub zeros : (i : ℕ) → i < 3 → getD l (5 + i) 0 ≡ 0
+  pub round-high : currentRound l ≤ rounds + 1
+  pub zeros : (i : ℕ) → i < zerosSize → getD l (zerosAt + i) 0 ≡ 0
 
 -- the masks but for the ordered ones
 pub record Masks (l : List ℕ) : Type 0 where
-  pub held-low : (r : ℕ) → 1 ≤ r → r ≤ 32 → heldMask l r < 2 ^ memberCount l
-  pub heard-low : (r : ℕ) → 1 ≤ r → r ≤ 32 → heardMask l r < 2 ^ memberCount l
-  pub votes-low : (r : ℕ) → 1 ≤ r → r ≤ 32 → votesMask l r < 2 ^ memberCount l
-  pub timeouts-low : (r : ℕ) → 1 ≤ r → r ≤ 32 → timeoutsMask l r < 2 ^ memberCount l
-  pub no-votes-low : (r : ℕ) → 1 ≤ r → r ≤ 32 → noVotesMask l r < 2 ^ memberCount l
-  pub votes-heard : (r p : ℕ) → 1 ≤ r → r ≤ 32 → has (votesMask l r) p ≡ true → has (heardMask l r) p ≡ true
+  pub held-low : (r : ℕ) → 1 ≤ r → r ≤ rounds → heldMask l r < 2 ^ memberCount l
+  pub heard-low : (r : ℕ) → 1 ≤ r → r ≤ rounds → heardMask l r < 2 ^ memberCount l
+  pub votes-low : (r : ℕ) → 1 ≤ r → r ≤ rounds → votesMask l r < 2 ^ memberCount l
+  pub timeouts-low : (r : ℕ) → 1 ≤ r → r ≤ rounds → timeoutsMask l r < 2 ^ memberCount l
+  pub no-votes-low : (r : ℕ) → 1 ≤ r → r ≤ rounds → noVotesMask l r < 2 ^ memberCount l
+  pub votes-heard : (r p : ℕ) → 1 ≤ r → r ≤ rounds → has (votesMask l r) p ≡ true → has (heardMask l r) p ≡ true
   pub votes-first : votesMask l 1 ≡ 0
 
 -- the cells
 pub record Cells (l : List ℕ) : Type 0 where
-  pub admits : (r p : ℕ) → 1 ≤ r → r ≤ 32 → p < 16 → has (heldMask l r) p ≡ true → numberOf (bodyRefusal (memberCount l) r p (cell l r p)) ≡ 0
-  pub parents : (r p : ℕ) → 1 ≤ r → r ≤ 32 → p < 16 → has (heldMask l r) p ≡ true → parentsHeld l r (cell l r p) ≡ true
-  pub zero-cell : (r p i : ℕ) → 1 ≤ r → r ≤ 32 → p < 16 → i < 10 → has (heldMask l r) p ≡ false → getD l (cellAt r p + i) 0 ≡ 0
+  pub admits : (r p : ℕ) → 1 ≤ r → r ≤ rounds → p < slots → has (heldMask l r) p ≡ true → numberOf (bodyRefusal (memberCount l) r p (cell l r p)) ≡ 0
+  pub parents : (r p : ℕ) → 1 ≤ r → r ≤ rounds → p < slots → has (heldMask l r) p ≡ true → parentsHeld l r (cell l r p) ≡ true
+  pub zero-cell : (r p i : ℕ) → 1 ≤ r → r ≤ rounds → p < slots → i < bodySize → has (heldMask l r) p ≡ false → getD l (cellAt r p + i) 0 ≡ 0
 
 -- the ids of a leader list: leaders' vertices that h has, of rounds that rise from above low to high
 unfoldable pub Led : ℕ → (ℕ → Bool) → ℕ → List ℕ → ℕ → Type 0
@@ -63,19 +64,19 @@ Led n h low (x ∷ xs) high = (h x ≡ true) × (idMember x ≡ leader n (idRoun
 
 -- the committed round and the leader list
 pub record Leaders (l : List ℕ) : Type 0 where
-  pub committed-high : committedRound l ≤ 31
-  pub few : leaderCount l ≤ 32
+  pub committed-high : committedRound l ≤ votedRounds
+  pub few : leaderCount l ≤ leadersSize
   pub led : Led (memberCount l) (heldId l) 0 (leaderList l) (committedRound l)
-  pub rest : (i : ℕ) → leaderCount l ≤ i → i < 32 → leaderWord l i ≡ 0
+  pub rest : (i : ℕ) → leaderCount l ≤ i → i < leadersSize → leaderWord l i ≡ 0
 
 -- the ordered masks and the journal
 pub record Journal (l : List ℕ) : Type 0 where
-  pub ordered-low : (r : ℕ) → 1 ≤ r → r ≤ 32 → orderedMask l r < 2 ^ memberCount l
-  pub ordered-held : (r p : ℕ) → 1 ≤ r → r ≤ 32 → has (orderedMask l r) p ≡ true → has (heldMask l r) p ≡ true
-  pub few : journalCount l ≤ 512
+  pub ordered-low : (r : ℕ) → 1 ≤ r → r ≤ rounds → orderedMask l r < 2 ^ memberCount l
+  pub ordered-held : (r p : ℕ) → 1 ≤ r → r ≤ rounds → has (orderedMask l r) p ≡ true → has (heldMask l r) p ≡ true
+  pub few : journalCount l ≤ journalSize
   pub alone : once (journalList l) ≡ true
   pub names : (y : ℕ) → among (journalList l) y ≡ orderedId l y
-  pub rest : (i : ℕ) → journalCount l ≤ i → i < 512 → journalWord l i ≡ 0
+  pub rest : (i : ℕ) → journalCount l ≤ i → i < journalSize → journalWord l i ≡ 0
 
 pub record WellFormed (l : List ℕ) : Type 0 where
   pub size : length l ≡ stateSize
@@ -179,65 +180,66 @@ module _ (l : List ℕ) (size : length l ≡ stateSize) where
   rises-leader (suc c) h = cond-false true _ (ne-eqb (suc c) 0 (λ d. omega arith)) ∙ rw (sub-one (suc c)) (lt-ltb _ _ (rw before-suc at h))
 
   -- the leader list
-  to-led : (c : ℕ) → c ≤ 32 → all c (leaderOk l) ≡ true → Led (memberCount l) (heldId l) 0 (take c (drop 200 l)) (before c)
+  to-led : (c : ℕ) → c ≤ leadersSize → all c (leaderOk l) ≡ true → Led (memberCount l) (heldId l) 0 (take c (drop leadersAt l)) (before c)
   unfolding all leaderOk Led
   to-led zero k e = refl
   to-led (suc c) k e =
       let t : leaderOk l c ≡ true = and-right (all c (leaderOk l)) _ e in
-      rw (part-more l 200 c (omega arith), before-suc c)
-      (led-append (memberCount l) (heldId l) 0 (before c) (idRound (leaderWord l c)) (take c (drop 200 l)) (leaderWord l c ∷ [])
+      rw (part-more l leadersAt c (omega arith), before-suc c)
+      (led-append (memberCount l) (heldId l) 0 (before c) (idRound (leaderWord l c)) (take c (drop leadersAt l)) (leaderWord l c ∷ [])
       (to-led c (omega arith) (and-left _ _ e))
       (and-left _ _ t, eqb-true _ _ (and-left _ _ (and-right (heldId l (leaderWord l c)) _ t)), leader-rises c t, refl))
 
-  from-led : (c high : ℕ) → c ≤ 32 → Led (memberCount l) (heldId l) 0 (take c (drop 200 l)) high → (all c (leaderOk l) ≡ true) × (high ≡ before c)
+  from-led : (c high : ℕ) → c ≤ leadersSize → Led (memberCount l) (heldId l) 0 (take c (drop leadersAt l)) high
+      → (all c (leaderOk l) ≡ true) × (high ≡ before c)
   unfolding all leaderOk Led
   from-led zero high k d = (refl, sym d)
   from-led (suc c) high k d =
-      let w = led-split (memberCount l) (heldId l) 0 high (take c (drop 200 l)) (leaderWord l c ∷ []) (rw (part-more l 200 c (omega arith)) at d) in
+      let w = led-split (memberCount l) (heldId l) 0 high (take c (drop leadersAt l)) (leaderWord l c ∷ []) (rw (part-more l leadersAt c (omega arith)) at d) in
       let i = from-led c (w .0) (omega arith) (w .1) in
       let q = w .2 in
       (and-both (i .0) (and-both (q .0) (and-both (eq-eqb _ _ (q .1)) (rises-leader c (rw (i .1) at (q .2))))), sym (q .3) ∙ sym (before-suc c))
 
   -- the journal
-  to-once : (c : ℕ) → c ≤ journalCount l → journalCount l ≤ 512 → all c (entryOk l) ≡ true
-      → (once (take c (drop 232 l)) ≡ true) × ((y : ℕ) → among (take c (drop 232 l)) y ≡ true → orderedId l y ≡ true)
+  to-once : (c : ℕ) → c ≤ journalCount l → journalCount l ≤ journalSize → all c (entryOk l) ≡ true
+      → (once (take c (drop journalAt l)) ≡ true) × ((y : ℕ) → among (take c (drop journalAt l)) y ≡ true → orderedId l y ≡ true)
   unfolding all entryOk
   to-once zero k m e = (once-none, λ y d. never d (among-none y))
   to-once (suc c) k m e =
       let t : entryOk l c ≡ true = and-right (all c (entryOk l)) _ e in
       let i = to-once c (omega arith) m (and-left _ _ e) in
-      let a : among (take c (drop 232 l)) (journalWord l c) ≡ false =
-      ap (λ (xs : List ℕ). among xs (journalWord l c)) (sym (take-take c (journalCount l) (drop 232 l) (omega arith)))
+      let a : among (take c (drop journalAt l)) (journalWord l c) ≡ false =
+      ap (λ (xs : List ℕ). among xs (journalWord l c)) (sym (take-take c (journalCount l) (drop journalAt l) (omega arith)))
       ∙ not-true _ (and-right (orderedId l (journalWord l c)) _ t) in
-      rw (part-more l 232 c (omega arith)) (
-        once-more (take c (drop 232 l)) (journalWord l c) (i .0) a,
+      rw (part-more l journalAt c (omega arith)) (
+        once-more (take c (drop journalAt l)) (journalWord l c) (i .0) a,
         λ y d. ⊎-elim (i .1 y) (λ f. ap (orderedId l) (sym (eqb-true (journalWord l c) y (sym (among-one (journalWord l c) y) ∙ f))) ∙ and-left _ _ t)
-            (or-cases _ _ (sym (among-append (take c (drop 232 l)) (journalWord l c ∷ []) y) ∙ d)),
+            (or-cases _ _ (sym (among-append (take c (drop journalAt l)) (journalWord l c ∷ []) y) ∙ d)),
       )
 
-  from-once : (c : ℕ) → c ≤ journalCount l → journalCount l ≤ 512 → once (take c (drop 232 l)) ≡ true
-      → ((y : ℕ) → among (take c (drop 232 l)) y ≡ true → orderedId l y ≡ true) → all c (entryOk l) ≡ true
+  from-once : (c : ℕ) → c ≤ journalCount l → journalCount l ≤ journalSize → once (take c (drop journalAt l)) ≡ true
+      → ((y : ℕ) → among (take c (drop journalAt l)) y ≡ true → orderedId l y ≡ true) → all c (entryOk l) ≡ true
   unfolding all entryOk
   from-once zero k m p f = refl
   from-once (suc c) k m p f =
-      let w = once-less (take c (drop 232 l)) (journalWord l c) (rw (part-more l 232 c (omega arith)) at p) in
-      let g : (y : ℕ) → (among (take c (drop 232 l)) y || among (journalWord l c ∷ []) y) ≡ true → orderedId l y ≡ true =
-      λ y d. f y (rw (part-more l 232 c (omega arith)) (among-append (take c (drop 232 l)) (journalWord l c ∷ []) y ∙ d)) in
+      let w = once-less (take c (drop journalAt l)) (journalWord l c) (rw (part-more l journalAt c (omega arith)) at p) in
+      let g : (y : ℕ) → (among (take c (drop journalAt l)) y || among (journalWord l c ∷ []) y) ≡ true → orderedId l y ≡ true =
+      λ y d. f y (rw (part-more l journalAt c (omega arith)) (among-append (take c (drop journalAt l)) (journalWord l c ∷ []) y ∙ d)) in
       and-both (from-once c (omega arith) m (w .0) (λ y d. g y (or-left _ d)))
-      (and-both (g (journalWord l c) (or-right (among (take c (drop 232 l)) (journalWord l c))
+      (and-both (g (journalWord l c) (or-right (among (take c (drop journalAt l)) (journalWord l c))
       (among-one (journalWord l c) (journalWord l c) ∙ eq-eqb (journalWord l c) _ refl)))
-      (ap not (ap (λ (xs : List ℕ). among xs (journalWord l c)) (take-take c (journalCount l) (drop 232 l) (omega arith)) ∙ w .1)))
+      (ap not (ap (λ (xs : List ℕ). among xs (journalWord l c)) (take-take c (journalCount l) (drop journalAt l) (omega arith)) ∙ w .1)))
 
   -- an ordered id is of a round up to 32
   pub ordered-limit : (y : ℕ) → orderedId l y ≡ true → y < idLimit
   ordered-limit y e = omega (arith, round-range (idRound y) (and-left _ _ e) .1)
 
   -- rounds from 1 and numbers from 0
-  each : (t : ℕ → Bool) → all 32 (λ i. t (i + 1)) ≡ true → (r : ℕ) → 1 ≤ r → r ≤ 32 → t r ≡ true
-  each t e r a b = ap t (omega arith) ∙ all-elim 32 (λ i. t (i + 1)) e (r - 1) (omega arith)
+  each : (t : ℕ → Bool) → all rounds (λ i. t (i + 1)) ≡ true → (r : ℕ) → 1 ≤ r → r ≤ rounds → t r ≡ true
+  each t e r a b = ap t (omega arith) ∙ all-elim rounds (λ i. t (i + 1)) e (r - 1) (omega arith)
 
-  every-round : (t : ℕ → Bool) → ((r : ℕ) → 1 ≤ r → r ≤ 32 → t r ≡ true) → all 32 (λ i. t (i + 1)) ≡ true
-  every-round t f = all-intro 32 (λ i. t (i + 1)) (λ i k. f (i + 1) (omega arith) (omega arith))
+  every-round : (t : ℕ → Bool) → ((r : ℕ) → 1 ≤ r → r ≤ rounds → t r ≡ true) → all rounds (λ i. t (i + 1)) ≡ true
+  every-round t f = all-intro rounds (λ i. t (i + 1)) (λ i k. f (i + 1) (omega arith) (omega arith))
 
   -- the six bounds of a round
   bounds : (r : ℕ) → masksWithin l r ≡ true → (heldMask l r < 2 ^ memberCount l) × (heardMask l r < 2 ^ memberCount l) × (votesMask l r < 2 ^ memberCount l)
@@ -269,15 +271,15 @@ module _ (l : List ℕ) (size : length l ≡ stateSize) where
       let t = sym (cond-true _ _ h) ∙ e in
       (eqb-true _ _ (and-left _ _ t), and-right (eqb (numberOf (bodyRefusal (memberCount l) r p (cell l r p))) 0) _ t)
 
-  cell-free : (r p : ℕ) → cellOk l r p ≡ true → has (heldMask l r) p ≡ false → (i : ℕ) → i < 10 → getD l (cellAt r p + i) 0 ≡ 0
+  cell-free : (r p : ℕ) → cellOk l r p ≡ true → has (heldMask l r) p ≡ false → (i : ℕ) → i < bodySize → getD l (cellAt r p + i) 0 ≡ 0
   unfolding cellOk
-  cell-free r p e h i k = eqb-true _ _ (all-elim 10 (λ i. eqb (getD l (cellAt r p + i) 0) 0) (sym (cond-false _ _ h) ∙ e) i k)
+  cell-free r p e h i k = eqb-true _ _ (all-elim bodySize (λ i. eqb (getD l (cellAt r p + i) 0) 0) (sym (cond-false _ _ h) ∙ e) i k)
 
-  cell-test : Cells l → (r p : ℕ) → 1 ≤ r → r ≤ 32 → p < 16 → cellOk l r p ≡ true
+  cell-test : Cells l → (r p : ℕ) → 1 ≤ r → r ≤ rounds → p < slots → cellOk l r p ≡ true
   unfolding cellOk
   cell-test C r p a b k = ⊎-elim
       (λ h. cond-true _ _ h ∙ and-both (eq-eqb _ _ (C .admits r p a b k h)) (C .parents r p a b k h))
-      (λ h. cond-false _ _ h ∙ all-intro 10 _ (λ i m. eq-eqb _ _ (C .zero-cell r p i a b k m h)))
+      (λ h. cond-false _ _ h ∙ all-intro bodySize _ (λ i m. eq-eqb _ _ (C .zero-cell r p i a b k m h)))
       (which (has (heldMask l r) p))
 
   -- words beyond a count
@@ -293,28 +295,28 @@ unfolding wellFormed leadersOk journalOk restZero lastLeaderRound
 formed l size e =
     let n = memberCount l in
     let e1 = and-right (legal n) _ e in
-    let e2 = and-right (leb 1 (currentRound l) && leb (currentRound l) 33) _ e1 in
-    let e3 = and-right (leb (committedRound l) 31) _ e2 in
-    let e4 = and-right (all 3 (λ i. eqb (getD l (5 + i) 0) 0)) _ e3 in
-    let e5 = and-right (all 32 (λ i. masksWithin l (i + 1))) _ e4 in
-    let e6 = and-right (all 32 (λ i. subset (votesMask l (i + 1)) (heardMask l (i + 1))) && eqb (votesMask l 1) 0) _ e5 in
-    let e7 = and-right (all 32 (λ i. subset (orderedMask l (i + 1)) (heldMask l (i + 1)))) _ e6 in
-    let e8 = and-right (all 32 (λ i. all 16 (cellOk l (i + 1)))) _ e7 in
+    let e2 = and-right (leb 1 (currentRound l) && leb (currentRound l) (rounds + 1)) _ e1 in
+    let e3 = and-right (leb (committedRound l) votedRounds) _ e2 in
+    let e4 = and-right (all zerosSize (λ i. eqb (getD l (zerosAt + i) 0) 0)) _ e3 in
+    let e5 = and-right (all rounds (λ i. masksWithin l (i + 1))) _ e4 in
+    let e6 = and-right (all rounds (λ i. subset (votesMask l (i + 1)) (heardMask l (i + 1))) && eqb (votesMask l 1) 0) _ e5 in
+    let e7 = and-right (all rounds (λ i. subset (orderedMask l (i + 1)) (heldMask l (i + 1)))) _ e6 in
+    let e8 = and-right (all rounds (λ i. all slots (cellOk l (i + 1)))) _ e7 in
     let e9 = and-right (leadersOk l) _ e8 in
     let e10 = and-right (journalOk l) _ e9 in
     let rest = and-left (restZero l) _ e10 in
     let g = legal-range n (and-left _ _ e) in
-    let round = and-left (leb 1 (currentRound l) && leb (currentRound l) 33) _ e1 in
-    let masks : (r : ℕ) → 1 ≤ r → r ≤ 32 → masksWithin l r ≡ true = each l size (masksWithin l) (and-left _ _ e4) in
-    let votes = and-left (all 32 (λ i. subset (votesMask l (i + 1)) (heardMask l (i + 1))) && eqb (votesMask l 1) 0) _ e5 in
-    let cells : (r p : ℕ) → 1 ≤ r → r ≤ 32 → p < 16 → cellOk l r p ≡ true =
-    λ r p a b k. all-elim 16 (cellOk l r) (each l size (λ r. all 16 (cellOk l r)) (and-left _ _ e7) r a b) p k in
+    let round = and-left (leb 1 (currentRound l) && leb (currentRound l) (rounds + 1)) _ e1 in
+    let masks : (r : ℕ) → 1 ≤ r → r ≤ rounds → masksWithin l r ≡ true = each l size (masksWithin l) (and-left _ _ e4) in
+    let votes = and-left (all rounds (λ i. subset (votesMask l (i + 1)) (heardMask l (i + 1))) && eqb (votesMask l 1) 0) _ e5 in
+    let cells : (r p : ℕ) → 1 ≤ r → r ≤ rounds → p < slots → cellOk l r p ≡ true =
+    λ r p a b k. all-elim slots (cellOk l r) (each l size (λ r. all slots (cellOk l r)) (and-left _ _ e7) r a b) p k in
     let leads = and-left (leadersOk l) _ e8 in
-    let leads′ = and-right (leb (leaderCount l) 32) _ leads in
-    let few : leaderCount l ≤ 32 = leb-true _ _ (and-left _ _ leads) in
+    let leads′ = and-right (leb (leaderCount l) leadersSize) _ leads in
+    let few : leaderCount l ≤ leadersSize = leb-true _ _ (and-left _ _ leads) in
     let words = and-left (journalOk l) _ e9 in
-    let words′ = and-right (leb (journalCount l) 512) _ words in
-    let few′ : journalCount l ≤ 512 = leb-true _ _ (and-left _ _ words) in
+    let words′ = and-right (leb (journalCount l) journalSize) _ words in
+    let few′ : journalCount l ≤ journalSize = leb-true _ _ (and-left _ _ words) in
     let listed = to-once l size (journalCount l) (omega arith) few′ (and-left _ _ words′) in
     record {
       size = size;
@@ -324,7 +326,7 @@ formed l size e =
         high = g .high;
         round-low = leb-true _ _ (and-left _ _ round);
         round-high = leb-true _ _ (and-right (leb 1 (currentRound l)) _ round);
-        zeros = λ i k. eqb-true _ _ (all-elim 3 (λ i. eqb (getD l (5 + i) 0) 0) (and-left _ _ e3) i k);
+        zeros = λ i k. eqb-true _ _ (all-elim zerosSize (λ i. eqb (getD l (zerosAt + i) 0) 0) (and-left _ _ e3) i k);
       };
       masks = record {
         held-low = λ r a b. bounds l size r (masks r a b) .0;
@@ -333,7 +335,7 @@ formed l size e =
         timeouts-low = λ r a b. bounds l size r (masks r a b) .3;
         no-votes-low = λ r a b. bounds l size r (masks r a b) .4;
         votes-heard = λ r p a b h. subset-has _ _ (each l size (λ r. subset (votesMask l r) (heardMask l r)) (and-left _ _ votes) r a b) p h;
-        votes-first = eqb-true _ _ (and-right (all 32 (λ i. subset (votesMask l (i + 1)) (heardMask l (i + 1)))) _ votes);
+        votes-first = eqb-true _ _ (and-right (all rounds (λ i. subset (votesMask l (i + 1)) (heardMask l (i + 1)))) _ votes);
       };
       cells = record {
         admits = λ r p a b k h. cell-held l size r p (cells r p a b k) h .0;
@@ -345,7 +347,7 @@ formed l size e =
         few = few;
         led = subst (λ (x : ℕ). Led n (heldId l) 0 (leaderList l) x) (eqb-true _ _ (and-right (all (leaderCount l) (leaderOk l)) _ leads′))
             (to-led l size (leaderCount l) few (and-left _ _ leads′));
-        rest = beyond l size (leaderCount l) 32 (leaderWord l) (and-left _ _ rest);
+        rest = beyond l size (leaderCount l) leadersSize (leaderWord l) (and-left _ _ rest);
       };
       journal = record {
         ordered-low = λ r a b. bounds l size r (masks r a b) .5;
@@ -355,7 +357,8 @@ formed l size e =
         names = λ y. bool-ext (listed .1 y) (λ d. ⊎-elim (λ h. never d (not-true _ h)) (λ h. h) (or-cases (not (orderedId l y)) _
             (all-elim idLimit (λ y. not (orderedId l y) || among (journalList l) y) (and-right (all (journalCount l) (entryOk l)) _ words′) y
             (ordered-limit l size y d))));
-        rest = beyond l size (journalCount l) 512 (journalWord l) (and-right (all 32 (λ i. ltb i (leaderCount l) || eqb (leaderWord l i) 0)) _ rest);
+        rest = beyond l size (journalCount l) journalSize (journalWord l)
+            (and-right (all leadersSize (λ i. ltb i (leaderCount l) || eqb (leaderWord l i) 0)) _ rest);
       };
     }
 
@@ -371,7 +374,7 @@ well-formed l S =
     and-both (S .front .members)
     (and-both (and-both (le-leb _ _ (S .front .round-low)) (le-leb _ _ (S .front .round-high)))
     (and-both (le-leb _ _ (S .leaders .committed-high))
-    (and-both (all-intro 3 _ (λ i k. eq-eqb _ _ (S .front .zeros i k)))
+    (and-both (all-intro zerosSize _ (λ i k. eq-eqb _ _ (S .front .zeros i k)))
     (and-both (every-round l size (masksWithin l) (λ r a b.
     and-both (bounded l size _ (M .held-low r a b))
     (and-both (bounded l size _ (M .heard-low r a b))
@@ -381,14 +384,14 @@ well-formed l S =
     has-subset n (votesMask l r) (heardMask l r) (M .votes-low r a b) (λ p h. M .votes-heard r p a b h))) (eq-eqb _ _ (M .votes-first)))
     (and-both (every-round l size (λ r. subset (orderedMask l r) (heldMask l r)) (λ r a b.
     has-subset n (orderedMask l r) (heldMask l r) (J .ordered-low r a b) (λ p h. J .ordered-held r p a b h)))
-    (and-both (every-round l size (λ r. all 16 (cellOk l r)) (λ r a b. all-intro 16 (cellOk l r) (λ p k. cell-test l size (S .cells) r p a b k)))
+    (and-both (every-round l size (λ r. all slots (cellOk l r)) (λ r a b. all-intro slots (cellOk l r) (λ p k. cell-test l size (S .cells) r p a b k)))
     (and-both (and-both (le-leb _ _ (S .leaders .few)) (and-both (w .0) (eq-eqb _ _ (sym (w .1)))))
     (and-both (and-both (le-leb _ _ (J .few))
     (and-both (from-once l size (journalCount l) (omega arith) (J .few) (J .alone) (λ y d. sym (J .names y) ∙ d))
     (all-intro idLimit (λ y. not (orderedId l y) || among (journalList l) y) (λ y k. named y (which (orderedId l y))))))
     (and-both
-    (and-both (not-beyond l size (leaderCount l) 32 (leaderWord l) (S .leaders .rest))
-    (not-beyond l size (journalCount l) 512 (journalWord l) (J .rest)))
+    (and-both (not-beyond l size (leaderCount l) leadersSize (leaderWord l) (S .leaders .rest))
+    (not-beyond l size (journalCount l) journalSize (journalWord l) (J .rest)))
     refl))))))))))
   where
     named : (y : ℕ) → (orderedId l y ≡ true) ⊎ (orderedId l y ≡ false) → (not (orderedId l y) || among (journalList l) y) ≡ true
@@ -400,11 +403,11 @@ well-formed l S =
 module _ (l : List ℕ) (S : WellFormed l) where
   -- each list is as long as its count says
   pub leader-length : length (leaderList l) ≡ leaderCount l
-  leader-length = let few = S .leaders .few in length-part l 200 (leaderCount l) (omega (arith, S .size))
+  leader-length = let few = S .leaders .few in length-part l leadersAt (leaderCount l) (omega (arith, S .size))
 
   -- so the journal
   pub journal-length : length (journalList l) ≡ journalCount l
-  journal-length = let few = S .journal .few in length-part l 232 (journalCount l) (omega (arith, S .size))
+  journal-length = let few = S .journal .few in length-part l journalAt (journalCount l) (omega (arith, S .size))
 
   leader-ok : (i : ℕ) → i < leaderCount l → leaderOk l i ≡ true
   leader-ok = all-elim (leaderCount l) (leaderOk l) (from-led l (S .size) (leaderCount l) (committedRound l) (S .leaders .few) (S .leaders .led) .0)

@@ -8,16 +8,19 @@ use native.Mathlib.Omega.{arith}
 use lib.ListN.{length, getD, set, take, drop, length-take, length-drop, length-set}
 use lib.Seq.{getD-take, getD-drop, getD-set-other, ext-getD}
 use borrow.Author.Tests.{not-true, not-false}
-use Rattle.record.specs.Members.{legal, leader, has, idRound, idMember}
+use Rattle.record.specs.Members.{legal, leader, has, idRound, idMember, idLimit, rounds}
 use Rattle.record.specs.Refusals.{numberOf}
 use Rattle.record.specs.Questions.{bodyRefusal}
 use Rattle.record.proofs.Booleans.{which, and-left, and-cong, and-fails-left, and-fails-right, cond-cong}
 use Rattle.record.proofs.Below.{any-off, any-false}
 use Rattle.record.proofs.Rounds.{round-range}
-use Rattle.protocol.specs.Journal.{idLimit, among}
+use Rattle.protocol.specs.Journal.{among}
 use Rattle.protocol.proofs.Lists.{once}
 use Rattle.protocol.proofs.Laws.{records-ext}
-use Rattle.replica.specs.Layout.{masksAt, heldAt, heardAt, votesAt, timeoutsAt, noVotesAt, orderedAt, cellAt}
+use Rattle.record.specs.Layout.{bodySize}
+use Rattle.replica.specs.Layout.{orderedKind, heldKind, heardKind, votesKind, timeoutsKind, noVotesKind, currentRoundAt}
+use Rattle.replica.specs.Layout.{journalAt, journalSize, cellsAt, memberCountAt, committedRoundAt, leaderCountAt, journalCountAt, zerosAt}
+use Rattle.replica.specs.Layout.{masksAt, heldAt, heardAt, votesAt, timeoutsAt, noVotesAt, orderedAt, cellAt, headSize, leadersAt, leadersSize}
 use Rattle.replica.specs.State.{leaderCount, journalCount, heldMask, orderedMask, leaderList, journalList, cell, vertices, firsts, heldId, orderedId}
 use Rattle.replica.specs.Parents.{isParent, missing, parentsHeld}
 use Rattle.replica.proofs.Formed.{Front, Masks, Cells, Leaders, Journal, led-more}
@@ -74,37 +77,37 @@ parents-more l l′ f r body e =
 
 module _ (K : ℕ → Type 0) (l l′ : List ℕ) (p : Keeps K l l′) where
   -- words 0, 1 and 5 to 7
-  pub front-kept : ((j : ℕ) → j < 2 → K j) → ((j : ℕ) → 5 ≤ j → j < 8 → K j) → Front l → Front l′
+  pub front-kept : ((j : ℕ) → j ≤ currentRoundAt → K j) → ((j : ℕ) → zerosAt ≤ j → j < headSize → K j) → Front l → Front l′
   front-kept f g F =
-      let n = p .same 0 (f 0 (omega arith)) in
-      let r = p .same 1 (f 1 (omega arith)) in
+      let n = p .same memberCountAt (f memberCountAt (omega arith)) in
+      let r = p .same currentRoundAt (f currentRoundAt (omega arith)) in
       record {
         members = ap legal n ∙ F .members;
         low = rw n (F .low);
         high = rw n (F .high);
         round-low = rw r (F .round-low);
         round-high = rw r (F .round-high);
-        zeros = λ i h. p .same (5 + i) (g (5 + i) (omega arith) (omega arith)) ∙ F .zeros i h;
+        zeros = λ i h. p .same (zerosAt + i) (g (zerosAt + i) (omega arith) (omega arith)) ∙ F .zeros i h;
       }
 
   -- the masks but for the ordered ones
-  pub masks-kept : K 0 → ((r i : ℕ) → 1 ≤ r → r ≤ 32 → i < 5 → K (masksAt r + i)) → Masks l → Masks l′
+  pub masks-kept : K memberCountAt → ((r i : ℕ) → 1 ≤ r → r ≤ rounds → i < orderedKind → K (masksAt r + i)) → Masks l → Masks l′
   masks-kept k f M =
-      let n = p .same 0 k in
+      let n = p .same memberCountAt k in
       record {
-        held-low = λ r a b. rw (n, p .same (heldAt r) (f r 0 a b (omega arith))) (M .held-low r a b);
-        heard-low = λ r a b. rw (n, p .same (heardAt r) (f r 1 a b (omega arith))) (M .heard-low r a b);
-        votes-low = λ r a b. rw (n, p .same (votesAt r) (f r 2 a b (omega arith))) (M .votes-low r a b);
-        timeouts-low = λ r a b. rw (n, p .same (timeoutsAt r) (f r 3 a b (omega arith))) (M .timeouts-low r a b);
-        no-votes-low = λ r a b. rw (n, p .same (noVotesAt r) (f r 4 a b (omega arith))) (M .no-votes-low r a b);
-        votes-heard = λ r q a b h. ap (λ (m : ℕ). has m q) (p .same (heardAt r) (f r 1 a b (omega arith)))
-            ∙ M .votes-heard r q a b (ap (λ (m : ℕ). has m q) (sym (p .same (votesAt r) (f r 2 a b (omega arith)))) ∙ h);
-        votes-first = p .same (votesAt 1) (f 1 2 (omega arith) (omega arith) (omega arith)) ∙ M .votes-first;
+        held-low = λ r a b. rw (n, p .same (heldAt r) (f r heldKind a b (omega arith))) (M .held-low r a b);
+        heard-low = λ r a b. rw (n, p .same (heardAt r) (f r heardKind a b (omega arith))) (M .heard-low r a b);
+        votes-low = λ r a b. rw (n, p .same (votesAt r) (f r votesKind a b (omega arith))) (M .votes-low r a b);
+        timeouts-low = λ r a b. rw (n, p .same (timeoutsAt r) (f r timeoutsKind a b (omega arith))) (M .timeouts-low r a b);
+        no-votes-low = λ r a b. rw (n, p .same (noVotesAt r) (f r noVotesKind a b (omega arith))) (M .no-votes-low r a b);
+        votes-heard = λ r q a b h. ap (λ (m : ℕ). has m q) (p .same (heardAt r) (f r heardKind a b (omega arith)))
+            ∙ M .votes-heard r q a b (ap (λ (m : ℕ). has m q) (sym (p .same (votesAt r) (f r votesKind a b (omega arith)))) ∙ h);
+        votes-first = p .same (votesAt 1) (f 1 votesKind (omega arith) (omega arith) (omega arith)) ∙ M .votes-first;
       }
 
-  module _ (held : (r : ℕ) → 1 ≤ r → r ≤ 32 → K (heldAt r)) where
+  module _ (held : (r : ℕ) → 1 ≤ r → r ≤ rounds → K (heldAt r)) where
     -- who is held in a round
-    pub held-kept : (r q : ℕ) → 1 ≤ r → r ≤ 32 → has (heldMask l′ r) q ≡ has (heldMask l r) q
+    pub held-kept : (r q : ℕ) → 1 ≤ r → r ≤ rounds → has (heldMask l′ r) q ≡ has (heldMask l r) q
     held-kept r q a b = ap (λ (m : ℕ). has m q) (p .same (heldAt r) (held r a b))
 
     -- the same of an id
@@ -112,13 +115,13 @@ module _ (K : ℕ → Type 0) (l l′ : List ℕ) (p : Keeps K l l′) where
     held-id-kept y = and-cong refl (λ e. let w = round-range (idRound y) e in held-kept (idRound y) (idMember y) (w .0) (w .1))
 
     -- the cells, and the vertices
-    module _ (words : (j : ℕ) → 744 ≤ j → K j) where
+    module _ (words : (j : ℕ) → cellsAt ≤ j → K j) where
       pub cell-kept : (r q : ℕ) → cell l′ r q ≡ cell l r q
-      cell-kept r q = keeps-part K l l′ p (cellAt r q) 10 (λ j a b. words j (omega arith))
+      cell-kept r q = keeps-part K l l′ p (cellAt r q) bodySize (λ j a b. words j (omega arith))
 
-      pub cells-kept : K 0 → Cells l → Cells l′
+      pub cells-kept : K memberCountAt → Cells l → Cells l′
       cells-kept k C = record {
-        admits = λ r q a b m h. ap₂ (λ (n : ℕ) (c : List ℕ). numberOf (bodyRefusal n r q c)) (p .same 0 k) (cell-kept r q)
+        admits = λ r q a b m h. ap₂ (λ (n : ℕ) (c : List ℕ). numberOf (bodyRefusal n r q c)) (p .same memberCountAt k) (cell-kept r q)
             ∙ C .admits r q a b m (sym (held-kept r q a b) ∙ h);
         parents = λ r q a b m h. parents-more l l′ (λ y e. held-id-kept y ∙ e) r (cell l′ r q)
             (ap (parentsHeld l r) (cell-kept r q) ∙ C .parents r q a b m (sym (held-kept r q a b) ∙ h));
@@ -131,32 +134,33 @@ module _ (K : ℕ → Type 0) (l l′ : List ℕ) (p : Keeps K l l′) where
           cond-cong (and-cong refl (λ e. let w = round-range r e in held-kept r q (w .0) (w .1))) (λ e. cell-kept r q) refl)
 
   -- the first messages
-  pub firsts-kept : K 0 → ((r : ℕ) → 1 ≤ r → r ≤ 32 → K (heardAt r)) → ((r : ℕ) → 1 ≤ r → r ≤ 32 → K (votesAt r)) → firsts l′ ≡ firsts l
+  pub firsts-kept : K memberCountAt → ((r : ℕ) → 1 ≤ r → r ≤ rounds → K (heardAt r)) → ((r : ℕ) → 1 ≤ r → r ≤ rounds → K (votesAt r)) → firsts l′ ≡ firsts l
   unfolding firsts
   firsts-kept k f g = records-ext (firsts l′) (firsts l) (λ r q.
       cond-cong (and-cong refl (λ e. let w = round-range r e in ap (λ (m : ℕ). has m q) (p .same (heardAt r) (f r (w .0) (w .1)))))
       (λ e. let w = round-range r (and-left _ _ e) in
-      ap₂ (λ (n m : ℕ). cond (has m q) (2 ^ leader n (r - 1)) 0 ∷ []) (p .same 0 k) (p .same (votesAt r) (g r (w .0) (w .1)))) refl)
+      ap₂ (λ (n m : ℕ). cond (has m q) (2 ^ leader n (r - 1)) 0 ∷ []) (p .same memberCountAt k) (p .same (votesAt r) (g r (w .0) (w .1)))) refl)
 
   -- the leader list, where no vertex is lost
-  pub leader-list-kept : K 3 → ((j : ℕ) → 200 ≤ j → j < 232 → K j) → leaderCount l ≤ 32 → leaderList l′ ≡ leaderList l
-  leader-list-kept k f few = rw (p .same 3 k) (keeps-part K l l′ p 200 (leaderCount l) (λ j a b. f j a (omega arith)))
+  pub leader-list-kept : K leaderCountAt → ((j : ℕ) → leadersAt ≤ j → j < journalAt → K j) → leaderCount l ≤ leadersSize → leaderList l′ ≡ leaderList l
+  leader-list-kept k f few = rw (p .same leaderCountAt k) (keeps-part K l l′ p leadersAt (leaderCount l) (λ j a b. f j a (omega arith)))
 
   -- and all that is said of it
-  pub leaders-kept : K 0 → K 2 → K 3 → ((j : ℕ) → 200 ≤ j → j < 232 → K j) → ((y : ℕ) → heldId l y ≡ true → heldId l′ y ≡ true) → Leaders l → Leaders l′
+  pub leaders-kept : K memberCountAt → K committedRoundAt → K leaderCountAt → ((j : ℕ) → leadersAt ≤ j → j < journalAt → K j)
+      → ((y : ℕ) → heldId l y ≡ true → heldId l′ y ≡ true) → Leaders l → Leaders l′
   leaders-kept k₀ k₂ k₃ f g L =
-      let c = p .same 3 k₃ in
+      let c = p .same leaderCountAt k₃ in
       record {
-        committed-high = rw (p .same 2 k₂) (L .committed-high);
+        committed-high = rw (p .same committedRoundAt k₂) (L .committed-high);
         few = rw c (L .few);
-        led = rw (p .same 0 k₀, p .same 2 k₂, leader-list-kept k₃ f (L .few)) (led-more _ (heldId l) (heldId l′) 0 _ _ g (L .led));
-        rest = λ i a b. p .same (200 + i) (f (200 + i) (omega arith) (omega arith)) ∙ L .rest i (omega arith) b;
+        led = rw (p .same memberCountAt k₀, p .same committedRoundAt k₂, leader-list-kept k₃ f (L .few)) (led-more _ (heldId l) (heldId l′) 0 _ _ g (L .led));
+        rest = λ i a b. p .same (leadersAt + i) (f (leadersAt + i) (omega arith) (omega arith)) ∙ L .rest i (omega arith) b;
       }
 
   -- the journal
-  module _ (ordered : (r : ℕ) → 1 ≤ r → r ≤ 32 → K (orderedAt r)) where
+  module _ (ordered : (r : ℕ) → 1 ≤ r → r ≤ rounds → K (orderedAt r)) where
     -- who is ordered in a round
-    pub ordered-kept : (r q : ℕ) → 1 ≤ r → r ≤ 32 → has (orderedMask l′ r) q ≡ has (orderedMask l r) q
+    pub ordered-kept : (r q : ℕ) → 1 ≤ r → r ≤ rounds → has (orderedMask l′ r) q ≡ has (orderedMask l r) q
     ordered-kept r q a b = ap (λ (m : ℕ). has m q) (p .same (orderedAt r) (ordered r a b))
 
     -- the same of an id
@@ -164,26 +168,26 @@ module _ (K : ℕ → Type 0) (l l′ : List ℕ) (p : Keeps K l l′) where
     ordered-id-kept y = and-cong refl (λ e. let w = round-range (idRound y) e in ordered-kept (idRound y) (idMember y) (w .0) (w .1))
 
     -- its entries
-    pub journal-list-kept : K 4 → ((j : ℕ) → 232 ≤ j → j < 744 → K j) → journalCount l ≤ 512 → journalList l′ ≡ journalList l
-    journal-list-kept k f few = rw (p .same 4 k) (keeps-part K l l′ p 232 (journalCount l) (λ j a b. f j a (omega arith)))
+    pub journal-list-kept : K journalCountAt → ((j : ℕ) → journalAt ≤ j → j < cellsAt → K j) → journalCount l ≤ journalSize → journalList l′ ≡ journalList l
+    journal-list-kept k f few = rw (p .same journalCountAt k) (keeps-part K l l′ p journalAt (journalCount l) (λ j a b. f j a (omega arith)))
 
     -- and all that is said of it, where no vertex is lost
-    pub journal-kept : K 0 → K 4 → ((j : ℕ) → 232 ≤ j → j < 744 → K j)
-        → ((r q : ℕ) → 1 ≤ r → r ≤ 32 → has (heldMask l r) q ≡ true → has (heldMask l′ r) q ≡ true) → Journal l → Journal l′
+    pub journal-kept : K memberCountAt → K journalCountAt → ((j : ℕ) → journalAt ≤ j → j < cellsAt → K j)
+        → ((r q : ℕ) → 1 ≤ r → r ≤ rounds → has (heldMask l r) q ≡ true → has (heldMask l′ r) q ≡ true) → Journal l → Journal l′
     journal-kept k₀ k₄ f g J =
-        let c = p .same 4 k₄ in
+        let c = p .same journalCountAt k₄ in
         let e = journal-list-kept k₄ f (J .few) in
         record {
-          ordered-low = λ r a b. rw (p .same 0 k₀, p .same (orderedAt r) (ordered r a b)) (J .ordered-low r a b);
+          ordered-low = λ r a b. rw (p .same memberCountAt k₀, p .same (orderedAt r) (ordered r a b)) (J .ordered-low r a b);
           ordered-held = λ r q a b h. g r q a b (J .ordered-held r q a b (sym (ordered-kept r q a b) ∙ h));
           few = rw c (J .few);
           alone = ap once e ∙ J .alone;
           names = λ y. ap (λ (j : List ℕ). among j y) e ∙ J .names y ∙ sym (ordered-id-kept y);
-          rest = λ i a b. p .same (232 + i) (f (232 + i) (omega arith) (omega arith)) ∙ J .rest i (omega arith) b;
+          rest = λ i a b. p .same (journalAt + i) (f (journalAt + i) (omega arith) (omega arith)) ∙ J .rest i (omega arith) b;
         }
 
 -- a word below the cells that is no held mask, set
-pub vertices-set : (l : List ℕ) (j x : ℕ) → j < 744 → ((r : ℕ) → 1 ≤ r → r ≤ 32 → heldAt r ≡ j → ⊥) → vertices (set l j x) ≡ vertices l
+pub vertices-set : (l : List ℕ) (j x : ℕ) → j < cellsAt → ((r : ℕ) → 1 ≤ r → r ≤ rounds → heldAt r ≡ j → ⊥) → vertices (set l j x) ≡ vertices l
 vertices-set l j x h f = vertices-kept K l (set l j x) (keeps-set K l j x (λ i k e. k e)) f (λ i a e. omega arith)
   where
     K : ℕ → Type 0

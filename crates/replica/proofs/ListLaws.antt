@@ -16,11 +16,12 @@ use Rattle.record.specs.declared.refusal.Refusal.{Refusal}
 use Rattle.record.specs.declared.refusal.Refusal.the-variants.{None, PastEnd}
 use Rattle.record.proofs.Booleans.{which, cond-true, cond-false}
 use Rattle.record.proofs.Turn.{both-yes, next, stop, done, front-no, front-yes, both-fronts}
+use Rattle.replica.specs.Layout.{stateSize, leadersAt, journalAt, journalSize, cellsAt, leaderCountAt, journalCountAt}
 use Rattle.replica.specs.State.{leaderCount, journalCount}
 use Rattle.replica.specs.WellFormed.{wellFormed}
-use Rattle.replica.specs.Outcome.{Outcome, told, refusedBy, unchanged}
+use Rattle.replica.specs.Outcome.{Outcome, told, nothingAdded, unchanged}
 use Rattle.replica.specs.Status.{stateQuestions}
-use Rattle.replica.specs.Place.{Part, cut}
+use Rattle.replica.specs.Place.{Part, cut, wordSize}
 use Rattle.replica.specs.Lists.{askList, spanIf, handList, Handed, HandOverLaw}
 use Rattle.replica.specs.declared.answer.Answer.{Answer}
 use Rattle.replica.proofs.Clauses.{counts}
@@ -29,22 +30,22 @@ use Rattle.replica.proofs.StatusLaws.{state-numbered, state-ok}
 -- ---- asking
 
 -- what the number 0 says
-pub list-ok : (l : List ℕ) (k count : ℕ) → askList l k count .number ≡ 0 → (length l ≡ 5864) × (wellFormed l ≡ true) × (k ≤ count)
+pub list-ok : (l : List ℕ) (k count : ℕ) → askList l k count .number ≡ 0 → (length l ≡ stateSize) × (wellFormed l ≡ true) × (k ≤ count)
 list-ok l k count e =
     let w = both-fronts (stateQuestions l) _ (state-numbered l) e in
     let s = state-ok l (w .0) in
     (s .0, s .1, leb-true k count (both-yes _ _ _ (eqb-false 15 0 refl) (w .1) .0))
 
 -- the two words of the counts
-pub counted : (l : List ℕ) (c : ℕ) → 3 ≤ c → c ≤ 4 → wellFormed l ≡ true → getD l c 0 ≤ 512
+pub counted : (l : List ℕ) (c : ℕ) → leaderCountAt ≤ c → c ≤ journalCountAt → wellFormed l ≡ true → getD l c 0 ≤ journalSize
 counted l c low high f = ⊎-elim
     (λ e. rw e (counts l f .1))
-    (λ h. let e : c ≡ 3 = omega arith in rw e (omega (arith, counts l f .0)))
+    (λ h. let e : c ≡ leaderCountAt = omega arith in rw e (omega (arith, counts l f .0)))
     (eq-or-lt-of-le high)
 
 module _ (l : List ℕ) (why : Refusal) (e : why ≡ firstNo (stateQuestions l)) (m : ℕ) (f : m ≡ numberOf why) where
   -- the state is refused
-  pub ask-state : (m ≡ 0 → ⊥) → (k count : ℕ) (a : Answer) → a ≡ refusedBy why → told a l ≡ askList l k count
+  pub ask-state : (m ≡ 0 → ⊥) → (k count : ℕ) (a : Answer) → a ≡ nothingAdded why → told a l ≡ askList l k count
   ask-state h k count a d =
       ap (λ (x : Answer). told x l) d
       ∙ ap (λ (r : Refusal). unchanged r l) (e ∙ front-no (stateQuestions l) _ (λ z. h (f ∙ ap numberOf e ∙ z)))
@@ -54,17 +55,17 @@ module _ (l : List ℕ) (why : Refusal) (e : why ≡ firstNo (stateQuestions l))
     sure = sym (ap numberOf e) ∙ sym f ∙ z
 
     -- it has all its words
-    pub ask-size : length l ≡ 5864
+    pub ask-size : length l ≡ stateSize
     ask-size = state-ok l sure .0
 
     -- the start is past the end
-    pub ask-past : (k count : ℕ) → count < k → (a : Answer) → a ≡ refusedBy PastEnd → told a l ≡ askList l k count
+    pub ask-past : (k count : ℕ) → count < k → (a : Answer) → a ≡ nothingAdded PastEnd → told a l ≡ askList l k count
     ask-past k count h a d =
         ap (λ (x : Answer). told x l) d
         ∙ ap (λ (r : Refusal). unchanged r l) (stop _ _ (lt-leb k count h) ∙ front-yes (stateQuestions l) _ (state-numbered l) sure)
 
     -- or it is not
-    pub ask-done : (k count : ℕ) → k ≤ count → told (refusedBy None) l ≡ askList l k count
+    pub ask-done : (k count : ℕ) → k ≤ count → told (nothingAdded None) l ≡ askList l k count
     ask-done k count h =
         ap (λ (r : Refusal). unchanged r l) (next _ _ (le-leb k count h) done ∙ front-yes (stateQuestions l) _ (state-numbered l) sure)
 
@@ -72,7 +73,7 @@ module _ (l : List ℕ) (why : Refusal) (e : why ≡ firstNo (stateQuestions l))
 
 -- the words from one place up to another of a slice, where they lie in it
 abbrev pub between : RefT (List ℕ) → ℕ → ℕ → Part
-between x a b = record { block = x .ptr .0; byte = a * 4 + x .ptr .1; words = take (b - a) (drop a (x .now)) }
+between x a b = record { block = x .ptr .0; byte = a * wordSize + x .ptr .1; words = take (b - a) (drop a (x .now)) }
 
 pub span-none : (number first k count : ℕ) → (number ≡ 0 → ⊥) → spanIf number first k count ≡ record { number = number; start = 0; length = 0 }
 unfolding spanIf
@@ -84,12 +85,13 @@ span-some number first k count h = cond-true _ _ (eq-eqb number 0 h)
 
 -- what the code may use where the asking call answers 0
 pub record Handing (x : RefT (List ℕ)) (k first count : ℕ) : Type 0 where
-  pub size : length (x .now) ≡ 5864
+  pub size : length (x .now) ≡ stateSize
   pub low : k ≤ count
-  pub high : count ≤ 512
+  pub high : count ≤ journalSize
   pub done : (a b : ℕ) → a ≡ k → b ≡ count → between x (first + a) (first + b) ≡ cut x (handList (x .now) k first count)
 
-module _ (x : RefT (List ℕ)) (k first c : ℕ) (from : 3 ≤ c) (to : c ≤ 4) (a : Answer) (e : told a (x .now) ≡ askList (x .now) k (getD (x .now) c 0))
+module _ (x : RefT (List ℕ)) (k first c : ℕ) (from : leaderCountAt ≤ c) (to : c ≤ journalCountAt) (a : Answer) (e : told a (x .now)
+    ≡ askList (x .now) k (getD (x .now) c 0))
     (m : ℕ) (f : m ≡ numberOf (a .refusal)) where
   asked : m ≡ askList (x .now) k (getD (x .now) c 0) .number
   asked = f ∙ ap (λ (o : Outcome). o .number) e
@@ -97,7 +99,7 @@ module _ (x : RefT (List ℕ)) (k first c : ℕ) (from : 3 ≤ c) (to : c ≤ 4)
   -- no words
   pub hand-none : (m ≡ 0 → ⊥) → record { block = x .ptr .0; byte = x .ptr .1; words = [] } ≡ cut x (handList (x .now) k first (getD (x .now) c 0))
   hand-none h =
-      let here : x .ptr .1 ≡ 0 * 4 + x .ptr .1 = omega arith in
+      let here : x .ptr .1 ≡ 0 * wordSize + x .ptr .1 = omega arith in
       ap (λ (b : ℕ). record { block = x .ptr .0; byte = b; words = [] }) here
       ∙ sym (ap (cut x) (span-none _ first k (getD (x .now) c 0) (λ z. h (asked ∙ z))))
 
@@ -125,7 +127,7 @@ hand-part l first k count h f =
     ∙ ap (drop k) (sym (take-add k (count - k) (drop first l)))
     ∙ ap (λ (x : ℕ). drop k (take x (drop first l))) s
 
-handed-one : (l : List ℕ) (k first count : ℕ) → (wellFormed l ≡ true → first + count ≤ 744)
+handed-one : (l : List ℕ) (k first count : ℕ) → (wellFormed l ≡ true → first + count ≤ cellsAt)
     → Handed l k (take count (drop first l)) (handList l k first count)
 handed-one l k first count room = go (which (eqb (askList l k count .number) 0))
   where
@@ -148,6 +150,6 @@ handed-one l k first count room = go (which (eqb (askList l k count .number) 0))
 
 pub hand-over : HandOverLaw
 hand-over l k = (
-  handed-one l k 200 (leaderCount l) (λ f. omega (arith, counts l f .0)),
-  handed-one l k 232 (journalCount l) (λ f. omega (arith, counts l f .1)),
+  handed-one l k leadersAt (leaderCount l) (λ f. omega (arith, counts l f .0)),
+  handed-one l k journalAt (journalCount l) (λ f. omega (arith, counts l f .1)),
 )

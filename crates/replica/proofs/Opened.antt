@@ -2,18 +2,20 @@
 use mathlib.Core.Path.{_≡_, refl, sym, ap, _∙_}
 use mathlib.Core.Bool.{true, false}
 use mathlib.Core.Logic.{⊎-elim}
-use mathlib.Core.List.{[], _∷_}
-use Prim.Native.Nat.{ℕ, zero, suc, _+_, _^_, _≤_, _<_}
+use mathlib.Core.List.{List, []}
+use Prim.Native.Nat.{ℕ, _+_, _^_, _≤_, _<_}
 use native.Mathlib.Omega.{arith}
 use lib.Dec.{ltb}
-use lib.ListN.{length, getD, replicate, length-replicate, getD-replicate, List·getD-eq-default}
+use lib.ListN.{length, getD, set, replicate, length-set, length-replicate, getD-replicate, List·getD-eq-default}
+use lib.Seq.{getD-set-same, getD-set-other}
 use lib.Pow.{pow-pos}
 use borrow.Author.Tests.{ltb-true, ltb-false}
 use Rattle.record.specs.Members.{legal, has, idRound, idMember, isRound}
 use Rattle.record.proofs.Booleans.{which, never, and-fails-right, cond-false}
 use Rattle.record.proofs.Masks.{legal-range, has-zero}
 use Rattle.protocol.proofs.Lists.{among-none, once, once-none}
-use Rattle.replica.specs.Layout.{stateSize, masksAt, cellAt}
+use Rattle.replica.specs.Layout.{committedRoundAt, leaderCountAt, journalCountAt, heldKind, heardKind, votesKind, timeoutsKind, noVotesKind}
+use Rattle.replica.specs.Layout.{stateSize, masksAt, cellAt, leadersAt, journalAt, zerosAt, orderedKind, memberCountAt, currentRoundAt, votesAt}
 use Rattle.replica.specs.State.{memberCount, currentRound, leaderList, journalList, vertices, firsts}
 use Rattle.replica.specs.WellFormed.{wellFormed}
 use Rattle.replica.specs.Opening.{opened}
@@ -26,36 +28,38 @@ blank k j = ⊎-elim
     (λ e. List·getD-eq-default {A = ℕ} (replicate k 0) 0 (rw (length-replicate {A = ℕ} k 0) (ltb-false j k e)))
     (which (ltb j k))
 
--- a state of n members and k words more, in round 1
-opened-at : (n k j : ℕ) → 2 ≤ j → getD (n ∷ 1 ∷ replicate k 0) j 0 ≡ 0
-opened-at n k zero h = absurd (omega arith)
-opened-at n k (suc zero) h = absurd (omega arith)
-opened-at n k (suc (suc j)) h = blank k j
+-- as many zeros as a state has words
+abbrev zeros : List ℕ
+zeros = replicate stateSize 0
 
--- how many words that is
-opened-long : (n k : ℕ) → length (n ∷ 1 ∷ replicate k 0) ≡ 2 + k
-opened-long n k = ap (λ (x : ℕ). suc (suc x)) (length-replicate {A = ℕ} k 0) ∙ omega arith
+zeros-long : length zeros ≡ stateSize
+zeros-long = length-replicate {A = ℕ} stateSize 0
 
 module _ (n : ℕ) where
   -- as many words as a state has
   pub opened-size : length (opened n) ≡ stateSize
   unfolding opened
-  opened-size = opened-long n 5862
+  opened-size = rw (length-set, length-set, length-replicate)
 
-  -- word 0
+  -- the member count is n
   pub opened-members : memberCount (opened n) ≡ n
   unfolding opened
-  opened-members = refl
+  opened-members =
+      getD-set-other (set zeros memberCountAt n) currentRoundAt memberCountAt 1 0 (λ e. omega arith)
+      ∙ getD-set-same zeros memberCountAt n 0 (omega (arith, zeros-long))
 
-  -- word 1
+  -- the current round is 1
   pub opened-round : currentRound (opened n) ≡ 1
   unfolding opened
-  opened-round = refl
+  opened-round = getD-set-same (set zeros memberCountAt n) currentRoundAt 1 0 (omega (arith, zeros-long, length-set zeros memberCountAt n))
 
-  -- all other words are 0
-  pub opened-word : (j : ℕ) → 2 ≤ j → getD (opened n) j 0 ≡ 0
+  -- all later words are 0
+  pub opened-word : (j : ℕ) → currentRoundAt < j → getD (opened n) j 0 ≡ 0
   unfolding opened
-  opened-word j h = opened-at n 5862 j h
+  opened-word j h =
+      getD-set-other (set zeros memberCountAt n) currentRoundAt j 1 0 (λ e. omega arith)
+      ∙ getD-set-other zeros memberCountAt j n 0 (λ e. omega arith)
+      ∙ blank stateSize j
 
   -- so nobody is in a mask
   opened-mask : (r i q : ℕ) → has (getD (opened n) (masksAt r + i) 0) q ≡ false
@@ -63,21 +67,21 @@ module _ (n : ℕ) where
 
   -- the leader list is empty
   pub opened-leaders : leaderList (opened n) ≡ []
-  opened-leaders = rw (opened-word 3 (omega arith))
+  opened-leaders = rw (opened-word leaderCountAt (omega arith))
 
   -- the journal is empty
   pub opened-journal : journalList (opened n) ≡ []
-  opened-journal = rw (opened-word 4 (omega arith))
+  opened-journal = rw (opened-word journalCountAt (omega arith))
 
   -- there are no vertices
   pub opened-vertices : (r p : ℕ) → vertices (opened n) r p ≡ []
   unfolding vertices
-  opened-vertices r p = cond-false _ _ (and-fails-right (isRound r) (opened-mask r 0 p))
+  opened-vertices r p = cond-false _ _ (and-fails-right (isRound r) (opened-mask r heldKind p))
 
   -- and no first messages
   pub opened-firsts : (r p : ℕ) → firsts (opened n) r p ≡ []
   unfolding firsts
-  opened-firsts r p = cond-false _ _ (and-fails-right (isRound r) (opened-mask r 1 p))
+  opened-firsts r p = cond-false _ _ (and-fails-right (isRound r) (opened-mask r heardKind p))
 
   -- A state just opened is formed.
   pub opened-formed : legal n ≡ true → WellFormed (opened n)
@@ -90,35 +94,35 @@ module _ (n : ℕ) where
       high = rw opened-members (legal-range n g .high);
       round-low = rw opened-round (omega arith);
       round-high = rw opened-round (omega arith);
-      zeros = λ i k. opened-word (5 + i) (omega arith);
+      zeros = λ i k. opened-word (zerosAt + i) (omega arith);
     };
     masks = record {
-      held-low = λ r a b. small r 0;
-      heard-low = λ r a b. small r 1;
-      votes-low = λ r a b. small r 2;
-      timeouts-low = λ r a b. small r 3;
-      no-votes-low = λ r a b. small r 4;
-      votes-heard = λ r p a b e. never e (opened-mask r 2 p);
-      votes-first = opened-word (masksAt 1 + 2) (omega arith);
+      held-low = λ r a b. small r heldKind;
+      heard-low = λ r a b. small r heardKind;
+      votes-low = λ r a b. small r votesKind;
+      timeouts-low = λ r a b. small r timeoutsKind;
+      no-votes-low = λ r a b. small r noVotesKind;
+      votes-heard = λ r p a b e. never e (opened-mask r votesKind p);
+      votes-first = opened-word (votesAt 1) (omega arith);
     };
     cells = record {
-      admits = λ r p a b k e. never e (opened-mask r 0 p);
-      parents = λ r p a b k e. never e (opened-mask r 0 p);
+      admits = λ r p a b k e. never e (opened-mask r heldKind p);
+      parents = λ r p a b k e. never e (opened-mask r heldKind p);
       zero-cell = λ r p i a b k m e. opened-word (cellAt r p + i) (omega arith);
     };
     leaders = record {
-      committed-high = rw (opened-word 2 (omega arith)) (omega arith);
-      few = rw (opened-word 3 (omega arith)) (omega arith);
-      led = rw opened-leaders (sym (opened-word 2 (omega arith)));
-      rest = λ i a b. opened-word (200 + i) (omega arith);
+      committed-high = rw (opened-word committedRoundAt (omega arith)) (omega arith);
+      few = rw (opened-word leaderCountAt (omega arith)) (omega arith);
+      led = rw opened-leaders (sym (opened-word committedRoundAt (omega arith)));
+      rest = λ i a b. opened-word (leadersAt + i) (omega arith);
     };
     journal = record {
-      ordered-low = λ r a b. small r 5;
-      ordered-held = λ r p a b e. never e (opened-mask r 5 p);
-      few = rw (opened-word 4 (omega arith)) (omega arith);
+      ordered-low = λ r a b. small r orderedKind;
+      ordered-held = λ r p a b e. never e (opened-mask r orderedKind p);
+      few = rw (opened-word journalCountAt (omega arith)) (omega arith);
       alone = ap once opened-journal ∙ once-none;
-      names = λ y. rw opened-journal (among-none y ∙ sym (and-fails-right (isRound (idRound y)) (opened-mask (idRound y) 5 (idMember y))));
-      rest = λ i a b. opened-word (232 + i) (omega arith);
+      names = λ y. rw opened-journal (among-none y ∙ sym (and-fails-right (isRound (idRound y)) (opened-mask (idRound y) orderedKind (idMember y))));
+      rest = λ i a b. opened-word (journalAt + i) (omega arith);
     };
   }
     where

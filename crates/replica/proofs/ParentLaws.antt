@@ -11,7 +11,7 @@ use lib.ListN.{length}
 use lib.Pow.{pow-mono}
 use borrow.Author.Tests.{eqb-true, eq-eqb, not-true, not-false}
 use Rattle.record.specs.Below.{all, any}
-use Rattle.record.specs.Members.{rounds, legal, has, idOf, idRound, idMember, isRound}
+use Rattle.record.specs.Members.{rounds, legal, has, idOf, idRound, idMember, isRound, slots, idLimit}
 use Rattle.record.specs.Layout.{bodySize, weakSlots, strongOf, weakCountOf, weakOf}
 use Rattle.record.specs.Refusals.{numberOf}
 use Rattle.record.specs.Questions.{bodyRefusal}
@@ -22,7 +22,6 @@ use Rattle.record.proofs.Below.{all-intro, all-elim, any-intro, any-elim, any-f
 use Rattle.record.proofs.Masks.{has-zero, legal-range}
 use Rattle.record.proofs.Rounds.{round-in}
 use Rattle.record.proofs.Turn.{admitted}
-use Rattle.protocol.specs.Journal.{idLimit}
 use Rattle.replica.specs.State.{memberCount, heldMask, heldId}
 use Rattle.replica.specs.Parents.{isParent, missing, parentsHeld}
 use Rattle.replica.specs.WellFormed.{subset, recordOk}
@@ -73,11 +72,11 @@ parents-elim l r body e y b =
 
 module _ (n r p : ℕ) (l body : List ℕ) (group : legal n ≡ true) (a : Admitted n r p body) where
   -- there are at most five weak ids
-  pub weak-five : weakCountOf body ≤ 5
+  pub weak-five : weakCountOf body ≤ weakSlots
   weak-five = let g = legal-range n group in omega (arith, a .weak-few)
 
-  pub strong-small : strongOf body < 2 ^ 16
-  strong-small = let g = legal-range n group in lt-of-lt-of-le (a .strong-low) (pow-mono {i = n} {j = 16} (g .high))
+  pub strong-small : strongOf body < 2 ^ slots
+  strong-small = let g = legal-range n group in lt-of-lt-of-le (a .strong-low) (pow-mono {i = n} {j = slots} (g .high))
 
   pub weak-small : (i : ℕ) → i < weakCountOf body → weakOf body i < idLimit
   weak-small i b = omega (arith, weak-five, a .weak-high i (omega (arith, weak-five)) b, a .round-high)
@@ -93,7 +92,7 @@ module _ (n r p : ℕ) (l body : List ℕ) (group : legal n ≡ true) (a : Admit
   pub later-held : 2 ≤ r → parentsHeld l r body ≡ (subset (strongOf body) (heldMask l (r - 1)) && all (weakCountOf body) (λ i. heldId l (weakOf body i)))
   later-held f = bool-ext
       (λ e. and-both
-      (has-subset 16 (strongOf body) (heldMask l (r - 1)) strong-small (λ m b h. strong-has e m b h))
+      (has-subset slots (strongOf body) (heldMask l (r - 1)) strong-small (λ m b h. strong-has e m b h))
       (all-intro (weakCountOf body) (λ i. heldId l (weakOf body i)) (λ i b. parents-elim l r body e (weakOf body i) (weak-small i b) (weak-parent r body i b))))
       (λ e. parents-intro l r body (λ y b t. ⊎-elim
       (λ s. strong-in (and-left _ _ e) y (s .0) (s .1))
@@ -101,7 +100,7 @@ module _ (n r p : ℕ) (l body : List ℕ) (group : legal n ≡ true) (a : Admit
       (w .0) (w .1)))
       (parent-cases r body y t)))
     where
-      strong-has : parentsHeld l r body ≡ true → (m : ℕ) → m < 16 → has (strongOf body) m ≡ true → has (heldMask l (r - 1)) m ≡ true
+      strong-has : parentsHeld l r body ≡ true → (m : ℕ) → m < slots → has (strongOf body) m ≡ true → has (heldMask l (r - 1)) m ≡ true
       strong-has e m b h =
           let x : idRound (idOf (r - 1) m) ≡ r - 1 = omega arith in
           let y : idMember (idOf (r - 1) m) ≡ m = omega arith in

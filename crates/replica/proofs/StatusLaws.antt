@@ -9,6 +9,7 @@ use Rattle.record.specs.Refusals.{numberOf, firstNo, numbered}
 use Rattle.record.specs.declared.refusal.Refusal.{Refusal}
 use Rattle.record.proofs.Booleans.{cond-true, cond-false}
 use Rattle.record.proofs.Turn.{both-yes}
+use Rattle.replica.specs.Layout.{stateSize}
 use Rattle.replica.specs.State.{currentRound, committedRound, leaderCount, journalCount}
 use Rattle.replica.specs.WellFormed.{wellFormed}
 use Rattle.replica.specs.Status.{stateQuestions, head, headIf, statusOf}
@@ -20,11 +21,11 @@ unfolding numbered
 state-numbered l = refl
 
 -- what the number 0 says
-pub state-ok : (l : List ℕ) → numberOf (firstNo (stateQuestions l)) ≡ 0 → (length l ≡ 5864) × (wellFormed l ≡ true)
+pub state-ok : (l : List ℕ) → numberOf (firstNo (stateQuestions l)) ≡ 0 → (length l ≡ stateSize) × (wellFormed l ≡ true)
 state-ok l e =
     let q = both-yes _ _ _ (eqb-false 1 0 refl) e in
     let p = both-yes _ _ _ (eqb-false 3 0 refl) (q .1) in
-    (eqb-true (length l) 5864 (q .0), p .0)
+    (eqb-true (length l) stateSize (q .0), p .0)
 
 -- ---- status
 

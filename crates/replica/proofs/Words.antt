@@ -8,39 +8,46 @@ use native.Mathlib.Nat.{le-refl, lt-of-lt-of-le}
 use native.Mathlib.Numerals.{add-one}
 use native.Mathlib.Omega.{arith}
 use lib.Dec.{eqb}
-use lib.ListN.{length, getD, take, drop, length-drop}
+use lib.ListN.{length, getD, set, take, drop, length-drop}
 use lib.Pow.{pow-mono}
 use lib.Seq.{take-suc, take-take, length-take-le, getD-take, getD-drop}
 use borrow.Author.Tests.{eqb-true, eq-eqb}
-use Rattle.record.specs.Members.{legal, has, within, idOf, idRound, idMember}
+use Rattle.record.specs.Members.{legal, has, within, with, idOf, idRound, idMember, rounds, slots}
+use Rattle.record.specs.declared.members.Members.{Members}
 use Rattle.record.proofs.Booleans.{and-left, and-right, and-both, or-left, or-right, or-cases}
 use Rattle.record.proofs.Below.{all-elim}
 use Rattle.record.proofs.Masks.{within-lt, lt-within, legal-range}
 use Rattle.protocol.specs.Journal.{among}
 use Rattle.replica.specs.State.{memberCount, leaderCount, journalCount, heldMask, heardMask, votesMask, timeoutsMask, noVotesMask, orderedMask}
-use Rattle.replica.specs.State.{leaderWord, journalWord, leaderList, journalList, heldId, orderedId}
+use Rattle.replica.specs.State.{addMember, leaderWord, journalWord, leaderList, journalList, heldId, orderedId}
 use Rattle.replica.specs.WellFormed.{eachRound, masksWithin}
 use Rattle.record.proofs.Rounds.{round-in}
+use Rattle.replica.specs.Layout.{stateSize, leadersAt, leadersSize, journalAt, journalSize}
 
 -- ---- ids
 
-pub id-round : (r p : ℕ) → p < 16 → idRound (idOf r p) ≡ r
+pub id-round : (r p : ℕ) → p < slots → idRound (idOf r p) ≡ r
 id-round r p h = omega arith
 
-pub id-member : (r p : ℕ) → p < 16 → idMember (idOf r p) ≡ p
+pub id-member : (r p : ℕ) → p < slots → idMember (idOf r p) ≡ p
 id-member r p h = omega arith
 
 pub id-same : (y : ℕ) → idOf (idRound y) (idMember y) ≡ y
 id-same y = omega arith
 
 -- the tests of an id, by its round and member
-pub held-id : (l : List ℕ) (r p : ℕ) → 1 ≤ r → r ≤ 32 → p < 16 → heldId l (idOf r p) ≡ has (heldMask l r) p
+pub held-id : (l : List ℕ) (r p : ℕ) → 1 ≤ r → r ≤ rounds → p < slots → heldId l (idOf r p) ≡ has (heldMask l r) p
 held-id l r p a b h = rw (id-round r p h, id-member r p h, round-in r a b)
 
-pub ordered-id : (l : List ℕ) (r p : ℕ) → 1 ≤ r → r ≤ 32 → p < 16 → orderedId l (idOf r p) ≡ has (orderedMask l r) p
+pub ordered-id : (l : List ℕ) (r p : ℕ) → 1 ≤ r → r ≤ rounds → p < slots → orderedId l (idOf r p) ≡ has (orderedMask l r) p
 ordered-id l r p a b h = rw (id-round r p h, id-member r p h, round-in r a b)
 
 -- ---- masks
+
+-- the word with the member added
+pub member-added : (l : List ℕ) (at n p : ℕ) (m : Members) → m ≡ with (record { bits = getD l at 0; n = n }) p → set l at (m .bits) ≡ addMember l at p
+unfolding addMember
+member-added l at n p m e = rw e
 
 -- the masks of a round, below 2 ^ n
 pub record Small (n : ℕ) (l : List ℕ) (r : ℕ) : Type 0 where
@@ -79,31 +86,31 @@ small-masks l r s =
     (and-both (lt-within _ _ (s .timeouts)) (and-both (lt-within _ _ (s .no-votes)) (lt-within _ _ (s .ordered))))))
 
 -- what holds of each round, of round r
-pub round-elim : (t : ℕ → Bool) → eachRound t ≡ true → (r : ℕ) → 1 ≤ r → r ≤ 32 → t r ≡ true
+pub round-elim : (t : ℕ → Bool) → eachRound t ≡ true → (r : ℕ) → 1 ≤ r → r ≤ rounds → t r ≡ true
 round-elim t e r a b =
     let same : (r - 1) + 1 ≡ r = omega arith in
-    let low : r - 1 < 32 = omega arith in
-    rw same at (all-elim 32 (λ k. t (k + 1)) e (r - 1) low)
+    let low : r - 1 < rounds = omega arith in
+    rw same at (all-elim rounds (λ k. t (k + 1)) e (r - 1) low)
 
-pub legal-pow : (n m : ℕ) → legal n ≡ true → m < 2 ^ n → m < 2 ^ 16
-legal-pow n m e l = let g = legal-range n e in lt-of-lt-of-le l (pow-mono {i = n} {j = 16} (g .high))
+pub legal-pow : (n m : ℕ) → legal n ≡ true → m < 2 ^ n → m < 2 ^ slots
+legal-pow n m e l = let g = legal-range n e in lt-of-lt-of-le l (pow-mono {i = n} {j = slots} (g .high))
 
 -- ---- the lists
 
-pub leader-length : (l : List ℕ) → length l ≡ 5864 → leaderCount l ≤ 32 → length (leaderList l) ≡ leaderCount l
-leader-length l e h = length-take-le (leaderCount l) (drop 200 l) (omega (arith, length-drop 200 l))
+pub leader-length : (l : List ℕ) → length l ≡ stateSize → leaderCount l ≤ leadersSize → length (leaderList l) ≡ leaderCount l
+leader-length l e h = length-take-le (leaderCount l) (drop leadersAt l) (omega (arith, length-drop leadersAt l))
 
-pub journal-length : (l : List ℕ) → length l ≡ 5864 → journalCount l ≤ 512 → length (journalList l) ≡ journalCount l
-journal-length l e h = length-take-le (journalCount l) (drop 232 l) (omega (arith, length-drop 232 l))
+pub journal-length : (l : List ℕ) → length l ≡ stateSize → journalCount l ≤ journalSize → length (journalList l) ≡ journalCount l
+journal-length l e h = length-take-le (journalCount l) (drop journalAt l) (omega (arith, length-drop journalAt l))
 
 pub leader-at : (l : List ℕ) (i : ℕ) → i < leaderCount l → getD (leaderList l) i 0 ≡ leaderWord l i
-leader-at l i h = getD-take (leaderCount l) (drop 200 l) i 0 h ∙ getD-drop 200 l i 0
+leader-at l i h = getD-take (leaderCount l) (drop leadersAt l) i 0 h ∙ getD-drop leadersAt l i 0
 
 pub journal-at : (l : List ℕ) (i : ℕ) → i < journalCount l → getD (journalList l) i 0 ≡ journalWord l i
-journal-at l i h = getD-take (journalCount l) (drop 232 l) i 0 h ∙ getD-drop 232 l i 0
+journal-at l i h = getD-take (journalCount l) (drop journalAt l) i 0 h ∙ getD-drop journalAt l i 0
 
 pub journal-whole : (l : List ℕ) → take (journalCount l) (journalList l) ≡ journalList l
-journal-whole l = take-take (journalCount l) (journalCount l) (drop 232 l) (le-refl (journalCount l))
+journal-whole l = take-take (journalCount l) (journalCount l) (drop journalAt l) (le-refl (journalCount l))
 
 -- ---- what stands in a list
 

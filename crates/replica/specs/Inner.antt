@@ -6,7 +6,8 @@ use Prim.Native.Nat.{ℕ, _≤_}
 use lib.ListN.{length}
 use Rattle.record.specs.Members.{rounds, legal}
 use Rattle.record.specs.Refusals.{numberOf}
-use Rattle.record.specs.Questions.{bodyRefusal, termsOf}
+use Rattle.record.specs.Questions.{bodyRefusal}
+use Rattle.record.specs.Inner.{termsOf}
 use Rattle.record.specs.declared.questions.Terms.{Terms}
 use Rattle.replica.specs.Layout.{stateSize}
 use Rattle.replica.specs.State.{memberCount}

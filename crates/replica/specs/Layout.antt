@@ -1,10 +1,12 @@
--- Where each word of the replica state (01: sheet) stands, and how many there are.
+-- Where each word of the replica state (01: sheet) stands, and how many there are. Every size and place of them is written here.
 use Prim.Native.Nat.{ℕ, _+_, _-_, _*_}
+use Rattle.record.specs.Members.{slots}
+use Rattle.record.specs.Layout.{bodySize}
 
 abbrev pub stateSize : ℕ
 stateSize = 5864
 
--- words 0 to 7
+-- the head: words 0 to 7
 abbrev pub memberCountAt : ℕ
 memberCountAt = 0
 
@@ -26,27 +28,55 @@ zerosAt = 5
 abbrev pub zerosSize : ℕ
 zerosSize = 3
 
--- six masks for each round
+abbrev pub headSize : ℕ
+headSize = 8
+
+-- six masks for each round, one of each kind
+abbrev pub heldKind : ℕ
+heldKind = 0
+
+abbrev pub heardKind : ℕ
+heardKind = 1
+
+abbrev pub votesKind : ℕ
+votesKind = 2
+
+abbrev pub timeoutsKind : ℕ
+timeoutsKind = 3
+
+abbrev pub noVotesKind : ℕ
+noVotesKind = 4
+
+abbrev pub orderedKind : ℕ
+orderedKind = 5
+
+abbrev pub kinds : ℕ
+kinds = 6
+
 abbrev pub masksAt : ℕ → ℕ
-masksAt r = 8 + 6 * (r - 1)
+masksAt r = headSize + kinds * (r - 1)
+
+-- the mask of that kind of round r
+abbrev pub maskAt : ℕ → ℕ → ℕ
+maskAt kind r = masksAt r + kind
 
 abbrev pub heldAt : ℕ → ℕ
-heldAt r = masksAt r + 0
+heldAt = maskAt heldKind
 
 abbrev pub heardAt : ℕ → ℕ
-heardAt r = masksAt r + 1
+heardAt = maskAt heardKind
 
 abbrev pub votesAt : ℕ → ℕ
-votesAt r = masksAt r + 2
+votesAt = maskAt votesKind
 
 abbrev pub timeoutsAt : ℕ → ℕ
-timeoutsAt r = masksAt r + 3
+timeoutsAt = maskAt timeoutsKind
 
 abbrev pub noVotesAt : ℕ → ℕ
-noVotesAt r = masksAt r + 4
+noVotesAt = maskAt noVotesKind
 
 abbrev pub orderedAt : ℕ → ℕ
-orderedAt r = masksAt r + 5
+orderedAt = maskAt orderedKind
 
 -- the two lists
 abbrev pub leadersAt : ℕ
@@ -61,6 +91,12 @@ journalAt = 232
 abbrev pub journalSize : ℕ
 journalSize = 512
 
--- a cell of ten words for each round and member
+-- a cell for each round and member, and the words of a round's cells
+abbrev pub cellsAt : ℕ
+cellsAt = 744
+
 abbrev pub cellAt : ℕ → ℕ → ℕ
-cellAt r p = 744 + 10 * (16 * (r - 1) + p)
+cellAt r p = cellsAt + bodySize * (slots * (r - 1) + p)
+
+abbrev pub roundSize : ℕ
+roundSize = bodySize * slots

@@ -20,13 +20,13 @@ pub record Outcome : Type 0 where
 abbrev pub told : Answer → List ℕ → Outcome
 told a l = record { number = numberOf (a .refusal); id = idIn (a .refusal); leaders = a .leaders; journal = a .journal; words = l }
 
--- the answer that adds nothing
-abbrev pub refusedBy : Refusal → Answer
-refusedBy why = record { refusal = why; leaders = 0; journal = 0 }
+-- the answer with this refusal, or with none, that adds nothing
+abbrev pub nothingAdded : Refusal → Answer
+nothingAdded why = record { refusal = why; leaders = 0; journal = 0 }
 
 -- nothing is added, and the words stay: a refused call, and one that only reads
 abbrev pub unchanged : Refusal → List ℕ → Outcome
-unchanged why l = told (refusedBy why) l
+unchanged why l = told (nothingAdded why) l
 
 -- admitted: what was added is the growth of the lists
 abbrev pub admitted : List ℕ → List ℕ → Outcome

@@ -4,9 +4,8 @@ use mathlib.Core.List.{List}
 use Prim.Native.Nat.{ℕ, _+_}
 use lib.Dec.{eqb}
 use Rattle.record.specs.Below.{any}
-use Rattle.record.specs.Members.{has, idRound, idMember}
+use Rattle.record.specs.Members.{has, idRound, idMember, idLimit}
 use Rattle.record.specs.Layout.{strongOf, weakCountOf, weakOf}
-use Rattle.protocol.specs.Journal.{idLimit}
 use Rattle.replica.specs.State.{heldId}
 
 -- y is the id of a strong or weak parent of a body of round r

@@ -23,6 +23,10 @@ pub record Part : Type 0 where
 abbrev pub partOf : RefT (List ℕ) → Part
 partOf x = record { block = x .ptr .0; byte = x .ptr .1; words = x .now }
 
--- the span's part of the slice x, where it lies in x: a word has four bytes
+-- the bytes of a word
+abbrev pub wordSize : ℕ
+wordSize = 4
+
+-- the span's part of the slice x, where it lies in x
 abbrev pub cut : RefT (List ℕ) → Span → Part
-cut x s = record { block = x .ptr .0; byte = s .start * 4 + x .ptr .1; words = wordsIn (x .now) s }
+cut x s = record { block = x .ptr .0; byte = s .start * wordSize + x .ptr .1; words = wordsIn (x .now) s }

@@ -2,11 +2,12 @@
 use mathlib.Core.Bool.{Bool, cond, _&&_}
 use mathlib.Core.List.{List, [], _∷_}
 use Prim.Native.Nat.{ℕ, _+_, _-_, _^_}
-use lib.ListN.{getD, take, drop}
-use Rattle.record.specs.Members.{leader, has, idRound, idMember, isRound}
+use lib.ListN.{getD, set, take, drop}
+use Rattle.record.specs.Members.{leader, has, add, idRound, idMember, isRound}
 use Rattle.record.specs.Layout.{bodySize}
 use Rattle.protocol.specs.Dag.{Records, Dag, held}
-use Rattle.replica.specs.Layout.{memberCountAt, currentRoundAt, committedRoundAt, leaderCountAt, journalCountAt, heldAt, heardAt, votesAt, timeoutsAt, noVotesAt, orderedAt, leadersAt, journalAt, cellAt}
+use Rattle.replica.specs.Layout.{memberCountAt, currentRoundAt, committedRoundAt, leaderCountAt, journalCountAt, heldKind, heardKind}
+use Rattle.replica.specs.Layout.{votesKind, timeoutsKind, noVotesKind, orderedKind, maskAt, leadersAt, journalAt, cellAt}
 
 -- words 0 to 4
 abbrev pub memberCount : List ℕ → ℕ
@@ -25,23 +26,30 @@ abbrev pub journalCount : List ℕ → ℕ
 journalCount l = getD l journalCountAt 0
 
 -- the masks of round r
+abbrev pub maskOf : List ℕ → ℕ → ℕ → ℕ
+maskOf l kind r = getD l (maskAt kind r) 0
+
 abbrev pub heldMask : List ℕ → ℕ → ℕ
-heldMask l r = getD l (heldAt r) 0
+heldMask l = maskOf l heldKind
 
 abbrev pub heardMask : List ℕ → ℕ → ℕ
-heardMask l r = getD l (heardAt r) 0
+heardMask l = maskOf l heardKind
 
 abbrev pub votesMask : List ℕ → ℕ → ℕ
-votesMask l r = getD l (votesAt r) 0
+votesMask l = maskOf l votesKind
 
 abbrev pub timeoutsMask : List ℕ → ℕ → ℕ
-timeoutsMask l r = getD l (timeoutsAt r) 0
+timeoutsMask l = maskOf l timeoutsKind
 
 abbrev pub noVotesMask : List ℕ → ℕ → ℕ
-noVotesMask l r = getD l (noVotesAt r) 0
+noVotesMask l = maskOf l noVotesKind
 
 abbrev pub orderedMask : List ℕ → ℕ → ℕ
-orderedMask l r = getD l (orderedAt r) 0
+orderedMask l = maskOf l orderedKind
+
+-- the words with member p added to the mask in the word at
+unfoldable pub addMember : List ℕ → ℕ → ℕ → List ℕ
+addMember l at p = set l at (add (getD l at 0) p)
 
 -- the lists' words, and the lists
 abbrev pub leaderWord : List ℕ → ℕ → ℕ
@@ -73,9 +81,12 @@ firsts l r p =
 abbrev pub dag : List ℕ → Dag
 dag l = record { vertex = vertices l; first = firsts l }
 
--- the vertex with the id x is held, or ordered
+-- the vertex with the id x is in its round's mask of that kind: it is held, or ordered
+abbrev pub markedId : List ℕ → ℕ → ℕ → Bool
+markedId l kind x = isRound (idRound x) && has (maskOf l kind (idRound x)) (idMember x)
+
 abbrev pub heldId : List ℕ → ℕ → Bool
-heldId l x = isRound (idRound x) && has (heldMask l (idRound x)) (idMember x)
+heldId l = markedId l heldKind
 
 abbrev pub orderedId : List ℕ → ℕ → Bool
-orderedId l x = isRound (idRound x) && has (orderedMask l (idRound x)) (idMember x)
+orderedId l = markedId l orderedKind

@@ -1,4 +1,4 @@
--- When a state is well formed (01: formed): a line for each clause of the paper, in its order.
+-- When a state is well formed (01: sound): a line for each clause of the paper, in its order.
 use mathlib.Core.Bool.{Bool, true, cond, not, _&&_, _||_}
 use mathlib.Core.List.{List, [], _∷_}
 use Prim.Native.Nat.{ℕ, _+_, _-_}
@@ -6,13 +6,14 @@ use lib.Bits.{bitAnd}
 use lib.Dec.{eqb, leb, ltb}
 use lib.ListN.{getD, take}
 use Rattle.record.specs.Below.{all}
-use Rattle.record.specs.Members.{rounds, slots, legal, leader, has, within, idRound, idMember}
+use Rattle.record.specs.Members.{rounds, slots, legal, leader, has, within, idRound, idMember, idLimit, votedRounds}
 use Rattle.record.specs.Refusals.{numberOf}
 use Rattle.record.specs.Layout.{bodySize}
 use Rattle.record.specs.Questions.{bodyRefusal}
-use Rattle.protocol.specs.Journal.{idLimit, among}
-use Rattle.replica.specs.Layout.{zerosAt, zerosSize, leadersSize, journalSize, cellAt}
-use Rattle.replica.specs.State.{memberCount, currentRound, committedRound, leaderCount, journalCount, heldMask, heardMask, votesMask, timeoutsMask, noVotesMask, orderedMask, leaderWord, journalWord, journalList, cell, heldId, orderedId}
+use Rattle.protocol.specs.Journal.{among}
+use Rattle.replica.specs.Layout.{heldKind, heardKind, votesKind, orderedKind, zerosAt, zerosSize, leadersSize, journalSize, cellAt}
+use Rattle.replica.specs.State.{memberCount, currentRound, committedRound, leaderCount, journalCount, maskOf, heldMask, heardMask, votesMask}
+use Rattle.replica.specs.State.{timeoutsMask, noVotesMask, orderedMask, leaderWord, journalWord, journalList, cell, heldId, orderedId}
 use Rattle.replica.specs.Parents.{parentsHeld}
 
 -- every round from 1 to 32 satisfies t
@@ -32,6 +33,10 @@ masksWithin l r =
     && (within (memberCount l) (timeoutsMask l r)
     && (within (memberCount l) (noVotesMask l r)
     && within (memberCount l) (orderedMask l r)))))
+
+-- each round's mask of the one kind lies within that of the other
+abbrev pub kindWithin : List ℕ → ℕ → ℕ → Bool
+kindWithin l kind other = eachRound (λ r. subset (maskOf l kind r) (maskOf l other r))
 
 -- a held record passes questions 5 to 11 and 14, and a cell not held is zero
 abbrev pub recordOk : List ℕ → ℕ → ℕ → List ℕ → Bool
@@ -80,12 +85,12 @@ every (clause ∷ rest) = clause && every rest
 abbrev pub clauses : List ℕ → List Bool
 clauses l =
     legal (memberCount l)
-    ∷ (leb 1 (currentRound l) && leb (currentRound l) 33)
-    ∷ leb (committedRound l) 31
+    ∷ (leb 1 (currentRound l) && leb (currentRound l) (rounds + 1))
+    ∷ leb (committedRound l) votedRounds
     ∷ all zerosSize (λ i. eqb (getD l (zerosAt + i) 0) 0)
     ∷ eachRound (masksWithin l)
-    ∷ (eachRound (λ r. subset (votesMask l r) (heardMask l r)) && eqb (votesMask l 1) 0)
-    ∷ eachRound (λ r. subset (orderedMask l r) (heldMask l r))
+    ∷ (kindWithin l votesKind heardKind && eqb (votesMask l 1) 0)
+    ∷ kindWithin l orderedKind heldKind
     ∷ eachRound (λ r. all slots (cellOk l r))
     ∷ leadersOk l
     ∷ journalOk l

@@ -1,6 +1,6 @@
 // What the calls answer.
 ghost use mathlib.Core.Path.{_≡_};
-ghost use Rattle.replica.specs.Outcome.{refusedBy};
+ghost use Rattle.replica.specs.Outcome.{nothingAdded};
 use record::refusal::Refusal;
 
 pub struct Answer {
@@ -20,7 +20,7 @@ pub struct Status {
 
 // Nothing was added.
 pub fn refuse(why: Refusal) -> Answer
-    ensures { λ r. ⌜ r ≡ refusedBy why ⌝ }
+    ensures { λ r. ⌜ r ≡ nothingAdded why ⌝ }
 {
     Answer {
         refusal: why,

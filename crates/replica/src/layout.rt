@@ -1,20 +1,16 @@
-// Where each word of the state stands. The functions give the places that depend on a round or a member, and read masks.
+// Where each word of the state stands, and how many there are. Every size and place of them is written here.
 ghost use mathlib.Core.Path.{_≡_};
 ghost use Prim.Native.Nat.{_<_, _≤_};
-ghost use lib.ListN.{length};
-ghost use Rattle.record.specs.Members.{idRound, isRound};
-ghost use Rattle.replica.specs.Layout.{stateSize, masksAt, cellAt};
-ghost use Rattle.replica.specs.State.{heldMask, heardMask, votesMask, timeoutsMask, orderedMask, heldId, orderedId};
+ghost use Rattle.record.specs.Members.{rounds, slots, idRound, isRound};
+ghost use Rattle.replica.specs.Layout.{masksAt, cellAt};
+use record::layout::BODY_SIZE;
 use record::layout::wide;
-use record::members::Members;
-use record::members::ROUNDS;
+use record::members::ID_LIMIT;
+use record::members::SLOTS;
 
 pub const STATE_SIZE: usize = 5864;
 
-// The words of a round's cells.
-pub const ROUND_SIZE: usize = 160;
-
-// Words 0 to 7.
+// The head: words 0 to 7.
 pub const MEMBER_COUNT: usize = 0;
 
 pub const CURRENT_ROUND: usize = 1;
@@ -27,7 +23,9 @@ pub const JOURNAL_COUNT: usize = 4;
 
 pub const ZEROS: usize = 5;
 
-// The six masks of a round, from `masks_at`.
+pub const HEAD_SIZE: usize = 8;
+
+// The masks of a round, one of each kind, from `masks_at`.
 pub const HELD: usize = 0;
 
 pub const HEARD: usize = 1;
@@ -40,6 +38,8 @@ pub const NO_VOTES: usize = 4;
 
 pub const ORDERED: usize = 5;
 
+pub const KINDS: usize = 6;
+
 // The two lists.
 pub const LEADERS: usize = 200;
 
@@ -49,102 +49,31 @@ pub const JOURNAL: usize = 232;
 
 pub const JOURNAL_SIZE: usize = 512;
 
+// The cells, a body each. The words of a round's.
 pub const CELLS: usize = 744;
 
+pub const ROUND_SIZE: usize = BODY_SIZE * (SLOTS as usize);
+
 pub fn masks_at(round: u32) -> usize
-    requires { ⌜ (1 ≤ round) × (round ≤ 32) ⌝ }
+    requires { ⌜ (1 ≤ round) × (round ≤ rounds) ⌝ }
     ensures { λ r. ⌜ r ≡ masksAt round ⌝ }
 {
-    wide(8 + 6 * (round - 1))
+    HEAD_SIZE + KINDS * wide(round - 1)
 }
 
 pub fn cell_at(round: u32, member: u32) -> usize
-    requires { ⌜ (1 ≤ round) × (round ≤ 32) × (member < 16) ⌝ }
+    requires { ⌜ (1 ≤ round) × (round ≤ rounds) × (member < slots) ⌝ }
     ensures { λ r. ⌜ r ≡ cellAt round member ⌝ }
 {
-    wide(744 + 10 * (16 * (round - 1) + member))
-}
-
-pub fn held_mask(state: &[u32], round: u32) -> u32
-    requires { ⌜ (length (now state) ≡ stateSize) × (1 ≤ round) × (round ≤ 32) ⌝ }
-    ensures { λ r. ⌜ r ≡ heldMask (now (state .entry)) round ⌝ }
-{
-    let at = masks_at(round);
-    state[at + HELD]
-}
-
-pub fn heard_mask(state: &[u32], round: u32) -> u32
-    requires { ⌜ (length (now state) ≡ stateSize) × (1 ≤ round) × (round ≤ 32) ⌝ }
-    ensures { λ r. ⌜ r ≡ heardMask (now (state .entry)) round ⌝ }
-{
-    let at = masks_at(round);
-    state[at + HEARD]
-}
-
-pub fn votes_mask(state: &[u32], round: u32) -> u32
-    requires { ⌜ (length (now state) ≡ stateSize) × (1 ≤ round) × (round ≤ 32) ⌝ }
-    ensures { λ r. ⌜ r ≡ votesMask (now (state .entry)) round ⌝ }
-{
-    let at = masks_at(round);
-    state[at + VOTES]
-}
-
-pub fn timeouts_mask(state: &[u32], round: u32) -> u32
-    requires { ⌜ (length (now state) ≡ stateSize) × (1 ≤ round) × (round ≤ 32) ⌝ }
-    ensures { λ r. ⌜ r ≡ timeoutsMask (now (state .entry)) round ⌝ }
-{
-    let at = masks_at(round);
-    state[at + TIMEOUTS]
-}
-
-pub fn ordered_mask(state: &[u32], round: u32) -> u32
-    requires { ⌜ (length (now state) ≡ stateSize) × (1 ≤ round) × (round ≤ 32) ⌝ }
-    ensures { λ r. ⌜ r ≡ orderedMask (now (state .entry)) round ⌝ }
-{
-    let at = masks_at(round);
-    state[at + ORDERED]
+    CELLS + BODY_SIZE * wide(SLOTS * (round - 1) + member)
 }
 
 // The number is the id of a vertex of rounds 1 to 32.
 pub fn is_id(x: u32) -> bool
     ensures { λ r. ⌜ r ≡ isRound (idRound x) ⌝ }
 {
-    if x < 16 {
+    if x < SLOTS {
         return false;
     }
-    x < 528
-}
-
-// The vertex with the id x is held.
-pub fn is_held(state: &[u32], n: u32, x: u32) -> bool
-    requires { ⌜ length (now state) ≡ stateSize ⌝ }
-    ensures { λ r. ⌜ r ≡ heldId (now (state .entry)) x ⌝ }
-{
-    let round = x / 16;
-    if round < 1 {
-        return false;
-    }
-    if ROUNDS < round {
-        return false;
-    }
-    let bits = held_mask(state, round);
-    let members = Members { bits, n };
-    members.has(x % 16)
-}
-
-// The vertex with the id x is ordered.
-pub fn is_ordered(state: &[u32], n: u32, x: u32) -> bool
-    requires { ⌜ length (now state) ≡ stateSize ⌝ }
-    ensures { λ r. ⌜ r ≡ orderedId (now (state .entry)) x ⌝ }
-{
-    let round = x / 16;
-    if round < 1 {
-        return false;
-    }
-    if ROUNDS < round {
-        return false;
-    }
-    let bits = ordered_mask(state, round);
-    let members = Members { bits, n };
-    members.has(x % 16)
+    x < ID_LIMIT
 }

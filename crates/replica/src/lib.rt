@@ -2,6 +2,7 @@
 pub mod answer;
 pub mod layout;
 pub mod lists;
+pub mod masks;
 pub mod opening;
 pub mod parents;
 pub mod status;

@@ -10,9 +10,9 @@ ghost use Rattle.replica.specs.State.{heldMask, heldId};
 ghost use Rattle.replica.specs.Parents.{parentsHeld};
 ghost use Rattle.replica.specs.WellFormed.{subset};
 ghost use Rattle.replica.specs.Inner.{AdmittedIn};
-use super::layout::MEMBER_COUNT;
-use super::layout::held_mask;
-use super::layout::is_held;
+use super::layout::HELD;
+use super::masks::is_marked;
+use super::masks::mask_of;
 use record::layout::STRONG;
 use record::layout::WEAK;
 use record::layout::WEAK_COUNT;
@@ -23,7 +23,7 @@ fn strong_held(state: &[u32], round: u32, strong: u32) -> bool
     requires { ⌜ (length (now state) ≡ stateSize) × (2 ≤ round) × (round ≤ rounds) ⌝ }
     ensures { λ r. ⌜ r ≡ subset strong (heldMask (now (state .entry)) (round - 1)) ⌝ }
 {
-    strong & held_mask(state, round - 1) == strong
+    strong & mask_of(state, HELD, round - 1) == strong
 }
 
 // The weak ids that are used are held.
@@ -31,11 +31,10 @@ fn weak_held(state: &[u32], body: &[u32]) -> bool
     requires { ⌜ (length (now state) ≡ stateSize) × (length (now body) ≡ bodySize) × (weakCountOf (now body) ≤ weakSlots) ⌝ }
     ensures { λ r. ⌜ r ≡ all (weakCountOf (now (body .entry))) (λ i. heldId (now (state .entry)) (weakOf (now (body .entry)) i)) ⌝ }
 {
-    let n = state[MEMBER_COUNT];
     let count = wide(body[WEAK_COUNT]);
     let mut i: usize = 0;
     while i < count {
-        if !is_held(state, n, body[WEAK + i]) {
+        if !is_marked(state, HELD, body[WEAK + i]) {
             return false;
         }
         i += 1;

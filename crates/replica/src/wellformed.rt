@@ -6,15 +6,17 @@ ghost use lib.Dec.{eqb};
 ghost use lib.ListN.{length, getD, take, drop};
 ghost use Rattle.record.specs.Below.{all};
 ghost use Rattle.record.specs.Members.{rounds, slots, legal};
-ghost use Rattle.record.specs.Questions.{Known};
-ghost use Rattle.replica.specs.Layout.{stateSize};
-ghost use Rattle.replica.specs.State.{memberCount, committedRound, leaderCount, heldMask, heardMask, votesMask, orderedMask};
-ghost use Rattle.replica.specs.WellFormed.{eachRound, subset, masksWithin, recordOk, cellOk, leaderOk, lastLeaderRound, leadersOk, journalOk};
+ghost use Rattle.record.specs.Inner.{Known};
+ghost use Rattle.record.specs.Layout.{bodySize};
+ghost use Rattle.replica.specs.Layout.{stateSize, kinds, leadersSize, journalSize, roundSize};
+ghost use Rattle.replica.specs.State.{memberCount, committedRound, leaderCount, journalCount, orderedMask};
+ghost use Rattle.replica.specs.WellFormed.{eachRound, masksWithin, kindWithin, recordOk, cellOk, leaderOk, lastLeaderRound, leadersOk, journalOk};
 ghost use Rattle.replica.specs.WellFormed.{restZero, every, clauses, wellFormed};
 ghost use Rattle.replica.specs.Inner.{Grouped, GroupedRound};
 use super::layout::CELLS;
 use super::layout::COMMITTED_ROUND;
 use super::layout::CURRENT_ROUND;
+use super::layout::HEAD_SIZE;
 use super::layout::HEARD;
 use super::layout::HELD;
 use super::layout::JOURNAL;
@@ -31,25 +33,28 @@ use super::layout::TIMEOUTS;
 use super::layout::VOTES;
 use super::layout::ZEROS;
 use super::layout::cell_at;
-use super::layout::heard_mask;
-use super::layout::held_mask;
-use super::layout::is_held;
 use super::layout::is_id;
 use super::layout::masks_at;
-use super::layout::ordered_mask;
-use super::layout::votes_mask;
+use super::masks::is_marked;
+use super::masks::mask_of;
 use super::parents::parents_held;
 use record::layout::BODY_SIZE;
 use record::layout::wide;
+use record::members::MASKS;
 use record::members::Members;
 use record::members::ROUNDS;
+use record::members::SLOTS;
+use record::members::VOTED_ROUNDS;
+use record::members::has_bit;
 use record::members::is_legal;
 use record::members::is_within;
 use record::members::leader_of;
-use record::members::power;
 use record::questions::Terms;
 use record::questions::is_admitted;
 use record::questions::terms_of;
+
+// The current round when the last one is passed.
+const AFTER_LAST: u32 = ROUNDS + 1;
 
 // Every word of the part is 0. The words are joined before they are tested, so that no word costs a branch.
 fn is_zero(part: &[u32]) -> bool
@@ -75,18 +80,18 @@ fn head_ok(state: &[u32]) -> bool
     if state[CURRENT_ROUND] < 1 {
         return false;
     }
-    if 33 < state[CURRENT_ROUND] {
+    if AFTER_LAST < state[CURRENT_ROUND] {
         return false;
     }
-    if 31 < state[COMMITTED_ROUND] {
+    if VOTED_ROUNDS < state[COMMITTED_ROUND] {
         return false;
     }
-    is_zero(&state[ZEROS..8])
+    is_zero(&state[ZEROS..HEAD_SIZE])
 }
 
 // No mask of the round has a bit at n or above.
 fn round_within(state: &[u32], round: u32) -> bool
-    requires { ⌜ (length (now state) ≡ stateSize) × (1 ≤ round) × (round ≤ 32) ⌝ }
+    requires { ⌜ (length (now state) ≡ stateSize) × (1 ≤ round) × (round ≤ rounds) ⌝ }
     ensures { λ r. ⌜ r ≡ masksWithin (now (state .entry)) round ⌝ }
 {
     let at = masks_at(round);
@@ -113,29 +118,15 @@ fn masks_within(state: &[u32]) -> bool
     true
 }
 
-fn votes_heard(state: &[u32]) -> bool
-    requires { ⌜ length (now state) ≡ stateSize ⌝ }
-    ensures { λ r. ⌜ r ≡ eachRound (λ r. subset (votesMask (now (state .entry)) r) (heardMask (now (state .entry)) r)) ⌝ }
+// Each round's mask of the one kind lies within that of the other.
+fn kind_within(state: &[u32], kind: usize, other: usize) -> bool
+    requires { ⌜ (length (now state) ≡ stateSize) × (kind < kinds) × (other < kinds) ⌝ }
+    ensures { λ r. ⌜ r ≡ kindWithin (now (state .entry)) kind other ⌝ }
 {
     let mut i: u32 = 0;
     while i < ROUNDS {
-        let votes = votes_mask(state, i + 1);
-        if votes & heard_mask(state, i + 1) != votes {
-            return false;
-        }
-        i += 1;
-    }
-    true
-}
-
-fn ordered_held(state: &[u32]) -> bool
-    requires { ⌜ length (now state) ≡ stateSize ⌝ }
-    ensures { λ r. ⌜ r ≡ eachRound (λ r. subset (orderedMask (now (state .entry)) r) (heldMask (now (state .entry)) r)) ⌝ }
-{
-    let mut i: u32 = 0;
-    while i < ROUNDS {
-        let ordered = ordered_mask(state, i + 1);
-        if ordered & held_mask(state, i + 1) != ordered {
+        let mask = mask_of(state, kind, i + 1);
+        if mask & mask_of(state, other, i + 1) != mask {
             return false;
         }
         i += 1;
@@ -161,11 +152,7 @@ fn cell_ok(state: &[u32], terms: Terms, round: u32, member: u32) -> bool
 {
     let at = cell_at(round, member);
     let end = at + BODY_SIZE;
-    let held = Members {
-        bits: held_mask(state, round),
-        n: terms.n,
-    };
-    if !held.has(member) {
+    if !has_bit(mask_of(state, HELD, round), member) {
         return is_zero(&state[at..end]);
     }
     record_ok(state, terms, round, member, &state[at..end])
@@ -189,8 +176,8 @@ fn members_ok(state: &[u32], n: u32, round: u32) -> bool
 
 // The cells of a round from member n on are zero. Their number is written out for each n, so that the test of so many words needs no loop.
 fn rest_cells_zero(state: &[u32], n: u32, start: usize) -> bool
-    requires { ⌜ (legal n ≡ true) × (start + 160 ≤ length (now state)) × (start ≤ 5704) ⌝ }
-    ensures { λ r. ⌜ r ≡ all (10 * (16 - n)) (λ i. eqb (getD (now (state .entry)) (start + 10 * n + i) 0) 0) ⌝ }
+    requires { ⌜ (legal n ≡ true) × (start + roundSize ≤ length (now state)) × (start + roundSize ≤ stateSize) ⌝ }
+    ensures { λ r. ⌜ r ≡ all (bodySize * (slots - n)) (λ i. eqb (getD (now (state .entry)) (start + bodySize * n + i) 0) 0) ⌝ }
 {
     let end = start + ROUND_SIZE;
     if n == 4 {
@@ -215,12 +202,12 @@ fn rest_cells_zero(state: &[u32], n: u32, start: usize) -> bool
 // Cells that nobody holds are tested together: all of a round that holds none, and those from n on.
 fn round_cells_ok(state: &[u32], round: u32) -> bool
     requires { ⌜ Grouped (now state) × (1 ≤ round) × (round ≤ rounds) ⌝ }
-    ensures { λ r. ⌜ r ≡ all 16 (cellOk (now (state .entry)) round) ⌝ }
+    ensures { λ r. ⌜ r ≡ all slots (cellOk (now (state .entry)) round) ⌝ }
 {
     let n = state[MEMBER_COUNT];
     let start = cell_at(round, 0);
     let end = start + ROUND_SIZE;
-    if held_mask(state, round) == 0 {
+    if mask_of(state, HELD, round) == 0 {
         return is_zero(&state[start..end]);
     }
     if !members_ok(state, n, round) {
@@ -231,7 +218,7 @@ fn round_cells_ok(state: &[u32], round: u32) -> bool
 
 fn cells_ok(state: &[u32]) -> bool
     requires { ⌜ Grouped (now state) ⌝ }
-    ensures { λ r. ⌜ r ≡ eachRound (λ r. all 16 (cellOk (now (state .entry)) r)) ⌝ }
+    ensures { λ r. ⌜ r ≡ eachRound (λ r. all slots (cellOk (now (state .entry)) r)) ⌝ }
 {
     let mut i: u32 = 0;
     while i < ROUNDS {
@@ -245,31 +232,31 @@ fn cells_ok(state: &[u32]) -> bool
 
 // Entry i of the leader list is a held leader's vertex, of a higher round than the entry before.
 fn leader_ok(state: &[u32], n: u32, i: usize) -> bool
-    requires { ⌜ (length (now state) ≡ stateSize) × (n ≡ memberCount (now state)) × (0 < n) × (i < 32) ⌝ }
+    requires { ⌜ (length (now state) ≡ stateSize) × (n ≡ memberCount (now state)) × (0 < n) × (i < leadersSize) ⌝ }
     ensures { λ r. ⌜ r ≡ leaderOk (now (state .entry)) i ⌝ }
 {
     let x = state[LEADERS + i];
-    if !is_held(state, n, x) {
+    if !is_marked(state, HELD, x) {
         return false;
     }
-    if x % 16 != leader_of(n, x / 16) {
+    if x % SLOTS != leader_of(n, x / SLOTS) {
         return false;
     }
     if i == 0 {
         return true;
     }
-    state[LEADERS + (i - 1)] / 16 < x / 16
+    state[LEADERS + (i - 1)] / SLOTS < x / SLOTS
 }
 
 // The round of the last of so many leaders is the committed round.
 fn last_ok(state: &[u32], count: usize) -> bool
-    requires { ⌜ (length (now state) ≡ stateSize) × (count ≡ leaderCount (now state)) × (count ≤ 32) ⌝ }
+    requires { ⌜ (length (now state) ≡ stateSize) × (count ≡ leaderCount (now state)) × (count ≤ leadersSize) ⌝ }
     ensures { λ r. ⌜ r ≡ eqb (lastLeaderRound (now (state .entry))) (committedRound (now (state .entry))) ⌝ }
 {
     if count == 0 {
         return 0 == state[COMMITTED_ROUND];
     }
-    state[LEADERS + (count - 1)] / 16 == state[COMMITTED_ROUND]
+    state[LEADERS + (count - 1)] / SLOTS == state[COMMITTED_ROUND]
 }
 
 fn leaders_ok(state: &[u32]) -> bool
@@ -292,13 +279,13 @@ fn leaders_ok(state: &[u32]) -> bool
 }
 
 // Every round's marks are its ordered mask.
-fn all_marked(state: &[u32], marks: [u32; 32]) -> bool
+fn all_marked(state: &[u32], marks: [u32; MASKS]) -> bool
     requires { ⌜ length (now state) ≡ stateSize ⌝ }
-    ensures { λ r. ⌜ r ≡ all 32 (λ i. eqb (getD marks i 0) (orderedMask (now (state .entry)) (i + 1))) ⌝ }
+    ensures { λ r. ⌜ r ≡ all rounds (λ i. eqb (getD marks i 0) (orderedMask (now (state .entry)) (i + 1))) ⌝ }
 {
     let mut i: u32 = 0;
     while i < ROUNDS {
-        if marks[wide(i)] != ordered_mask(state, i + 1) {
+        if marks[wide(i)] != mask_of(state, ORDERED, i + 1) {
             return false;
         }
         i += 1;
@@ -316,19 +303,20 @@ fn journal_ok(state: &[u32]) -> bool
     if JOURNAL_SIZE < count {
         return false;
     }
-    let mut marks = [0u32; 32];
+    let mut marks = [0u32; MASKS];
     let mut i: usize = 0;
     while i < count {
         let x = state[JOURNAL + i];
         if !is_id(x) {
             return false;
         }
-        let at = wide(x / 16 - 1);
+        let at = wide(x / SLOTS - 1);
         let marked = Members { bits: marks[at], n };
-        if marked.has(x % 16) {
+        if marked.has(x % SLOTS) {
             return false;
         }
-        marks[at] = marks[at] | power(x % 16);
+        let more = marked.with(x % SLOTS);
+        marks[at] = more.bits;
         i += 1;
     }
     all_marked(state, marks)
@@ -336,7 +324,7 @@ fn journal_ok(state: &[u32]) -> bool
 
 // List words beyond the counts are 0.
 fn rest_zero(state: &[u32]) -> bool
-    requires { ⌜ (length (now state) ≡ stateSize) × (getD (now state) 3 0 ≤ 32) × (getD (now state) 4 0 ≤ 512) ⌝ }
+    requires { ⌜ (length (now state) ≡ stateSize) × (leaderCount (now state) ≤ leadersSize) × (journalCount (now state) ≤ journalSize) ⌝ }
     ensures { λ r. ⌜ r ≡ restZero (now (state .entry)) ⌝ }
 {
     let leaders = LEADERS + wide(state[LEADER_COUNT]);
@@ -355,16 +343,16 @@ fn body_ok(state: &[u32]) -> bool
     if !masks_within(state) {
         return false;
     }
-    if !votes_heard(state) {
+    if !kind_within(state, VOTES, HEARD) {
         return false;
     }
-    if votes_mask(state, 1) != 0 {
+    if mask_of(state, VOTES, 1) != 0 {
         return false;
     }
     if !cells_ok(state) {
         return false;
     }
-    ordered_held(state)
+    kind_within(state, ORDERED, HELD)
 }
 
 pub fn is_well_formed(state: &[u32]) -> bool

@@ -4,7 +4,7 @@ use mathlib.Core.List.{List, [], _∷_, _++_, append-assoc, append-nil}
 use Prim.Native.Nat.{ℕ}
 use lib.ListN.{take}
 use Rattle.sheetlog.specs.Output.{Reading, feed, zeros, endText, whole, output}
-use Rattle.sheetlog.specs.Blocks.{keptSize, cut, block}
+use Rattle.sheetlog.specs.Blocks.{keptSize, block}
 use Rattle.sheetlog.specs.Claims.{joined, putOut, BlockByBlock}
 use Rattle.sheetlog.proofs.Feeding.{cut-feed, feed-then, after, feed-after}
 

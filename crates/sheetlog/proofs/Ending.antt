@@ -7,7 +7,7 @@ use denote.Ref.{RefT}
 use lib.ListN.{length, length-append, length-take, length-drop, drop}
 use Rattle.replica.specs.Place.{Span, wordsIn, Part, partOf, cut}
 use Rattle.replica.specs.Lists.{handLeaders, handJournal}
-use Rattle.transcript.specs.Text.{items, otherText, listText, Appended}
+use Rattle.transcript.specs.Text.{itemSize, items, otherText, listText, Appended, lineFeed}
 use Rattle.transcript.proofs.Digits.{appended-none, appended-then, items-few}
 use Rattle.sheetlog.specs.Output.{restText, endText}
 
@@ -32,8 +32,8 @@ pub part-few : (x r : RefT (List ℕ)) (s : Span) → partOf r ≡ cut x s → l
 part-few x r s e =
     rw (part-words x r s e) (omega (arith, length-take (s .length) (drop (s .start) (x .now)), length-drop (s .start) (x .now)))
 
-pub list-few : (letter : ℕ) (ids : List ℕ) → length (listText letter ids) ≤ 11 * length ids + 2
-list-few letter ids = omega (arith, items-few ids, length-append (letter ∷ items ids) (10 ∷ []))
+pub list-few : (letter : ℕ) (ids : List ℕ) → length (listText letter ids) ≤ itemSize * length ids + 2
+list-few letter ids = omega (arith, items-few ids, length-append (letter ∷ items ids) (lineFeed ∷ []))
 
 pub an-end : (rest : List ℕ) (x l j : RefT (List ℕ)) {d e f g : List ℕ} {a b c : ℕ}
     → Appended d 0 (restText rest) e a → partOf l ≡ cut x (handLeaders (x .now) 0) → Appended e a (listText 76 (l .now)) f b

@@ -10,15 +10,17 @@ use lib.Dec.{eqb, leb}
 use lib.ListN.{length, length-append, length-take, length-replicate, getD, take, set, replicate}
 use lib.Seq.{take-all, take-suc, take-suc-set, take-append-le}
 use borrow.Author.Tests.{eq-eqb, ne-eqb, leb-true, leb-false}
-use Rattle.transcript.specs.Text.{Appended}
+use Rattle.replica.specs.Layout.{stateSize}
+use Rattle.transcript.specs.Text.{Appended, lineFeed}
+use Rattle.transcript.specs.Claims.{longestAnswer}
 use Rattle.transcript.specs.Commands.{commandOf}
 use Rattle.transcript.specs.declared.command.Command.{Command}
-use Rattle.transcript.proofs.Booleans.{which}
+use Rattle.record.proofs.Booleans.{which}
 use Rattle.transcript.proofs.Claims.{kept-lines}
 use Rattle.transcript.proofs.Digits.{appended-fits}
 use Rattle.sheetlog.specs.Reply.{outcomeOf, replyText}
 use Rattle.sheetlog.specs.Output.{Reading, feedByte, feed}
-use Rattle.sheetlog.specs.Blocks.{keptSize, cut, block, held, Holds, Room}
+use Rattle.sheetlog.specs.Blocks.{keptSize, blockSize, endSize, cut, block, held, Holds, Room}
 use Rattle.sheetlog.specs.declared.buffers.Fill.{Fill}
 use Rattle.sheetlog.proofs.Replies.{reply-few}
 
@@ -53,9 +55,9 @@ keeps-full line kept b e h l =
 
 cut-byte : (r : Reading) (b : ℕ) → cut (feedByte (cut r) b) ≡ cut (feedByte r b)
 unfolding feedByte
-cut-byte r b = go (which (eqb b 10))
+cut-byte r b = go (which (eqb b lineFeed))
   where
-    go : (eqb b 10 ≡ true) ⊎ (eqb b 10 ≡ false) → cut (feedByte (cut r) b) ≡ cut (feedByte r b)
+    go : (eqb b lineFeed ≡ true) ⊎ (eqb b lineFeed ≡ false) → cut (feedByte (cut r) b) ≡ cut (feedByte r b)
     go (inl e) = rw e (ap (λ (c : Command). record {
       printed = r .printed ++ replyText c (r .state);
       line = [];
@@ -82,9 +84,9 @@ after p r = record { printed = p ++ r .printed; line = r .line; state = r .state
 
 after-byte : (p : List ℕ) (r : Reading) (b : ℕ) → feedByte (after p r) b ≡ after p (feedByte r b)
 unfolding feedByte
-after-byte p r b = go (which (eqb b 10))
+after-byte p r b = go (which (eqb b lineFeed))
   where
-    go : (eqb b 10 ≡ true) ⊎ (eqb b 10 ≡ false) → feedByte (after p r) b ≡ after p (feedByte r b)
+    go : (eqb b lineFeed ≡ true) ⊎ (eqb b lineFeed ≡ false) → feedByte (after p r) b ≡ after p (feedByte r b)
     go (inl e) = rw e (ap (λ (t : List ℕ). record { printed = t; line = []; state = outcomeOf (commandOf (r .line)) (r .state) .words })
         (append-assoc p (r .printed) (replyText (commandOf (r .line)) (r .state))))
     go (inr e) = rw e refl
@@ -98,10 +100,10 @@ feed-after (b ∷ s) p r = ap (λ (q : Reading). feed q s) (after-byte p r b) �
 
 -- what a byte that ends a line does
 pub record Ended (b : ℕ) (line : List ℕ) (fill : Fill) (out state : List ℕ) (end : ℕ) (out′ state′ : List ℕ) : Type 0 where
-  pub few : end ≤ fill .filled + 55
+  pub few : end ≤ fill .filled + longestAnswer
   pub holds : Holds (cut (feedByte (held line fill out state) b)) line (record { kept = 0; filled = end }) out′ state′
 
-pub byte-ends : (b : ℕ) (line : List ℕ) (fill : Fill) (out state : List ℕ) {out′ state′ : List ℕ} {end : ℕ} → b ≡ 10 → Room 1 line fill out
+pub byte-ends : (b : ℕ) (line : List ℕ) (fill : Fill) (out state : List ℕ) {out′ state′ : List ℕ} {end : ℕ} → b ≡ lineFeed → Room 1 line fill out
     → Appended out (fill .filled) (replyText (commandOf (take (fill .kept) line)) state) out′ end
     → state′ ≡ outcomeOf (commandOf (take (fill .kept) line)) state .words
     → Ended b line fill out state end out′ state′
@@ -112,11 +114,11 @@ byte-ends b line fill out state e room a w =
       holds = record {
         kept = omega arith;
         filled = appended-fits a (omega (arith, room .replies));
-        equal = rw (eq-eqb b 10 e) (ap₂ (λ (p s : List ℕ). record { printed = p; line = []; state = s }) (a .held) w);
+        equal = rw (eq-eqb b lineFeed e) (ap₂ (λ (p s : List ℕ). record { printed = p; line = []; state = s }) (a .held) w);
       };
     }
 
-pub byte-joins : (b : ℕ) (line : List ℕ) (fill : Fill) (out state : List ℕ) {line′ : List ℕ} {kept : ℕ} → (b ≡ 10 → ⊥) → Room 1 line fill out
+pub byte-joins : (b : ℕ) (line : List ℕ) (fill : Fill) (out state : List ℕ) {line′ : List ℕ} {kept : ℕ} → (b ≡ lineFeed → ⊥) → Room 1 line fill out
     → kept ≤ length line′ → take kept line′ ≡ take keptSize (take (fill .kept) line ++ b ∷ [])
     → Holds (cut (feedByte (held line fill out state) b)) line′ (record { kept = kept; filled = fill .filled }) out state
 unfolding feedByte
@@ -124,7 +126,7 @@ byte-joins b line fill out state h room l k =
     record {
       kept = l;
       filled = omega (arith, room .replies);
-      equal = rw (ne-eqb b 10 h) (ap (λ (s : List ℕ). record { printed = take (fill .filled) out; line = s; state = state }) k);
+      equal = rw (ne-eqb b lineFeed h) (ap (λ (s : List ℕ). record { printed = take (fill .filled) out; line = s; state = state }) k);
     }
 
 -- ---- a block
@@ -166,13 +168,13 @@ holds-all first began s i l h = rw (take-all i s l) at h
 
 -- ---- room
 
-pub room-part : (n : ℕ) (s line out : List ℕ) (kept : ℕ) → length line ≡ keptSize → kept ≤ length line → 55 * length s ≤ length out
+pub room-part : (n : ℕ) (s line out : List ℕ) (kept : ℕ) → length line ≡ keptSize → kept ≤ length line → longestAnswer * length s ≤ length out
     → Room (length (take n s)) line (record { kept = kept; filled = 0 }) out
 room-part n s line out kept e l h = record { line-size = e; kept = l; replies = omega (arith, length-take n s) }
 
 -- buffers of n and m bytes
-pub room-first : (n m : ℕ) → 55 * n ≤ m → 0 + 55 * length {A = ℕ} (replicate n 0) ≤ length {A = ℕ} (replicate m 0)
+pub room-first : (n m : ℕ) → longestAnswer * n ≤ m → 0 + longestAnswer * length {A = ℕ} (replicate n 0) ≤ length {A = ℕ} (replicate m 0)
 room-first n m h = omega (arith, length-replicate {A = ℕ} n 0, length-replicate {A = ℕ} m 0)
 
-pub room-last : (state out : ℕ) → state ≡ 5864 → out ≡ 450560 → 22 * state + 6 ≤ out
+pub room-last : (state out : ℕ) → state ≡ stateSize → out ≡ longestAnswer * blockSize → endSize state ≤ out
 room-last state out e f = omega arith

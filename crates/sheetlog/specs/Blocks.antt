@@ -3,6 +3,7 @@ use mathlib.Core.Path.{_≡_}
 use mathlib.Core.List.{List, []}
 use Prim.Native.Nat.{ℕ, _+_, _*_, _≤_}
 use lib.ListN.{length, take}
+use Rattle.transcript.specs.Text.{itemSize}
 use Rattle.transcript.specs.Claims.{longestLine, longestAnswer}
 use Rattle.sheetlog.specs.Output.{Reading, feed}
 use Rattle.sheetlog.specs.declared.buffers.Fill.{Fill}
@@ -10,6 +11,14 @@ use Rattle.sheetlog.specs.declared.buffers.Fill.{Fill}
 -- how much of a line is kept
 abbrev pub keptSize : ℕ
 keptSize = longestLine + 1
+
+-- how many bytes are read at a time
+abbrev pub blockSize : ℕ
+blockSize = 8192
+
+-- room for what is printed at the end, with a state of so many words: each of them twice, two letters, a `?` and their line feeds
+abbrev pub endSize : ℕ → ℕ
+endSize words = 2 * (itemSize * words) + 6
 
 -- the same, with no more of the line than is kept
 abbrev pub cut : Reading → Reading

@@ -39,8 +39,10 @@ outcomeOf command state = callFor (command .kind) (command .words) state
 abbrev pub statusWords : Status → List ℕ
 statusWords s = s .«current_round» ∷ s .«committed_round» ∷ s .«leader_count» ∷ s .«journal_count» ∷ []
 
+-- the line of a call: its number, and the status that it left
+abbrev pub outcomeText : Outcome → List ℕ
+outcomeText o = answerText (o .number) (statusWords (statusOf (o .words)))
+
 -- the line that is printed
 unfoldable pub replyText : Command → List ℕ → List ℕ
-replyText command state =
-    cond (isOther (command .kind)) otherText
-    (answerText (outcomeOf command state .number) (statusWords (statusOf (outcomeOf command state .words))))
+replyText command state = cond (isOther (command .kind)) otherText (outcomeText (outcomeOf command state))

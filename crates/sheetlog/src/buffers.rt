@@ -6,19 +6,21 @@ ghost use lib.ListN.{length, take};
 ghost use Rattle.transcript.specs.Text.{Appended};
 ghost use Rattle.transcript.specs.Claims.{longestAnswer};
 ghost use Rattle.sheetlog.specs.Output.{feedByte, restText, endText};
-ghost use Rattle.sheetlog.specs.Blocks.{keptSize, cut, block, held, Holds, Room};
+ghost use Rattle.sheetlog.specs.Blocks.{keptSize, endSize, cut, block, held, Holds, Room};
 use super::reply::reply;
+use record::layout::RECORD_SIZE;
 use replica::lists::hand_journal;
 use replica::lists::hand_leaders;
 use transcript::text::ANSWER_SIZE;
+use transcript::text::ITEM_SIZE;
 use transcript::text::put_list;
 use transcript::text::put_other;
 
 const LINE_FEED: u8 = 10;
 
-// One byte more than the longest line of the form has: a letter, and 12 words of a space and ten digits.
+// One byte more than the longest line of the form has: a letter, and the words of a record.
 // Of a longer line only these bytes are kept; they are of another form, as it is.
-pub const KEPT: usize = 134;
+pub const KEPT: usize = 1 + ITEM_SIZE * RECORD_SIZE + 1;
 
 // How many bytes are read at a time.
 pub const BLOCK: usize = 8192;
@@ -106,7 +108,7 @@ fn answer_rest(rest: &[u8], out: &mut [u8]) -> usize
 
 // Puts what is printed at the end at the start of the output buffer, which has room for every word of the state twice.
 pub fn answer_end(rest: &[u8], state: &[u32], out: &mut [u8]) -> usize
-    requires { ⌜ 22 * length (now state) + 6 ≤ length (now out) ⌝ }
+    requires { ⌜ endSize (length (now state)) ≤ length (now out) ⌝ }
     ensures { λ r. ⌜ Appended (now (out .entry)) 0 (endText (now (rest .entry)) (now (state .entry))) (now (out .exit)) r ⌝ }
 {
     let first = answer_rest(rest, out);

@@ -9,12 +9,14 @@ use lib.Dec.{eqb, leb}
 use lib.ListN.{length, length-append, length-drop, getD, drop, take, List·getD-append}
 use lib.Seq.{take-all, length-take-le}
 use borrow.Author.Tests.{eqb-true, eqb-false, ne-eqb, le-leb, leb-true, leb-false, not-true}
+use Rattle.record.specs.Layout.{recordSize}
 use Rattle.transcript.specs.Grammar.{isDigit, allDigits, valueFrom, valueOf, ledOk, numeralOk, numeralValue, largest, firstWord, afterWord, wordsOk}
 use Rattle.transcript.specs.Commands.{wordCount, kindOf, otherForm, commandFrom, commandOf}
-use Rattle.transcript.specs.Text.{digitsFrom, decimal, items}
+use Rattle.transcript.specs.Text.{itemSize, digitsFrom, decimal, items}
 use Rattle.transcript.specs.Claims.{AnswerSize, ReadBack, LongLines, KeptLines}
 use Rattle.transcript.specs.declared.command.Kind.{Kind}
-use Rattle.transcript.proofs.Booleans.{which, and-left, and-right, and-both, and-fails-right, cond-false}
+use Rattle.record.proofs.Booleans.{which, and-left, and-right, and-both, and-fails-right, cond-false}
+use Rattle.transcript.specs.Grammar.{space, zeroDigit}
 use Rattle.transcript.proofs.Numerals.{digit-low, value-grows, a-numeral}
 use Rattle.transcript.proofs.Words.{few-words}
 use Rattle.transcript.proofs.Digits.{digits-done, digits-next, decimal-more, decimal-few, items-few}
@@ -41,13 +43,13 @@ unfolding valueFrom tens
 value-long zero s v l = value-grows s v
 value-long (suc k) [] v l = absurd (omega arith)
 value-long (suc k) (b ∷ s) v l =
-    omega (arith, tens-mono k (v * 10) (v * 10 + (b - 48)) (omega arith), value-long k s (v * 10 + (b - 48)) (omega arith))
+    omega (arith, tens-mono k (v * 10) (v * 10 + (b - zeroDigit)) (omega arith), value-long k s (v * 10 + (b - zeroDigit)) (omega arith))
 
 -- ---- a numeral has ten digits at most
 
-led-digit : (b d : ℕ) (s : List ℕ) → ledOk (b ∷ (d ∷ s)) ≡ true → isDigit b ≡ true → 1 ≤ b - 48
+led-digit : (b d : ℕ) (s : List ℕ) → ledOk (b ∷ (d ∷ s)) ≡ true → isDigit b ≡ true → 1 ≤ b - zeroDigit
 unfolding ledOk
-led-digit b d s p q = let n = eqb-false b 48 (not-true (eqb b 48) p) in let l = digit-low b q in omega arith
+led-digit b d s p q = let n = eqb-false b zeroDigit (not-true (eqb b zeroDigit) p) in let l = digit-low b q in omega arith
 
 numeral-few : (s : List ℕ) → numeralOk s ≡ true → length s ≤ 10
 unfolding numeralOk allDigits valueFrom tens
@@ -56,25 +58,25 @@ numeral-few (b ∷ []) e = omega arith
 numeral-few (b ∷ (d ∷ s)) e =
     let rest = and-right (ledOk (b ∷ (d ∷ s))) _ e in
     let digit = and-left (isDigit b) _ (and-left (allDigits (b ∷ (d ∷ s))) _ rest) in
-    let first : 1 ≤ b - 48 = led-digit b d s (and-left (ledOk (b ∷ (d ∷ s))) _ e) digit in
-    let small : valueFrom (0 * 10 + (b - 48)) (d ∷ s) ≤ largest = leb-true _ largest (and-right (allDigits (b ∷ (d ∷ s))) _ rest) in
+    let first : 1 ≤ b - zeroDigit = led-digit b d s (and-left (ledOk (b ∷ (d ∷ s))) _ e) digit in
+    let small : valueFrom (0 * 10 + (b - zeroDigit)) (d ∷ s) ≤ largest = leb-true _ largest (and-right (allDigits (b ∷ (d ∷ s))) _ rest) in
     ⊎-elim (λ (h : leb (length (b ∷ (d ∷ s))) 10 ≡ true). leb-true _ 10 h)
     (λ h.
     let l : 10 < length (b ∷ (d ∷ s)) = leb-false _ 10 h in
-    absurd (omega (arith, tens-mono 10 1 (0 * 10 + (b - 48)) (omega arith), value-long 10 (d ∷ s) (0 * 10 + (b - 48)) (omega arith))))
+    absurd (omega (arith, tens-mono 10 1 (0 * 10 + (b - zeroDigit)) (omega arith), value-long 10 (d ∷ s) (0 * 10 + (b - zeroDigit)) (omega arith))))
     (which (leb (length (b ∷ (d ∷ s))) 10))
 
 -- ---- a line of the form has at most 11 bytes a word after its letter
 
-words-few : (k : ℕ) (s : List ℕ) → wordsOk k s ≡ true → length s ≤ 11 * k
+words-few : (k : ℕ) (s : List ℕ) → wordsOk k s ≡ true → length s ≤ itemSize * k
 unfolding wordsOk
 words-few zero s e = omega (arith, eqb-true (length s) 0 e)
 words-few (suc k) s e =
-    let rest = and-right (eqb (getD s 0 0) 32) _ e in
+    let rest = and-right (eqb (getD s 0 0) space) _ e in
     let few = numeral-few (firstWord s) (and-left (numeralOk (firstWord s)) _ rest) in
     omega (arith, words-few k (afterWord s) (and-right (numeralOk (firstWord s)) _ rest), length-drop (1 + length (firstWord s)) s)
 
-long-other : (kind : Kind) (s : List ℕ) → 132 < length s → commandFrom kind s ≡ otherForm
+long-other : (kind : Kind) (s : List ℕ) → itemSize * recordSize < length s → commandFrom kind s ≡ otherForm
 unfolding commandFrom
 long-other kind s l =
     ⊎-elim (λ (h : wordsOk (wordCount kind) s ≡ true). absurd (omega (arith, words-few (wordCount kind) s h, few-words kind)))
@@ -100,19 +102,19 @@ answer-size n t e =
 
 -- ---- digits that are printed
 
-digit-ok : (n : ℕ) → isDigit (48 + n % 10) ≡ true
+digit-ok : (n : ℕ) → isDigit (zeroDigit + n % 10) ≡ true
 unfolding isDigit
-digit-ok n = and-both (le-leb 48 (48 + n % 10) (omega arith)) (le-leb (48 + n % 10) 57 (omega arith))
+digit-ok n = and-both (le-leb zeroDigit (zeroDigit + n % 10) (omega arith)) (le-leb (zeroDigit + n % 10) (zeroDigit + 9) (omega arith))
 
 digits-snoc : (s : List ℕ) (b : ℕ) → allDigits s ≡ true → isDigit b ≡ true → allDigits (s ++ b ∷ []) ≡ true
 unfolding allDigits
 digits-snoc [] b p q = and-both q refl
 digits-snoc (d ∷ s) b p q = and-both (and-left (isDigit d) _ p) (digits-snoc s b (and-right (isDigit d) _ p) q)
 
-value-snoc : (s : List ℕ) (v b : ℕ) → valueFrom v (s ++ b ∷ []) ≡ valueFrom v s * 10 + (b - 48)
+value-snoc : (s : List ℕ) (v b : ℕ) → valueFrom v (s ++ b ∷ []) ≡ valueFrom v s * 10 + (b - zeroDigit)
 unfolding valueFrom
 value-snoc [] v b = refl
-value-snoc (d ∷ s) v b = value-snoc s (v * 10 + (d - 48)) b
+value-snoc (d ∷ s) v b = value-snoc s (v * 10 + (d - zeroDigit)) b
 
 positive : (n : ℕ) → (n ≡ 0 → ⊥) → 1 ≤ n
 positive n h = omega arith
@@ -132,14 +134,14 @@ read-digits (suc k) n l = go (which (eqb n 0)) (read-digits k (n / 10) (omega (a
         → (allDigits (digitsFrom (suc k) n) ≡ true) × (valueOf (digitsFrom (suc k) n) ≡ n)
     go (inl e) r = rw e (refl, sym (eqb-true n 0 e))
     go (inr e) r = rw e (
-      digits-snoc (digitsFrom k (n / 10)) (48 + n % 10) (r .0) (digit-ok n),
-      omega (arith, value-snoc (digitsFrom k (n / 10)) 0 (48 + n % 10), r .1),
+      digits-snoc (digitsFrom k (n / 10)) (zeroDigit + n % 10) (r .0) (digit-ok n),
+      omega (arith, value-snoc (digitsFrom k (n / 10)) 0 (zeroDigit + n % 10), r .1),
     )
 
 -- the first of them is not 0
 pub record First (s : List ℕ) : Type 0 where
   pub some : 1 ≤ length s
-  pub high : 48 < getD s 0 0
+  pub high : zeroDigit < getD s 0 0
 
 first-snoc : (s : List ℕ) (b : ℕ) → First s → First (s ++ b ∷ [])
 first-snoc s b f = record { some = omega (arith, f .some, length-append s (b ∷ [])); high = rw (List·getD-append s (b ∷ []) 0 0 (f .some)) (f .high) }
@@ -150,15 +152,16 @@ first-digits zero n l h = absurd (omega arith)
 first-digits (suc k) n l h = rw (digits-next k (suc k) n refl (λ e. omega arith)) (go (which (eqb (n / 10) 0))
     (first-digits k (n / 10) (omega (arith, tens-ten k 1))))
   where
-    go : (eqb (n / 10) 0 ≡ true) ⊎ (eqb (n / 10) 0 ≡ false) → (1 ≤ n / 10 → First (digitsFrom k (n / 10))) → First (digitsFrom k (n / 10) ++ (48 + n % 10) ∷ [])
+    go : (eqb (n / 10) 0 ≡ true) ⊎ (eqb (n / 10) 0 ≡ false) → (1 ≤ n / 10 → First (digitsFrom k (n / 10)))
+        → First (digitsFrom k (n / 10) ++ (zeroDigit + n % 10) ∷ [])
     go (inl e) r = rw (digits-done k (n / 10) (eqb-true (n / 10) 0 e)) (record { some = omega arith; high = omega (arith, eqb-true (n / 10) 0 e) })
-    go (inr e) r = first-snoc (digitsFrom k (n / 10)) (48 + n % 10) (r (positive (n / 10) (eqb-false (n / 10) 0 e)))
+    go (inr e) r = first-snoc (digitsFrom k (n / 10)) (zeroDigit + n % 10) (r (positive (n / 10) (eqb-false (n / 10) 0 e)))
 
 first-led : (s : List ℕ) → First s → ledOk s ≡ true
 unfolding ledOk
 first-led [] f = absurd (omega (arith, f .some))
 first-led (b ∷ []) f = refl
-first-led (b ∷ (d ∷ s)) f = ap not (ne-eqb b 48 (λ e. omega (arith, f .high)))
+first-led (b ∷ (d ∷ s)) f = ap not (ne-eqb b zeroDigit (λ e. omega (arith, f .high)))
 
 pub read-back : ReadBack
 unfolding tens decimal numeralValue

@@ -11,8 +11,9 @@ use lib.Dec.{eqb}
 use lib.ListN.{length, length-append, length-drop, length-set, length-take, getD, drop, take, set}
 use lib.Seq.{drop-cons, drop-set-lt, getD-set-same, append-snoc, take-suc, take-suc-set, take-all}
 use borrow.Author.Tests.{eq-eqb, ne-eqb}
-use Rattle.transcript.specs.Text.{digitsFrom, decimal, items, Appended}
-use Rattle.transcript.proofs.Booleans.{which, cond-true, cond-false}
+use Rattle.transcript.specs.Text.{itemSize, digitsFrom, decimal, items, Appended}
+use Rattle.record.proofs.Booleans.{which, cond-true, cond-false}
+use Rattle.transcript.specs.Grammar.{space, zeroDigit}
 
 -- ---- digits
 
@@ -25,7 +26,7 @@ pub digits-out : (k n : ℕ) → k ≡ 0 → digitsFrom k n ≡ []
 unfolding digitsFrom
 digits-out k n e = rw e refl
 
-pub digits-next : (j k n : ℕ) → k ≡ suc j → (n ≡ 0 → ⊥) → digitsFrom k n ≡ digitsFrom j (n / 10) ++ (48 + n % 10) ∷ []
+pub digits-next : (j k n : ℕ) → k ≡ suc j → (n ≡ 0 → ⊥) → digitsFrom k n ≡ digitsFrom j (n / 10) ++ (zeroDigit + n % 10) ∷ []
 unfolding digitsFrom
 digits-next j k n p h = rw p (cond-false _ _ (ne-eqb n 0 h))
 
@@ -36,7 +37,7 @@ drop-set-here s j b l =
     ∙ ap₂ (λ (x : ℕ) (r : List ℕ). x ∷ r) (getD-set-same s j b 0 l) (drop-set-lt (suc j) s j b (omega arith))
 
 -- a turn of the loop of `digits_of`
-pub digits-turn : (all s : List ℕ) (j k n b : ℕ) → k ≡ suc j → j < length s → (n ≡ 0 → ⊥) → b ≡ 48 + n % 10 → digitsFrom k n ++ drop k s ≡ all
+pub digits-turn : (all s : List ℕ) (j k n b : ℕ) → k ≡ suc j → j < length s → (n ≡ 0 → ⊥) → b ≡ zeroDigit + n % 10 → digitsFrom k n ++ drop k s ≡ all
     → digitsFrom j (n / 10) ++ drop j (set s j b) ≡ all
 digits-turn all s j k n b p l h e d =
     ap (λ (r : List ℕ). digitsFrom j (n / 10) ++ r) (drop-set-here s j b l)
@@ -46,7 +47,7 @@ digits-turn all s j k n b p l h e d =
     ∙ ap (λ (m : ℕ). digitsFrom k n ++ drop m s) (sym p)
     ∙ d
 
-pub decimal-zero : (n : ℕ) → n ≡ 0 → 48 ∷ [] ≡ decimal n
+pub decimal-zero : (n : ℕ) → n ≡ 0 → zeroDigit ∷ [] ≡ decimal n
 unfolding decimal
 decimal-zero n e = sym (cond-true _ _ (eq-eqb n 0 e))
 
@@ -61,7 +62,7 @@ digits-few (suc k) n = go (which (eqb n 0)) (digits-few k (n / 10))
   where
     go : (eqb n 0 ≡ true) ⊎ (eqb n 0 ≡ false) → length (digitsFrom k (n / 10)) ≤ k → length (digitsFrom (suc k) n) ≤ suc k
     go (inl e) h = rw e (omega arith)
-    go (inr e) h = rw e (omega (arith, length-append (digitsFrom k (n / 10)) ((48 + n % 10) ∷ [])))
+    go (inr e) h = rw e (omega (arith, length-append (digitsFrom k (n / 10)) ((zeroDigit + n % 10) ∷ [])))
 
 pub decimal-few : (n : ℕ) → length (decimal n) ≤ 10
 unfolding decimal
@@ -77,15 +78,15 @@ pub items-none : items [] ≡ []
 unfolding items
 items-none = refl
 
-pub items-one : (s : List ℕ) (n : ℕ) → items (s ++ n ∷ []) ≡ items s ++ 32 ∷ decimal n
+pub items-one : (s : List ℕ) (n : ℕ) → items (s ++ n ∷ []) ≡ items s ++ space ∷ decimal n
 unfolding items
-items-one [] n = append-nil (32 ∷ decimal n)
-items-one (m ∷ s) n = ap (λ (r : List ℕ). (32 ∷ decimal m) ++ r) (items-one s n) ∙ sym (append-assoc (32 ∷ decimal m) (items s) (32 ∷ decimal n))
+items-one [] n = append-nil (space ∷ decimal n)
+items-one (m ∷ s) n = ap (λ (r : List ℕ). (space ∷ decimal m) ++ r) (items-one s n) ∙ sym (append-assoc (space ∷ decimal m) (items s) (space ∷ decimal n))
 
-pub items-few : (s : List ℕ) → length (items s) ≤ 11 * length s
+pub items-few : (s : List ℕ) → length (items s) ≤ itemSize * length s
 unfolding items
 items-few [] = omega arith
-items-few (n ∷ s) = omega (arith, length-append (32 ∷ decimal n) (items s), decimal-few n, items-few s)
+items-few (n ∷ s) = omega (arith, length-append (space ∷ decimal n) (items s), decimal-few n, items-few s)
 
 -- ---- appended text
 
@@ -122,10 +123,10 @@ appended-all t at i b l p = rw (take-all i t l) at p
 
 -- a turn of the loop of `put_items`: a space, and the digits of n
 pub appended-item : {d e f g : List ℕ} (t : List ℕ) (at i b c k : ℕ) → i < length t → Appended d at (items (take i t)) e b
-    → Appended e b (32 ∷ []) f c → Appended f c (decimal (getD t i 0)) g k
+    → Appended e b (space ∷ []) f c → Appended f c (decimal (getD t i 0)) g k
     → Appended d at (items (take (i + 1) t)) g k
 appended-item t at i b c k l p q r =
-    let one : items (take (i + 1) t) ≡ items (take i t) ++ 32 ∷ decimal (getD t i 0) = rw (add-one i) (ap items (take-suc t i 0 l)
+    let one : items (take (i + 1) t) ≡ items (take i t) ++ space ∷ decimal (getD t i 0) = rw (add-one i) (ap items (take-suc t i 0 l)
     ∙ items-one (take i t) (getD t i 0)) in
     rw one (appended-then p (appended-then q r))
 

@@ -1,4 +1,3 @@
-pub mod Booleans
 pub mod Numerals
 pub mod Words
 pub mod Digits

@@ -9,8 +9,8 @@ use lib.Dec.{eqb, leb}
 use lib.ListN.{length, getD, drop, drop-of-length-le}
 use lib.Seq.{drop-cons}
 use borrow.Author.Tests.{le-leb, lt-leb, leb-true}
-use Rattle.transcript.specs.Grammar.{isDigit, allDigits, valueFrom, valueOf, ledOk, numeralOk, numeralValue, largest}
-use Rattle.transcript.proofs.Booleans.{and-left, and-right, and-both, and-fails-left, and-fails-right, cond-true, cond-false, passed, failed}
+use Rattle.transcript.specs.Grammar.{isDigit, allDigits, valueFrom, valueOf, ledOk, numeralOk, numeralValue, largest, zeroDigit}
+use Rattle.record.proofs.Booleans.{and-left, and-right, and-both, and-fails-left, and-fails-right, cond-true, cond-false, passed, failed}
 
 -- ---- the start of a numeral
 
@@ -25,19 +25,19 @@ led-one [] e = absurd (omega arith)
 led-one (b ∷ []) e = refl
 led-one (b ∷ (d ∷ s)) e = absurd (omega arith)
 
-pub led-more : (s : List ℕ) → (length s ≡ 0 → ⊥) → (length s ≡ 1 → ⊥) → not (eqb (getD s 0 0) 48) ≡ ledOk s
+pub led-more : (s : List ℕ) → (length s ≡ 0 → ⊥) → (length s ≡ 1 → ⊥) → not (eqb (getD s 0 0) zeroDigit) ≡ ledOk s
 unfolding ledOk
 led-more [] p q = absurd (p refl)
 led-more (b ∷ []) p q = absurd (q refl)
 led-more (b ∷ (d ∷ s)) p q = refl
 
-pub digit-low : (b : ℕ) → isDigit b ≡ true → 48 ≤ b
+pub digit-low : (b : ℕ) → isDigit b ≡ true → zeroDigit ≤ b
 unfolding isDigit
-digit-low b e = leb-true 48 b (and-left (leb 48 b) _ e)
+digit-low b e = leb-true zeroDigit b (and-left (leb zeroDigit b) _ e)
 
-digit-high : (b : ℕ) → isDigit b ≡ true → b ≤ 57
+digit-high : (b : ℕ) → isDigit b ≡ true → b ≤ (zeroDigit + 9)
 unfolding isDigit
-digit-high b e = leb-true b 57 (and-right (leb 48 b) _ e)
+digit-high b e = leb-true b (zeroDigit + 9) (and-right (leb zeroDigit b) _ e)
 
 -- ---- the byte at index i, and those after it
 
@@ -53,7 +53,7 @@ module _ (s : List ℕ) (i : ℕ) (l : i < length s) where
   unfolding allDigits
   digits-stop e = ap allDigits split ∙ rw e refl
 
-  value-next : (v : ℕ) → valueFrom v (drop i s) ≡ valueFrom (v * 10 + (getD s i 0 - 48)) (drop (i + 1) s)
+  value-next : (v : ℕ) → valueFrom v (drop i s) ≡ valueFrom (v * 10 + (getD s i 0 - zeroDigit)) (drop (i + 1) s)
   unfolding valueFrom
   value-next v = ap (valueFrom v) split
 
@@ -61,7 +61,7 @@ module _ (s : List ℕ) (i : ℕ) (l : i < length s) where
 pub value-grows : (s : List ℕ) (v : ℕ) → v ≤ valueFrom v s
 unfolding valueFrom
 value-grows [] v = omega arith
-value-grows (b ∷ s) v = omega (arith, value-grows s (v * 10 + (b - 48)))
+value-grows (b ∷ s) v = omega (arith, value-grows s (v * 10 + (b - zeroDigit)))
 
 -- ---- what `numeral` answers
 
@@ -95,10 +95,10 @@ counting s = record { inside = omega arith; small = omega arith; digits = refl; 
 
 -- what is known of a byte that is a digit; w is the digit's value
 pub record DigitRead (s : List ℕ) (value i : ℕ) : Type 0 where
-  pub low : 48 ≤ getD s i 0
-  pub high : getD s i 0 ≤ 57
-  pub over : (w : ℕ) → w ≡ getD s i 0 - 48 → largest < value * 10 + w → 4294967296 ≡ numeralValue s
-  pub next : (w : ℕ) → w ≡ getD s i 0 - 48 → value * 10 + w ≤ largest → Counting s (value * 10 + w) (i + 1)
+  pub low : zeroDigit ≤ getD s i 0
+  pub high : getD s i 0 ≤ (zeroDigit + 9)
+  pub over : (w : ℕ) → w ≡ getD s i 0 - zeroDigit → largest < value * 10 + w → 4294967296 ≡ numeralValue s
+  pub next : (w : ℕ) → w ≡ getD s i 0 - zeroDigit → value * 10 + w ≤ largest → Counting s (value * 10 + w) (i + 1)
 
 module _ (s : List ℕ) (value i : ℕ) (c : Counting s value i) where
   pub no-digit : i < length s → (t : Bool) → t ≡ isDigit (getD s i 0) → not t ≡ true → 4294967296 ≡ numeralValue s
@@ -112,7 +112,7 @@ module _ (s : List ℕ) (value i : ℕ) (c : Counting s value i) where
     next = λ w d k. record { inside = omega arith; small = k; digits = c .digits ∙ digits-next s i l (passed e h); valued = value-turn w d };
   }
     where
-      value-turn : (w : ℕ) → w ≡ getD s i 0 - 48 → valueOf s ≡ valueFrom (value * 10 + w) (drop (i + 1) s)
+      value-turn : (w : ℕ) → w ≡ getD s i 0 - zeroDigit → valueOf s ≡ valueFrom (value * 10 + w) (drop (i + 1) s)
       value-turn w d = c .valued ∙ value-next s i l value ∙ rw d
 
   pub counted : length s ≤ i → (t : Bool) → t ≡ ledOk s → not t ≡ false → value ≡ numeralValue s

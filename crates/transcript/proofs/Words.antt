@@ -11,26 +11,27 @@ use lib.Dec.{eqb}
 use lib.ListN.{length, length-drop, getD, drop, take, set, replicate, drop-of-length-le}
 use lib.Seq.{drop-drop, sets}
 use borrow.Author.Tests.{leb-true, eq-eqb, ne-eqb, not-true, not-false}
+use Rattle.record.specs.Layout.{recordSize}
 use Rattle.transcript.specs.Grammar.{largest, allDigits, ledOk, valueOf, numeralOk, numeralValue, upToSpace, firstWord, afterWord, wordsOk}
-use Rattle.transcript.specs.Grammar.{wordsIn, placed, unscanned, scanned}
+use Rattle.transcript.specs.Grammar.{wordsIn, placed, unscanned, scanned, space}
 use Rattle.transcript.specs.Commands.{kindOf, wordCount, otherForm, commandFrom, commandOf}
 use Rattle.transcript.specs.declared.command.Words.{Words}
 use Rattle.transcript.specs.declared.command.Command.{Command}
 use Rattle.transcript.specs.declared.command.Kind.{Kind}
 use Rattle.transcript.specs.declared.command.Kind.the-variants.{Other, Open, Vertex, First, Timeout, NoVote}
-use Rattle.transcript.proofs.Booleans.{which, and-right, and-both, and-fails-left, and-fails-right, cond-true, cond-false}
+use Rattle.record.proofs.Booleans.{which, and-right, and-both, and-fails-left, and-fails-right, cond-true, cond-false}
 use Rattle.transcript.proofs.Numerals.{split}
 
 -- ---- up to the first space
 
 module _ (s : List ℕ) (i : ℕ) (l : i < length s) where
-  pub word-stop : getD s i 0 ≡ 32 → length (upToSpace (drop i s)) ≡ 0
+  pub word-stop : getD s i 0 ≡ space → length (upToSpace (drop i s)) ≡ 0
   unfolding upToSpace
-  word-stop e = ap (λ (x : List ℕ). length (upToSpace x)) (split s i l) ∙ ap length (cond-true [] (getD s i 0 ∷ upToSpace (drop (i + 1) s)) (eq-eqb _ 32 e))
+  word-stop e = ap (λ (x : List ℕ). length (upToSpace x)) (split s i l) ∙ ap length (cond-true [] (getD s i 0 ∷ upToSpace (drop (i + 1) s)) (eq-eqb _ space e))
 
-  pub word-next : (getD s i 0 ≡ 32 → ⊥) → length (upToSpace (drop i s)) ≡ suc (length (upToSpace (drop (i + 1) s)))
+  pub word-next : (getD s i 0 ≡ space → ⊥) → length (upToSpace (drop i s)) ≡ suc (length (upToSpace (drop (i + 1) s)))
   unfolding upToSpace
-  word-next e = ap (λ (x : List ℕ). length (upToSpace x)) (split s i l) ∙ ap length (cond-false [] (getD s i 0 ∷ upToSpace (drop (i + 1) s)) (ne-eqb _ 32 e))
+  word-next e = ap (λ (x : List ℕ). length (upToSpace x)) (split s i l) ∙ ap length (cond-false [] (getD s i 0 ∷ upToSpace (drop (i + 1) s)) (ne-eqb _ space e))
 
 pub word-none : (s : List ℕ) (i : ℕ) → length s ≤ i → length (upToSpace (drop i s)) ≡ 0
 unfolding upToSpace
@@ -39,18 +40,18 @@ word-none s i l = ap (λ (x : List ℕ). length (upToSpace x)) (drop-of-length-l
 pub word-short : (s : List ℕ) → length (upToSpace s) ≤ length s
 unfolding upToSpace
 word-short [] = omega arith
-word-short (b ∷ s) = go (which (eqb b 32)) (word-short s)
+word-short (b ∷ s) = go (which (eqb b space)) (word-short s)
   where
-    go : (eqb b 32 ≡ true) ⊎ (eqb b 32 ≡ false) → length (upToSpace s) ≤ length s → length (upToSpace (b ∷ s)) ≤ suc (length s)
+    go : (eqb b space ≡ true) ⊎ (eqb b space ≡ false) → length (upToSpace s) ≤ length s → length (upToSpace (b ∷ s)) ≤ suc (length s)
     go (inl e) h = rw e (omega arith)
     go (inr e) h = rw e (omega arith)
 
 pub word-starts : (s : List ℕ) → take (length (upToSpace s)) s ≡ upToSpace s
 unfolding upToSpace
 word-starts [] = refl
-word-starts (b ∷ s) = go (which (eqb b 32)) (word-starts s)
+word-starts (b ∷ s) = go (which (eqb b space)) (word-starts s)
   where
-    go : (eqb b 32 ≡ true) ⊎ (eqb b 32 ≡ false) → take (length (upToSpace s)) s ≡ upToSpace s
+    go : (eqb b space ≡ true) ⊎ (eqb b space ≡ false) → take (length (upToSpace s)) s ≡ upToSpace s
         → take (length (upToSpace (b ∷ s))) (b ∷ s) ≡ upToSpace (b ∷ s)
     go (inl e) h = rw e refl
     go (inr e) h = rw e (ap (λ (x : List ℕ). b ∷ x) h)
@@ -93,9 +94,9 @@ unfolding wordsOk
 words-short s at j k p l = rw p (rw (drop-of-length-le s l) refl)
 
 module _ (s : List ℕ) (at j k : ℕ) (p : k ≡ suc j) (l : at < length s) where
-  words-apart : (getD s at 0 ≡ 32 → ⊥) → wordsOk k (drop at s) ≡ false
+  words-apart : (getD s at 0 ≡ space → ⊥) → wordsOk k (drop at s) ≡ false
   unfolding wordsOk
-  words-apart h = rw p (and-fails-left _ (ne-eqb _ 32 (λ e. h (sym (first-byte s at l) ∙ e))))
+  words-apart h = rw p (and-fails-left _ (ne-eqb _ space (λ e. h (sym (first-byte s at l) ∙ e))))
 
   word-here : firstWord (drop at s) ≡ upToSpace (drop (at + 1) s)
   word-here = ap upToSpace (drop-drop 1 at s)
@@ -103,7 +104,7 @@ module _ (s : List ℕ) (at j k : ℕ) (p : k ≡ suc j) (l : at < length s) whe
   words-bad : largest < numeralValue (upToSpace (drop (at + 1) s)) → wordsOk k (drop at s) ≡ false
   unfolding wordsOk
   words-bad h =
-      rw p (and-fails-right (eqb (getD (drop at s) 0 0) 32) (and-fails-left _ (ap numeralOk word-here ∙ numeral-no (upToSpace (drop (at + 1) s)) h)))
+      rw p (and-fails-right (eqb (getD (drop at s) 0 0) space) (and-fails-left _ (ap numeralOk word-here ∙ numeral-no (upToSpace (drop (at + 1) s)) h)))
 
   module _ (end v : ℕ) (e : end ≡ at + 1 + length (upToSpace (drop (at + 1) s))) (d : v ≡ numeralValue (upToSpace (drop (at + 1) s))) (h : v ≤ largest) where
     read-here : (numeralOk (upToSpace (drop (at + 1) s)) ≡ true) × (numeralValue (upToSpace (drop (at + 1) s)) ≡ valueOf (upToSpace (drop (at + 1) s)))
@@ -114,11 +115,11 @@ module _ (s : List ℕ) (at j k : ℕ) (p : k ≡ suc j) (l : at < length s) whe
         let q : at + (1 + length (upToSpace (drop (at + 1) s))) ≡ end = omega arith in
         ap (λ (w : List ℕ). drop (1 + length w) (drop at s)) word-here ∙ drop-drop (1 + length (upToSpace (drop (at + 1) s))) at s ∙ ap (λ (m : ℕ). drop m s) q
 
-    words-next : getD s at 0 ≡ 32 → wordsOk k (drop at s) ≡ wordsOk j (drop end s)
+    words-next : getD s at 0 ≡ space → wordsOk k (drop at s) ≡ wordsOk j (drop end s)
     unfolding wordsOk
     words-next q =
         ap (λ (m : ℕ). wordsOk m (drop at s)) p
-        ∙ rw (eq-eqb _ 32 (first-byte s at l ∙ q), ap numeralOk word-here ∙ read-here .0) (ap (wordsOk j) rest-here)
+        ∙ rw (eq-eqb _ space (first-byte s at l ∙ q), ap numeralOk word-here ∙ read-here .0) (ap (wordsOk j) rest-here)
 
     values-next : wordsIn k (drop at s) ≡ v ∷ wordsIn j (drop end s)
     unfolding wordsIn
@@ -131,12 +132,12 @@ module _ (s : List ℕ) (at j k : ℕ) (p : k ≡ suc j) (l : at < length s) whe
 -- its invariant
 pub record Reading (s : List ℕ) (count : ℕ) (words : List ℕ) (at i : ℕ) : Type 0 where
   pub some : i ≤ count
-  pub few : count ≤ 12
+  pub few : count ≤ recordSize
   pub inside : at ≤ length s
   pub rest : wordsOk count (drop 1 s) ≡ wordsOk (count - i) (drop at s)
   pub held : placed (wordsIn count (drop 1 s)) ≡ sets words i (wordsIn (count - i) (drop at s))
 
-pub reading : (s : List ℕ) (count : ℕ) → count ≤ 12 → 1 ≤ length s → Reading s count (replicate 12 0) 1 0
+pub reading : (s : List ℕ) (count : ℕ) → count ≤ recordSize → 1 ≤ length s → Reading s count (replicate recordSize 0) 1 0
 reading s count few l = record {
   some = omega arith;
   few = few;
@@ -148,11 +149,11 @@ reading s count few l = record {
 -- what each step may use: the next turn's invariant, and what is returned
 pub record Turn (s : List ℕ) (count : ℕ) (words : List ℕ) (at i : ℕ) : Type 0 where
   pub short : (n : Words) → n ≡ unscanned → i < count → length s ≤ at → n ≡ scanned count (drop 1 s)
-  pub apart : (n : Words) → n ≡ unscanned → i < count → at < length s → (getD s at 0 ≡ 32 → ⊥) → n ≡ scanned count (drop 1 s)
+  pub apart : (n : Words) → n ≡ unscanned → i < count → at < length s → (getD s at 0 ≡ space → ⊥) → n ≡ scanned count (drop 1 s)
   pub fits : (end : ℕ) → end ≡ at + 1 + length (upToSpace (drop (at + 1) s)) → at < length s → end ≤ length s
   pub bad : (n : Words) → n ≡ unscanned → i < count → at < length s → (end v : ℕ) → end ≡ at + 1 + length (upToSpace (drop (at + 1) s))
       → v ≡ numeralValue (take (end - (at + 1)) (drop (at + 1) s)) → largest < v → n ≡ scanned count (drop 1 s)
-  pub next : i < count → at < length s → getD s at 0 ≡ 32 → (end v : ℕ) → end ≡ at + 1 + length (upToSpace (drop (at + 1) s))
+  pub next : i < count → at < length s → getD s at 0 ≡ space → (end v : ℕ) → end ≡ at + 1 + length (upToSpace (drop (at + 1) s))
       → v ≡ numeralValue (take (end - (at + 1)) (drop (at + 1) s)) → v ≤ largest → Reading s count (set words i v) end (i + 1)
   pub more : (n : Words) → n ≡ unscanned → count ≤ i → (at ≡ length s → ⊥) → n ≡ scanned count (drop 1 s)
   pub done : count ≤ i → at ≡ length s → record { ok = true; words = words } ≡ scanned count (drop 1 s)
@@ -184,7 +185,7 @@ module _ (s : List ℕ) (count : ℕ) (words : List ℕ) (at i : ℕ) (w : Readi
     one : count - i ≡ suc (count - (i + 1))
     one = omega arith
 
-    next : at < length s → getD s at 0 ≡ 32 → (end v : ℕ) → end ≡ at + 1 + length (upToSpace (drop (at + 1) s))
+    next : at < length s → getD s at 0 ≡ space → (end v : ℕ) → end ≡ at + 1 + length (upToSpace (drop (at + 1) s))
         → v ≡ numeralValue (upToSpace (drop (at + 1) s)) → v ≤ largest → Reading s count (set words i v) end (i + 1)
     next l q end v e d h = record {
       some = omega arith;
@@ -237,7 +238,7 @@ module _ (kind : Kind) (s : List ℕ) where
           ∙ sym (cond-true _ _ (and-both (ap not (ne-eqb _ 0 n)) d))
       go (inr d) = absurd (true≢false (sym (not-false (w .ok) h) ∙ ap (λ (x : Words). x .ok) (e ∙ cond-false _ _ d)))
 
-pub few-words : (kind : Kind) → wordCount kind ≤ 12
+pub few-words : (kind : Kind) → wordCount kind ≤ recordSize
 few-words Other = omega arith
 few-words Open = omega arith
 few-words Vertex = omega arith
@@ -247,7 +248,7 @@ few-words NoVote = omega arith
 
 -- what each step of `parse` may use of a line with a first byte
 pub record LineKnown (line : List ℕ) (kind : Kind) (count : ℕ) : Type 0 where
-  pub few : count ≤ 12
+  pub few : count ≤ recordSize
   pub none : (o : Command) → o ≡ otherForm → count ≡ 0 → o ≡ commandOf line
   pub bad : (o : Command) → o ≡ otherForm → (w : Words) → w ≡ scanned count (drop 1 line) → not (w .ok) ≡ true → o ≡ commandOf line
   pub good : (count ≡ 0 → ⊥) → (w : Words) → w ≡ scanned count (drop 1 line) → not (w .ok) ≡ false

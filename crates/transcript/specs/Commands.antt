@@ -4,6 +4,7 @@ use mathlib.Core.List.{List}
 use Prim.Native.Nat.{ℕ}
 use lib.Dec.{eqb}
 use lib.ListN.{getD, drop, replicate}
+use Rattle.record.specs.Layout.{recordSize}
 use Rattle.transcript.specs.Grammar.{wordsOk, wordsIn, placed}
 use Rattle.transcript.specs.declared.command.Kind.{Kind}
 use Rattle.transcript.specs.declared.command.Kind.the-variants.{Other, Open, Vertex, First, Timeout, NoVote}
@@ -17,13 +18,13 @@ kindOf b = cond (eqb b 79) Open (cond (eqb b 86) Vertex (cond (eqb b 70) First (
 abbrev pub wordCount : Kind → ℕ
 wordCount Other = 0
 wordCount Open = 1
-wordCount Vertex = 12
-wordCount First = 12
+wordCount Vertex = recordSize
+wordCount First = recordSize
 wordCount Timeout = 2
 wordCount NoVote = 2
 
 abbrev pub otherForm : Command
-otherForm = record { kind = Other; words = replicate 12 0 }
+otherForm = record { kind = Other; words = replicate recordSize 0 }
 
 -- a line of that kind, s what follows its letter
 unfoldable pub commandFrom : Kind → List ℕ → Command

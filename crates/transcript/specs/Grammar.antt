@@ -5,6 +5,7 @@ use Prim.Native.Nat.{ℕ, zero, suc, _+_, _-_, _*_}
 use lib.Dec.{eqb, leb}
 use lib.ListN.{length, getD, drop, replicate}
 use lib.Seq.{sets}
+use Rattle.record.specs.Layout.{recordSize}
 use Rattle.transcript.specs.declared.command.Words.{Words}
 
 abbrev pub space : ℕ
@@ -70,10 +71,10 @@ wordsIn (suc k) s = valueOf (firstWord s) ∷ wordsIn k (afterWord s)
 
 -- the values in the first places of an array, with 0 in the others
 abbrev pub placed : List ℕ → List ℕ
-placed values = sets (replicate 12 0) 0 values
+placed values = sets (replicate recordSize 0) 0 values
 
 abbrev pub unscanned : Words
-unscanned = record { ok = false; words = replicate 12 0 }
+unscanned = record { ok = false; words = replicate recordSize 0 }
 
 unfoldable pub scanned : ℕ → List ℕ → Words
 scanned k s = cond (wordsOk k s) (record { ok = true; words = placed (wordsIn k s) }) unscanned

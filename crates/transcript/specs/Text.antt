@@ -10,21 +10,32 @@ use Rattle.transcript.specs.Grammar.{space, zeroDigit}
 abbrev pub lineFeed : ℕ
 lineFeed = 10
 
+-- a 32-bit number has ten digits at most, and with a space before them that many bytes
+abbrev pub digitCount : ℕ
+digitCount = 10
+
+abbrev pub itemSize : ℕ
+itemSize = 1 + digitCount
+
+-- the numbers of the status
+abbrev pub statusSize : ℕ
+statusSize = 4
+
 -- the last k digits of n, without leading zeros
 unfoldable pub digitsFrom : ℕ → ℕ → List ℕ
 digitsFrom zero n = []
 digitsFrom (suc k) n = cond (eqb n 0) [] (digitsFrom k (n / 10) ++ (zeroDigit + n % 10) ∷ [])
 
--- a 32-bit number in decimal: it has ten digits at most
+-- a 32-bit number in decimal
 unfoldable pub decimal : ℕ → List ℕ
-decimal n = cond (eqb n 0) (zeroDigit ∷ []) (digitsFrom 10 n)
+decimal n = cond (eqb n 0) (zeroDigit ∷ []) (digitsFrom digitCount n)
 
 -- numbers, each after a space
 unfoldable pub items : List ℕ → List ℕ
 items [] = []
 items (n ∷ s) = (space ∷ decimal n) ++ items s
 
--- an answer's number and the four numbers of the status
+-- an answer's number and the numbers of the status
 abbrev pub answerText : ℕ → List ℕ → List ℕ
 answerText number status = decimal number ++ items status ++ lineFeed ∷ []
 

@@ -2,12 +2,14 @@
 ghost use mathlib.Core.Path.{_≡_};
 ghost use Prim.Native.Nat.{_≤_};
 ghost use lib.ListN.{length, drop};
+ghost use Rattle.record.specs.Layout.{recordSize};
 ghost use Rattle.transcript.specs.Grammar.{scanned, unscanned};
 ghost use Rattle.transcript.specs.Commands.{kindOf, wordCount, otherForm, commandOf};
 use super::numeral::LARGEST;
 use super::numeral::SPACE;
 use super::numeral::numeral;
 use super::numeral::word_end;
+use record::layout::RECORD_SIZE;
 
 // Other is a line of another form.
 pub enum Kind {
@@ -22,12 +24,12 @@ pub enum Kind {
 // The words that the kind does not have are 0.
 pub struct Command {
     pub kind: Kind,
-    pub words: [u32; 12],
+    pub words: [u32; RECORD_SIZE],
 }
 
 pub struct Words {
     pub ok: bool,
-    pub words: [u32; 12],
+    pub words: [u32; RECORD_SIZE],
 }
 
 fn kind_of(letter: u8) -> Kind
@@ -49,8 +51,8 @@ fn word_count(kind: Kind) -> usize
     match kind {
         Kind::Other => 0,
         Kind::Open => 1,
-        Kind::Vertex => 12,
-        Kind::First => 12,
+        Kind::Vertex => RECORD_SIZE,
+        Kind::First => RECORD_SIZE,
         Kind::Timeout => 2,
         Kind::NoVote => 2,
     }
@@ -61,7 +63,7 @@ fn other() -> Command
 {
     Command {
         kind: Kind::Other,
-        words: [0; 12],
+        words: [0; RECORD_SIZE],
     }
 }
 
@@ -70,16 +72,16 @@ fn no_words() -> Words
 {
     Words {
         ok: false,
-        words: [0; 12],
+        words: [0; RECORD_SIZE],
     }
 }
 
 // Reads that many words, each after a space, and nothing more.
 fn read_words(line: &[u8], count: usize) -> Words
-    requires { ⌜ (count ≤ 12) × (1 ≤ length (now line)) ⌝ }
+    requires { ⌜ (count ≤ recordSize) × (1 ≤ length (now line)) ⌝ }
     ensures { λ r. ⌜ r ≡ scanned count (drop 1 (now (line .entry))) ⌝ }
 {
-    let mut words = [0u32; 12];
+    let mut words = [0u32; RECORD_SIZE];
     let mut at: usize = 1;
     let mut i: usize = 0;
     while i < count {

@@ -3,7 +3,8 @@ ghost use mathlib.Core.Path.{_≡_};
 ghost use mathlib.Core.List.{[], _∷_};
 ghost use Prim.Native.Nat.{_+_, _*_, _%_, _≤_, _<_};
 ghost use lib.ListN.{length, drop};
-ghost use Rattle.transcript.specs.Text.{decimal, items, answerText, otherText, listText, Appended};
+ghost use Rattle.transcript.specs.Grammar.{zeroDigit};
+ghost use Rattle.transcript.specs.Text.{digitCount, itemSize, decimal, items, answerText, otherText, listText, Appended};
 use super::numeral::SPACE;
 use super::numeral::ZERO;
 
@@ -11,30 +12,41 @@ const LINE_FEED: u8 = 10;
 
 const QUESTION_MARK: u8 = 63;
 
-// The longest line of an answer: five numbers of ten digits, and a space or the line feed after each.
-pub const ANSWER_SIZE: usize = 55;
+// The most digits of a number, and with a space before them.
+const DIGITS: usize = 10;
+
+pub const ITEM_SIZE: usize = 1 + DIGITS;
+
+// The numbers of the status.
+const STATUS_SIZE: usize = 4;
+
+// The longest line of an answer: its number and those of the status, and a space or the line feed after each.
+pub const ANSWER_SIZE: usize = ITEM_SIZE * (1 + STATUS_SIZE);
 
 // The digits stand from `start` on.
 pub struct Digits {
-    pub bytes: [u8; 10],
+    pub bytes: [u8; DIGITS],
     pub start: usize,
 }
 
 fn last_digit(n: u32) -> u8
-    ensures { λ r. ⌜ r ≡ 48 + n % 10 ⌝ }
+    ensures { λ r. ⌜ r ≡ zeroDigit + n % 10 ⌝ }
 {
     ZERO + (n % 10) as u8
 }
 
 fn digits_of(n: u32) -> Digits
-    ensures { λ r. ⌜ (length (r .bytes) ≡ 10) × (r .start ≤ 10) × (drop (r .start) (r .bytes) ≡ decimal n) ⌝ }
+    ensures { λ r. ⌜ (length (r .bytes) ≡ digitCount) × (r .start ≤ digitCount) × (drop (r .start) (r .bytes) ≡ decimal n) ⌝ }
 {
-    let mut bytes = [ZERO; 10];
+    let mut bytes = [ZERO; DIGITS];
     if n == 0 {
-        return Digits { bytes, start: 9 };
+        return Digits {
+            bytes,
+            start: DIGITS - 1,
+        };
     }
     let mut rest = n;
-    let mut i: usize = 10;
+    let mut i: usize = DIGITS;
     while 0 < i {
         if rest == 0 {
             return Digits { bytes, start: i };
@@ -68,7 +80,7 @@ fn put_bytes(out: &mut [u8], at: usize, text: &[u8]) -> usize
 }
 
 fn put_number(out: &mut [u8], at: usize, n: u32) -> usize
-    requires { ⌜ at + 10 ≤ length (now out) ⌝ }
+    requires { ⌜ at + digitCount ≤ length (now out) ⌝ }
     ensures { λ r. ⌜ Appended (now (out .entry)) at (decimal n) (now (out .exit)) r ⌝ }
 {
     let digits = digits_of(n);
@@ -79,7 +91,7 @@ fn put_number(out: &mut [u8], at: usize, n: u32) -> usize
 
 // The numbers, each after a space.
 fn put_items(out: &mut [u8], at: usize, numbers: &[u32]) -> usize
-    requires { ⌜ at + 11 * length (now numbers) ≤ length (now out) ⌝ }
+    requires { ⌜ at + itemSize * length (now numbers) ≤ length (now out) ⌝ }
     ensures { λ r. ⌜ Appended (now (out .entry)) at (items (now (numbers .entry))) (now (out .exit)) r ⌝ }
 {
     let mut end = at;
@@ -94,7 +106,7 @@ fn put_items(out: &mut [u8], at: usize, numbers: &[u32]) -> usize
 
 // The line of an answer: its number, and the numbers of the status.
 pub fn put_answer(out: &mut [u8], at: usize, number: u32, status: &[u32]) -> usize
-    requires { ⌜ at + 11 * (1 + length (now status)) ≤ length (now out) ⌝ }
+    requires { ⌜ at + itemSize * (1 + length (now status)) ≤ length (now out) ⌝ }
     ensures { λ r. ⌜ Appended (now (out .entry)) at (answerText number (now (status .entry))) (now (out .exit)) r ⌝ }
 {
     let first = put_number(out, at, number);
@@ -113,7 +125,7 @@ pub fn put_other(out: &mut [u8], at: usize) -> usize
 
 // A list after its letter.
 pub fn put_list(out: &mut [u8], at: usize, letter: u8, ids: &[u32]) -> usize
-    requires { ⌜ at + 11 * length (now ids) + 2 ≤ length (now out) ⌝ }
+    requires { ⌜ at + itemSize * length (now ids) + 2 ≤ length (now out) ⌝ }
     ensures { λ r. ⌜ Appended (now (out .entry)) at (listText letter (now (ids .entry))) (now (out .exit)) r ⌝ }
 {
     let first = put_byte(out, at, letter);

@@ -9,6 +9,7 @@ use Rattle.replica.proofs.ListLaws.{list-ok, counted, span-none, span-some}
 use Rattle.replica.specs.declared.answer.Answer as inner
 use Rattle.yardbook.specs.Plain.{plain, plainOf}
 use Rattle.yardbook.specs.declared.answer.Answer.{Answer}
+use Rattle.replica.specs.Layout.{stateSize, journalSize, leaderCountAt, journalCountAt}
 
 -- an answer turned into plain numbers says the same outcome
 pub answered : (a : inner.Answer) (r : Answer) (l : List ℕ) (o : Outcome) → r ≡ plainOf a → told a l ≡ o → plain r l ≡ o
@@ -20,12 +21,12 @@ numbered a r l o e d = ap (λ (x : Outcome). x .number) (answered a r l o e d)
 
 -- what is known of a list that is handed over
 pub record HandKnown (l : List ℕ) (k first count : ℕ) : Type 0 where
-  pub size : length l ≡ 5864
+  pub size : length l ≡ stateSize
   pub from : k ≤ count
-  pub few : count ≤ 512
+  pub few : count ≤ journalSize
   pub given : record { number = 0; start = first + k; length = count - k } ≡ handList l k first count
 
-module _ (l : List ℕ) (k number first c : ℕ) (e : number ≡ askList l k (getD l c 0) .number) (from : 3 ≤ c) (to : c ≤ 4) where
+module _ (l : List ℕ) (k number first c : ℕ) (e : number ≡ askList l k (getD l c 0) .number) (from : leaderCountAt ≤ c) (to : c ≤ journalCountAt) where
   -- no words
   pub part-none : (number ≡ 0 → ⊥) → record { number = number; start = 0; length = 0 } ≡ handList l k first (getD l c 0)
   part-none h =

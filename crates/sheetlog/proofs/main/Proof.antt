@@ -1,14 +1,17 @@
 use mathlib.Core.Path.{refl, sym}
+use Prim.Native.Nat.{_*_}
 use native.Mathlib.Omega.{arith}
 use lib.Seq.{length-take-le}
+use Rattle.transcript.specs.Claims.{longestAnswer}
 use Rattle.transcript.proofs.Digits.{appended-fits}
+use Rattle.sheetlog.specs.Blocks.{blockSize}
 use Rattle.sheetlog.proofs.Feeding.{room-first, room-last}
 use borrow.Author.Needs.{needs}
 use Rattle.sheetlog.proofs.main.Statement.{statement}
 use Rattle.sheetlog.proofs.main.Tie as tie
 
 answer-all-requires : tie.Need-answer-all-requires
-answer-all-requires c κs = record { line-size = refl; kept = omega arith; replies = room-first 8192 450560 (omega arith) }
+answer-all-requires c κs = record { line-size = refl; kept = omega arith; replies = room-first blockSize (longestAnswer * blockSize) (omega arith) }
 
 slice-aggregate-answer-end : tie.Need-slice-aggregate-answer-end
 slice-aggregate-answer-end c =

@@ -5,11 +5,12 @@ use mathlib.Core.Path.{_∙_}
 use borrow.Author.Needs.{needs}
 use Rattle.commits.proofs.commit.commit_round.Statement.{statement}
 use Rattle.commits.proofs.commit.commit_round.Tie as tie
+use Rattle.replica.specs.Layout.{committedRoundAt}
 
 known : (c : tie.After-taken-rounds) → let s : tie.Start = search in Taken (s .args .state .now) (s .args .n) (s .args .q) (c .taken-rounds .result)
 known c =
     let p = (let s : tie.Start = search in s .pre) in
-    taken _ _ (p .0 .standing) (p .0 .room) (p .1) (p .0 .few) _ (p .2) (p .3) (p .4) _ (c .taken-rounds .ensures)
+    taken _ _ (p .going .standing) (p .going .room) (p .members) (p .going .few) _ (p .low) (p .high) (p .there) _ (c .taken-rounds .ensures)
 
 append-leaders-requires : tie.Need-append-leaders-requires
 append-leaders-requires c κs =
@@ -28,7 +29,7 @@ same-length : tie.Need-same-length
 same-length c =
     let a : tie.After-append-leaders = search in
     let o : tie.After-order-leaders = search in
-    o .order-leaders .kept .0 ∙ length-set (a .append-leaders .last .0) 2 _ ∙ a .append-leaders .kept .0
+    o .order-leaders .kept .0 ∙ length-set (a .append-leaders .last .0) committedRoundAt _ ∙ a .append-leaders .kept .0
 
 returns : tie.Need-returns
 returns c =

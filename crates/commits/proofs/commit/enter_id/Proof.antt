@@ -1,4 +1,6 @@
-use lib.ListN.{length-set}
+use lib.ListN.{length, length-set}
+use mathlib.Core.Path.{ap}
+use Rattle.replica.specs.State.{addMember}
 use Rattle.commits.specs.Commit.{enter}
 use native.Mathlib.Omega.{arith}
 use borrow.Author.Needs.{needs}
@@ -6,16 +8,18 @@ use Rattle.commits.proofs.commit.enter_id.Statement.{statement}
 use Rattle.commits.proofs.commit.enter_id.Tie as tie
 
 slice-write-state-2 : tie.Need-slice-write-state-2
+unfolding addMember
 slice-write-state-2 c =
     let start : tie.Start = search in
-    simp length-set (omega (arith, c .wide .ensures, start .pre .0, start .pre .3))
+    let marked : tie.After-add-member = search in
+    simp length-set (omega (arith, simp length-set at (ap length (marked .add-member .ensures)), start .pre .0))
 
 returns : tie.Need-returns
-unfolding enter
+unfolding enter addMember
 returns c =
-    let after-power : tie.After-power = search in
+    let marked : tie.After-add-member = search in
     let after-masks-at : tie.After-masks-at = search in
-    rw (c .wide .ensures, after-masks-at .masks-at .ensures, after-power .power .ensures)
+    rw (c .wide .ensures, marked .add-member .ensures, after-masks-at .masks-at .ensures)
 
 pub enter-id-spec : {M : Type 1} → statement M
 enter-id-spec =
@@ -24,16 +28,12 @@ enter-id-spec =
     (λ c. search needs)
     (λ c κs. search needs)
     (λ c. search needs)
-    (λ c. search needs)
-    (λ c. search needs)
+    (λ c κs. search needs)
     (λ c κs. search needs)
     (λ c. search needs)
     (λ c. search needs)
-    (λ c κs. search needs)
     (λ c. search needs)
     (λ c. search needs)
     slice-write-state-2
-    (λ c. search needs)
-    (λ c. search needs)
     (λ c. search needs)
     returns)

@@ -14,7 +14,8 @@ use Rattle.commits.proofs.commit.is_committed.Statement.{statement}
 use Rattle.commits.proofs.commit.is_committed.Tie as tie
 
 -- the first test asks whether the leader's vertex is held, the second whether first messages are enough
-led : (c : tie.After-has) → let a = (let s : tie.Start = search in s .args) in c .has .result ≡ held (vertices (a .state .now)) (a .q) (leader (a .n) (a .q))
+led : (c : tie.After-has-bit) → let a = (let s : tie.Start = search in s .args) in c .has-bit .result
+    ≡ held (vertices (a .state .now)) (a .q) (leader (a .n) (a .q))
 led c =
     let s : tie.Start = search in
     let small = leader-lt (s .args .n) (s .args .q) (omega (arith, s .pre .0 .low)) in
@@ -29,8 +30,8 @@ heard c =
 leader-of-requires : tie.Need-leader-of-requires
 leader-of-requires c κs = let s : tie.Start = search in search needs
 
-has-requires : tie.Need-has-requires
-has-requires c κs = let s : tie.Start = search in let small = leader-small (s .args .n) (s .args .q) (omega arith) in search needs
+has-bit-requires : tie.Need-has-bit-requires
+has-bit-requires c κs = let s : tie.Start = search in let small = leader-small (s .args .n) (s .args .q) (omega arith) in search needs
 
 returns : tie.Need-returns
 returns c = not-led _ _ _ (failed (led (search)) (c .if1 .taken))
@@ -53,7 +54,7 @@ is-committed-spec =
     (tie.spec
     leader-of-requires
     (λ c κs. search needs)
-    has-requires
+    has-bit-requires
     returns
     (λ c. search needs)
     (λ c κs. search needs)

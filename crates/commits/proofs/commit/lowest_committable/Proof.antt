@@ -3,6 +3,7 @@ use Rattle.commits.specs.Commit.{committable}
 use Rattle.replica.specs.State.{committedRound}
 use Rattle.record.specs.Below.{any}
 use Rattle.record.proofs.Below.{any-false, any-less, least-none, least-at}
+use Rattle.record.specs.Members.{rounds}
 use mathlib.Core.Bool.{false}
 use mathlib.Core.Path.{_≡_, sym, _∙_}
 use Prim.Native.Nat.{_≤_, _<_, _-_}
@@ -12,10 +13,10 @@ use Rattle.commits.proofs.commit.lowest_committable.Statement.{statemen
 use Rattle.commits.proofs.commit.lowest_committable.Tie as tie
 
 abbrev Inv-loop : tie.InvT-loop
-Inv-loop state n q₀ q = (committedRound state < q) × (q ≤ 32) × (any q (committable state) ≡ false)
+Inv-loop state n q₀ q = (committedRound state < q) × (q ≤ rounds) × (any q (committable state) ≡ false)
 
 abbrev μ-loop : tie.MeasureT-loop
-μ-loop state n q₀ q = 32 - q
+μ-loop state n q₀ q = rounds - q
 
 loop-holds : tie.Need-loop-holds Inv-loop μ-loop
 loop-holds c =
@@ -28,7 +29,7 @@ returns c =
     let in-loop : tie.In-loop Inv-loop μ-loop = search in
     let at-loop : tie.At-loop Inv-loop μ-loop = search in
     let start : tie.Start Inv-loop μ-loop = search in
-    sym (least-at 32 (committable (start .args .state .now)) (at-loop .loop .q) (in-loop .loop-test .taken) (at-loop .loop .inv .2)
+    sym (least-at rounds (committable (start .args .state .now)) (at-loop .loop .q) (in-loop .loop-test .taken) (at-loop .loop .inv .2)
     (sym (committable-at _ _ (at-loop .loop .q) (start .pre .1) (at-loop .loop .inv .0) (omega arith))
     ∙ (sym (after-is-committed .is-committed .ensures) ∙ c .if1 .taken)))
 
@@ -48,7 +49,7 @@ returns-2 : tie.Need-returns-2 Inv-loop μ-loop
 returns-2 c =
     let at-loop : tie.At-loop Inv-loop μ-loop = search in
     let start : tie.Start Inv-loop μ-loop = search in
-    let e : at-loop .loop .q ≡ 32 = omega arith in sym (least-none 32 (committable (start .args .state .now)) (rw e at (at-loop .loop .inv .2)))
+    let e : at-loop .loop .q ≡ rounds = omega arith in sym (least-none rounds (committable (start .args .state .now)) (rw e at (at-loop .loop .inv .2)))
 
 pub lowest-committable-spec : {M : Type 1} → statement M
 lowest-committable-spec =

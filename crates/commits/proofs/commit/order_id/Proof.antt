@@ -9,7 +9,7 @@ use Rattle.commits.proofs.commit.order_id.Statement.{statement}
 use Rattle.commits.proofs.commit.order_id.Tie as tie
 
 fresh : (c : tie.Else2) → let s : tie.Start = search in orderedId (s .args .state .now) (s .args .id) ≡ false
-fresh c = let o : tie.After-is-ordered = search in sym (o .is-ordered .ensures) ∙ c .if2 .left
+fresh c = let o : tie.After-is-marked = search in sym (o .is-marked .ensures) ∙ c .if2 .left
 
 enter-id-requires : tie.Need-enter-id-requires
 enter-id-requires c κs =
@@ -19,20 +19,20 @@ enter-id-requires c κs =
 
 returns-3 : tie.Need-returns-3
 returns-3 c =
-    let h : tie.After-has = search in
+    let h : tie.After-has-bit = search in
     let e : tie.Else1 = search in
     let o : tie.After-enter-id = search in
-    o .enter-id .ensures ∙ order-new _ _ _ (passed (h .has .ensures) (e .if1 .left)) (fresh (search))
+    o .enter-id .ensures ∙ order-new _ _ _ (passed (h .has-bit .ensures) (e .if1 .left)) (fresh (search))
 
 pub order-id-spec : {M : Type 1} → statement M
 order-id-spec =
     tie.close
     (tie.spec
     (λ c κs. search needs)
-    (λ c. let h : tie.After-has = search in order-out _ _ _ (failed (h .has .ensures) (c .if1 .taken)))
+    (λ c. let h : tie.After-has-bit = search in order-out _ _ _ (failed (h .has-bit .ensures) (c .if1 .taken)))
     (λ c κs. search needs)
     (λ c. search needs)
-    (λ c. let o : tie.After-is-ordered = search in order-old _ _ _ (sym (o .is-ordered .ensures) ∙ c .if2 .taken))
+    (λ c. let o : tie.After-is-marked = search in order-old _ _ _ (sym (o .is-marked .ensures) ∙ c .if2 .taken))
     enter-id-requires
     (λ c. search needs)
     returns-3)

@@ -1,6 +1,7 @@
 -- The loop's invariant: the history's ids of the rounds up to r are ordered. The measure is how many rounds are left.
 use Rattle.commits.proofs.Entering.{Roomy, soFarIn, Growth, growth}
 use Rattle.record.proofs.Masks.{leader-lt}
+use Rattle.record.specs.Members.{slots}
 use mathlib.Core.Path.{_≡_, sym, _∙_}
 use Prim.Native.Nat.{_+_, _*_, _-_, _≤_, _<_}
 use native.Mathlib.Omega.{arith}
@@ -9,7 +10,7 @@ use Rattle.commits.proofs.commit.order_leader.Statement.{statement}
 use Rattle.commits.proofs.commit.order_leader.Tie as tie
 
 abbrev Inv-loop : tie.InvT-loop
-Inv-loop state₀ n round masks r₀ state r = (r ≤ round) × (state ≡ soFarIn n state₀ round (16 * (r + 1)))
+Inv-loop state₀ n round masks r₀ state r = (r ≤ round) × (state ≡ soFarIn n state₀ round (slots * (r + 1)))
 
 abbrev μ-loop : tie.MeasureT-loop
 μ-loop state₀ n round masks r₀ state r = round - r
@@ -17,7 +18,7 @@ abbrev μ-loop : tie.MeasureT-loop
 known : (c : tie.Start Inv-loop μ-loop) → Growth (c .args .n) (c .args .state .now) (c .args .round)
 known c = let p = c .pre in growth _ _ _ (p .standing) (p .room) (p .members) (p .high) (p .there)
 
-small : (c : tie.After-leader-of Inv-loop μ-loop) → c .leader-of .result < 16
+small : (c : tie.After-leader-of Inv-loop μ-loop) → c .leader-of .result < slots
 small c =
     let s : tie.Start Inv-loop μ-loop = search in
     omega (arith, leader-lt (s .args .n) (s .args .round) (omega (arith, s .pre .standing .low)), s .pre .standing .high)

@@ -7,12 +7,13 @@ use native.Mathlib.Omega.{arith}
 use borrow.Author.Needs.{needs}
 use Rattle.commits.proofs.commit.order_leaders.Statement.{statement}
 use Rattle.commits.proofs.commit.order_leaders.Tie as tie
+use Rattle.record.specs.Members.{rounds}
 
 abbrev Inv-loop : tie.InvT-loop
-Inv-loop state₀ n taken rounds r₀ state r = (1 ≤ r) × (r ≤ 32) × Ordering n state₀ taken r state
+Inv-loop state₀ n taken r₀ state r = (1 ≤ r) × (r ≤ rounds) × Ordering n state₀ taken r state
 
 abbrev μ-loop : tie.MeasureT-loop
-μ-loop state₀ n taken rounds r₀ state r = 32 - r
+μ-loop state₀ n taken r₀ state r = rounds - r
 
 loop-holds : tie.Need-loop-holds Inv-loop μ-loop
 loop-holds c =
@@ -29,19 +30,19 @@ order-leader-requires c κs =
 loop-again : tie.Need-loop-again Inv-loop μ-loop
 loop-again c =
     let a : tie.At-loop Inv-loop μ-loop = search in
-    let h : tie.After-has Inv-loop μ-loop = search in (
+    let h : tie.After-has-bit Inv-loop μ-loop = search in (
       omega arith,
       omega arith,
       ⊎-elim
-          (λ w. ordering-in _ _ _ _ _ _ (a .loop .inv .2) (omega arith) (sym (h .has .ensures) ∙ w .0 .taken) (w .5 ∙ w .2 .ensures))
-          (λ w. ordering-out _ _ _ _ _ _ (a .loop .inv .2) (sym (h .has .ensures) ∙ w .0 .left) (w .1))
+          (λ w. ordering-in _ _ _ _ _ _ (a .loop .inv .2) (omega arith) (sym (h .has-bit .ensures) ∙ w .0 .taken) (w .5 ∙ w .2 .ensures))
+          (λ w. ordering-out _ _ _ _ _ _ (a .loop .inv .2) (sym (h .has-bit .ensures) ∙ w .0 .left) (w .1))
           (c .if1 .came),
     )
 
 returns : tie.Need-returns Inv-loop μ-loop
 returns c =
     let a : tie.At-loop Inv-loop μ-loop = search in
-    let e : a .loop .r ≡ 32 = omega arith in
+    let e : a .loop .r ≡ rounds = omega arith in
     rw e at (a .loop .inv .2 .is)
 
 pub order-leaders-spec : {M : Type 1} → statement M

@@ -9,12 +9,13 @@ use borrow.Author.Needs.{needs}
 use borrow.Author.Tests.{eq-eqb}
 use Rattle.commits.proofs.commit.order_round.Statement.{statement}
 use Rattle.commits.proofs.commit.order_round.Tie as tie
+use Rattle.record.specs.Members.{slots}
 
 abbrev Inv-loop : tie.InvT-loop
-Inv-loop state₀ n mask round p₀ state p = (p ≤ 16) × (state ≡ orderRound state₀ mask round p)
+Inv-loop state₀ mask round p₀ state p = (p ≤ slots) × (state ≡ orderRound state₀ mask round p)
 
 abbrev μ-loop : tie.MeasureT-loop
-μ-loop state₀ n mask round p₀ state p = 16 - p
+μ-loop state₀ mask round p₀ state p = slots - p
 
 known : (c : tie.At-loop Inv-loop μ-loop) → Roomy (c .loop .state)
 known c =
@@ -24,8 +25,8 @@ known c =
 returns : tie.Need-returns Inv-loop μ-loop
 returns c =
     let s : tie.Start Inv-loop μ-loop = search in
-    let m : tie.After-ordered-mask Inv-loop μ-loop = search in
-    round-old _ _ _ 16 (s .pre .1) (s .pre .2) (omega arith) (eq-eqb _ _ (rw (m .ordered-mask .ensures) at (c .if1 .taken)))
+    let m : tie.After-mask-of Inv-loop μ-loop = search in
+    round-old _ _ _ slots (s .pre .1) (s .pre .2) (omega arith) (eq-eqb _ _ (rw (m .mask-of .ensures) at (c .if1 .taken)))
 
 loop-again : tie.Need-loop-again Inv-loop μ-loop
 loop-again c =
@@ -36,7 +37,7 @@ loop-again c =
 returns-2 : tie.Need-returns-2 Inv-loop μ-loop
 returns-2 c =
     let a : tie.At-loop Inv-loop μ-loop = search in
-    let e : a .loop .p ≡ 16 = omega arith in
+    let e : a .loop .p ≡ slots = omega arith in
     rw e at (a .loop .inv .1)
 
 pub order-round-spec : {M : Type 1} → statement M

@@ -30,9 +30,9 @@ loop-again : tie.Need-loop-again Inv-loop μ-loop
 loop-again c =
     let a : tie.At-loop Inv-loop μ-loop = search in
     let s : tie.Start Inv-loop μ-loop = search in
-    let h : tie.After-has Inv-loop μ-loop = search in
+    let h : tie.After-has-bit Inv-loop μ-loop = search in
     let k = known (search) in
-    let e = sym (rw (s .pre .3) at (h .has .ensures)) in (
+    let e = sym (rw (s .pre .3) at (h .has-bit .ensures)) in (
       omega arith,
       ⊎-elim
           (λ w. voter-in _ _ _ _ _ k _ _ (a .loop .inv .1) (e ∙ w .0 .taken) (w .2 ∙ w .1 .ensures))

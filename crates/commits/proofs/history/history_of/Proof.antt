@@ -1,25 +1,26 @@
 use Rattle.commits.proofs.Laws.{history-start}
 use Rattle.protocol.specs.Masks.{fill, historyMasks}
+use Rattle.record.specs.Members.{rounds}
 use Rattle.replica.specs.State.{vertices}
 use Rattle.commits.proofs.Laws.{fill-none, fill-step}
 use mathlib.Core.Path.{_≡_, sym, ap, _∙_}
 use mathlib.Core.List.{List}
-use Prim.Native.Nat.{ℕ, _≤_, _-_}
+use Prim.Native.Nat.{ℕ, _<_, _-_}
 use native.Mathlib.Omega.{arith}
 use borrow.Author.Needs.{needs}
 use Rattle.commits.proofs.history.history_of.Statement.{statement}
 use Rattle.commits.proofs.history.history_of.Tie as tie
 
 abbrev Inv-loop : tie.InvT-loop
-Inv-loop state n round member masks₀ at k₀ masks k = (k ≤ 31) × (historyMasks n (vertices state) round member ≡ fill n (vertices state) masks k)
+Inv-loop state n round member masks₀ k₀ masks k = (k < rounds) × (historyMasks n (vertices state) round member ≡ fill n (vertices state) masks k)
 
 abbrev μ-loop : tie.MeasureT-loop
-μ-loop state n round member masks₀ at k₀ masks k = k
+μ-loop state n round member masks₀ k₀ masks k = k
 
 loop-holds : tie.Need-loop-holds Inv-loop μ-loop
 loop-holds c =
-    let after-wide : tie.After-wide Inv-loop μ-loop = search in
-    (omega arith, history-start _ _ _ _ _ _ (after-wide .wide .ensures ∙ omega arith) (c .power .ensures))
+    let s : tie.Start Inv-loop μ-loop = search in
+    (omega arith, history-start _ _ _ _ _ (s .pre .4) (c .join-id .ensures))
 
 loop-again : tie.Need-loop-again Inv-loop μ-loop
 loop-again c =
@@ -45,12 +46,8 @@ history-of-spec =
     Inv-loop
     μ-loop
     (λ c. search needs)
-    (λ c κs. search needs)
-    (λ c. search needs)
     (λ c. search needs)
     (λ c κs. search needs)
-    (λ c. search needs)
-    (λ c. search needs)
     (λ c. search needs)
     loop-holds
     (λ c. search needs)

@@ -7,7 +7,7 @@ returns : tie.Need-returns
 unfolding join
 returns c =
     let after-wide : tie.After-wide = search in
-    rw (after-wide .wide .ensures, c .power .ensures)
+    rw (c .with .ensures, after-wide .wide .ensures)
 
 pub join-id-spec : {M : Type 1} → statement M
 join-id-spec =

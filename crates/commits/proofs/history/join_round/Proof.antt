@@ -20,11 +20,11 @@ loop-again : tie.Need-loop-again Inv-loop μ-loop
 loop-again c =
     let a : tie.At-loop Inv-loop μ-loop = search in
     let w : tie.After-wide Inv-loop μ-loop = search in
-    let h : tie.After-has Inv-loop μ-loop = search in (
+    let h : tie.After-has-bit Inv-loop μ-loop = search in (
       omega arith,
       ⊎-elim
-          (λ t. join-round-in _ _ _ _ _ _ _ (a .loop .inv .1) (w .wide .ensures) (sym (h .has .ensures) ∙ t .0 .taken) (t .3 ∙ t .2 .ensures))
-          (λ t. join-round-out _ _ _ _ _ _ _ (a .loop .inv .1) (w .wide .ensures) (sym (h .has .ensures) ∙ t .0 .left) (t .1))
+          (λ t. join-round-in _ _ _ _ _ _ _ (a .loop .inv .1) (w .wide .ensures) (sym (h .has-bit .ensures) ∙ t .0 .taken) (t .3 ∙ t .2 .ensures))
+          (λ t. join-round-out _ _ _ _ _ _ _ (a .loop .inv .1) (w .wide .ensures) (sym (h .has-bit .ensures) ∙ t .0 .left) (t .1))
           (c .if1 .came),
     )
 

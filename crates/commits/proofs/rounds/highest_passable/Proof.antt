@@ -6,9 +6,10 @@ use Prim.Native.Nat.{_≤_, _-_}
 use borrow.Author.Needs.{needs}
 use Rattle.commits.proofs.rounds.highest_passable.Statement.{statement}
 use Rattle.commits.proofs.rounds.highest_passable.Tie as tie
+use Rattle.record.specs.Members.{rounds}
 
 abbrev Inv-loop : tie.InvT-loop
-Inv-loop state n round₀ round = (round ≤ 32) × (highestPassable state 32 ≡ highestPassable state round)
+Inv-loop state n round₀ round = (round ≤ rounds) × (highestPassable state rounds ≡ highestPassable state round)
 
 abbrev μ-loop : tie.MeasureT-loop
 μ-loop state n round₀ round = round

@@ -15,13 +15,13 @@ abbrev held : tie.Start → ℕ
 held s = heldMask (s .args .state .now) (s .args .round)
 
 many : (c : tie.After-meets-quorum) → let s : tie.Start = search in c .meets-quorum .result ≡ meets (s .args .n) (held s)
-many c = let m : tie.After-held-mask = search in rw (m .held-mask .ensures) at (c .meets-quorum .ensures)
+many c = let m : tie.After-mask-of = search in rw (m .mask-of .ensures) at (c .meets-quorum .ensures)
 
 led : (c : tie.After-has) → let s : tie.Start = search in c .has .result ≡ has (held s) (leader (s .args .n) (s .args .round))
 led c =
-    let m : tie.After-held-mask = search in
+    let m : tie.After-mask-of = search in
     let p : tie.After-leader-of = search in
-    rw (m .held-mask .ensures, p .leader-of .ensures) at (c .has .ensures)
+    rw (m .mask-of .ensures, p .leader-of .ensures) at (c .has .ensures)
 
 returns : tie.Need-returns
 returns c = let s : tie.Start = search in passable-few _ _ _ (s .pre .1) (failed (many (search)) (c .if1 .taken))
@@ -39,9 +39,9 @@ returns-3 : tie.Need-returns-3
 returns-3 c =
     let s : tie.Start = search in
     let e : tie.Else1 = search in
-    let t : tie.After-timeouts-mask = search in
+    let t : tie.After-mask-of2 = search in
     let d : tie.Else2 = search in
-    rw (t .timeouts-mask .ensures) at (c .meets-quorum2 .ensures)
+    rw (t .mask-of2 .ensures) at (c .meets-quorum2 .ensures)
     ∙ passable-late _ _ _ (s .pre .1) (passed (many (search)) (e .if1 .left)) (sym (led (search)) ∙ d .if2 .left)
 
 pub is-passable-spec : {M : Type 1} → statement M

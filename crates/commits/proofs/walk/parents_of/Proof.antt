@@ -11,21 +11,21 @@ use Rattle.commits.proofs.walk.parents_of.Statement.{statement}
 use Rattle.commits.proofs.walk.parents_of.Tie as tie
 
 abbrev Inv-loop : tie.InvT-loop
-Inv-loop state n round mask members joined₀ p₀ joined p = (p ≤ n) × (joined ≡ parents (vertices state) round mask p)
+Inv-loop state n round mask joined₀ p₀ joined p = (p ≤ n) × (joined ≡ parents (vertices state) round mask p)
 
 abbrev μ-loop : tie.MeasureT-loop
-μ-loop state n round mask members joined₀ p₀ joined p = n - p
+μ-loop state n round mask joined₀ p₀ joined p = n - p
 
 loop-again : tie.Need-loop-again Inv-loop μ-loop
 loop-again c =
     let s : tie.Start Inv-loop μ-loop = search in
     let a : tie.At-loop Inv-loop μ-loop = search in
-    let h : tie.After-has Inv-loop μ-loop = search in (
+    let h : tie.After-has-bit Inv-loop μ-loop = search in (
       omega arith,
       ⊎-elim
           (λ w. let k = cell-known _ (s .pre .0) _ _ _ (s .pre .2) (s .pre .3) (omega (arith, s .pre .0 .high)) (w .1 .ensures) in
-          parents-in _ _ _ _ _ _ _ k (a .loop .inv .1) (sym (h .has .ensures) ∙ w .0 .taken) (w .3))
-          (λ w. parents-out _ _ _ _ _ _ (a .loop .inv .1) (sym (h .has .ensures) ∙ w .0 .left) (w .1))
+          parents-in _ _ _ _ _ _ _ k (a .loop .inv .1) (sym (h .has-bit .ensures) ∙ w .0 .taken) (w .3))
+          (λ w. parents-out _ _ _ _ _ _ (a .loop .inv .1) (sym (h .has-bit .ensures) ∙ w .0 .left) (w .1))
           (c .if1 .came),
     )
 

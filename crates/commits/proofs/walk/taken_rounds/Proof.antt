@@ -35,14 +35,14 @@ loop-again c =
     let a : tie.At-loop Inv-loop μ-loop = search in
     let b : tie.After-parents-of Inv-loop μ-loop = search in
     let p : tie.After-leader-of2 Inv-loop μ-loop = search in
-    let h : tie.After-has Inv-loop μ-loop = search in
+    let h : tie.After-has-bit Inv-loop μ-loop = search in
     let k = known (search) in (
       omega arith,
       ⊎-elim
           (λ w. k .took _ _ _ _ _ _ _ _ (i .loop-test .taken) (a .loop .inv .1) (b .parents-of .ensures) (p .leader-of2 .ensures)
-          (h .has .ensures) (w .0 .taken) (w .1 .ensures) (w .2 .ensures) _ _ (w .3) (w .4))
+          (h .has-bit .ensures) (w .0 .taken) (w .1 .ensures) (w .2 .ensures) _ _ (w .3) (w .4))
           (λ w. k .passed _ _ _ _ _ _ (i .loop-test .taken) (a .loop .inv .1) (b .parents-of .ensures) (p .leader-of2 .ensures)
-          (h .has .ensures) (w .0 .left) _ _ (w .1) (w .2))
+          (h .has-bit .ensures) (w .0 .left) _ _ (w .1) (w .2))
           (c .if1 .came),
     )
 

@@ -8,17 +8,19 @@ use native.Mathlib.Omega.{arith}
 use borrow.Author.Needs.{needs}
 use Rattle.record.proofs.questions.check.Statement.{statement}
 use Rattle.record.proofs.questions.check.Tie as tie
+use Rattle.record.specs.Layout.{bodySize, bodyPlace}
 
 returns : tie.Need-returns
 unfolding recordQuestions
 returns c =
     let start : tie.Start = search in
-    stop _ _ (ne-eqb (length (drop 2 (start .args .rec .now))) 10 (λ e. c .if1 .taken (omega (arith, length-drop 2 (start .args .rec .now), e))))
+    stop _ _ (ne-eqb (length (drop bodyPlace (start .args .rec .now))) bodySize
+    (λ e. c .if1 .taken (omega (arith, length-drop bodyPlace (start .args .rec .now), e))))
 
 returns-2 : tie.Need-returns-2
 returns-2 c =
     let start : tie.Start = search in
-    rw (take-all 10 (drop 2 (start .args .rec .now)) (omega (arith, length-drop 2 (start .args .rec .now)))) at (c .check-body .ensures)
+    rw (take-all bodySize (drop bodyPlace (start .args .rec .now)) (omega (arith, length-drop bodyPlace (start .args .rec .now)))) at (c .check-body .ensures)
 
 pub check-spec : {M : Type 1} → statement M
 check-spec =

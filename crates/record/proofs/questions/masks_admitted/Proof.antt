@@ -1,7 +1,8 @@
 -- `masks-strong`, `masks-lacking` and `masks-full` of `Parts`.
-use Rattle.record.specs.Questions.{allWithin, strongOk, quorumIf, masksAdmitted}
+use Rattle.record.specs.Questions.{allWithin, strongOk, quorumIf}
 use Rattle.record.specs.Layout.{strongOf, timeoutsOf, noVotesOf}
 use Rattle.record.specs.Members.{leader, within, meets}
+use Rattle.record.specs.Inner.{masksAdmitted}
 use Rattle.record.specs.declared.questions.Terms.{Terms}
 use Rattle.record.proofs.Booleans.{passed, failed, and-fails-left}
 use Rattle.record.proofs.Parts.{masks-strong, masks-lacking, masks-full}

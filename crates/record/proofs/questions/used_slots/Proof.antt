@@ -1,6 +1,7 @@
 use borrow.Author.Tests.{le-leb, lt-leb}
 use borrow.Author.Needs.{needs}
-use Rattle.record.specs.Layout.{weakCountOf, usedSlots}
+use Rattle.record.specs.Layout.{weakCountOf}
+use Rattle.record.specs.Inner.{usedSlots}
 use Rattle.record.proofs.questions.used_slots.Statement.{statement}
 use Rattle.record.proofs.questions.used_slots.Tie as tie
 

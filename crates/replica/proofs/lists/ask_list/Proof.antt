@@ -5,8 +5,9 @@ use borrow.Author.Needs.{needs}
 use Rattle.replica.proofs.ListLaws.{ask-state, ask-size, ask-past, ask-done}
 use Rattle.replica.proofs.lists.ask_list.Statement.{statement}
 use Rattle.replica.proofs.lists.ask_list.Tie as tie
+use Rattle.replica.specs.Layout.{stateSize}
 
-known : (c : tie.Else1) → let s : tie.Start = search in length (s .args .state .now) ≡ 5864
+known : (c : tie.Else1) → let s : tie.Start = search in length (s .args .state .now) ≡ stateSize
 known c = search ask-size
 
 pub ask-list-spec : {M : Type 1} → statement M

@@ -13,10 +13,10 @@ use Rattle.replica.proofs.parents.weak_held.Statement.{statement}
 use Rattle.replica.proofs.parents.weak_held.Tie as tie
 
 abbrev Inv-loop : tie.InvT-loop
-Inv-loop state body n count i₀ i = (i ≤ count) × (count ≡ weakCountOf body) × (all i (λ k. heldId state (weakOf body k)) ≡ true)
+Inv-loop state body count i₀ i = (i ≤ count) × (count ≡ weakCountOf body) × (all i (λ k. heldId state (weakOf body k)) ≡ true)
 
 abbrev μ-loop : tie.MeasureT-loop
-μ-loop state body n count i₀ i = count - i
+μ-loop state body count i₀ i = count - i
 
 loop-holds : tie.Need-loop-holds Inv-loop μ-loop
 unfolding weakCountOf
@@ -25,16 +25,16 @@ loop-holds c = let w : tie.After-wide Inv-loop μ-loop = search in (omega arith,
 returns : tie.Need-returns Inv-loop μ-loop
 unfolding weakOf
 returns c =
-    let d : tie.After-is-held Inv-loop μ-loop = search in
+    let d : tie.After-is-marked Inv-loop μ-loop = search in
     let s : tie.Start Inv-loop μ-loop = search in
-    all-no _ (λ k. heldId (s .args .state .now) (weakOf (s .args .body .now) k)) _ _ (omega arith) (d .is-held .ensures) (c .if1 .taken)
+    all-no _ (λ k. heldId (s .args .state .now) (weakOf (s .args .body .now) k)) _ _ (omega arith) (d .is-marked .ensures) (c .if1 .taken)
 
 loop-again : tie.Need-loop-again Inv-loop μ-loop
 unfolding weakOf
 loop-again c =
-    let d : tie.After-is-held Inv-loop μ-loop = search in
+    let d : tie.After-is-marked Inv-loop μ-loop = search in
     let a : tie.At-loop Inv-loop μ-loop = search in
-    (omega arith, a .loop .inv .1, all-yes _ _ _ (a .loop .inv .2) (d .is-held .ensures) (c .if1 .left))
+    (omega arith, a .loop .inv .1, all-yes _ _ _ (a .loop .inv .2) (d .is-marked .ensures) (c .if1 .left))
 
 returns-2 : tie.Need-returns-2 Inv-loop μ-loop
 returns-2 c =
@@ -48,7 +48,6 @@ weak-held-spec =
     (tie.spec
     Inv-loop
     μ-loop
-    (λ c. search needs)
     (λ c. search needs)
     (λ c κs. search needs)
     loop-holds

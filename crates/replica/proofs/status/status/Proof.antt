@@ -7,11 +7,12 @@ use borrow.Author.Needs.{needs}
 use Rattle.replica.proofs.StatusLaws.{state-ok, head-refused, head-done}
 use Rattle.replica.proofs.status.status.Statement.{statement}
 use Rattle.replica.proofs.status.status.Tie as tie
+use Rattle.replica.specs.Layout.{stateSize}
 
 abbrev words : tie.Start → List ℕ
 words s = s .args .state .now
 
-known : (c : tie.Else1) → length (words (search)) ≡ 5864
+known : (c : tie.Else1) → length (words (search)) ≡ stateSize
 known c = state-ok (words (search)) (cc) .0
 
 pub status-spec : {M : Type 1} → statement M

@@ -9,42 +9,43 @@ use borrow.Author.Tests.{eq-eqb, ne-eqb}
 use borrow.Author.Needs.{needs}
 use Rattle.record.specs.Below.{all}
 use Rattle.record.proofs.Below.{all-none, all-more, all-stop}
+use Rattle.record.specs.Members.{rounds}
 use Rattle.replica.specs.State.{orderedMask}
 use Rattle.replica.proofs.wellformed.all_marked.Statement.{statement}
 use Rattle.replica.proofs.wellformed.all_marked.Tie as tie
 
 abbrev Inv-loop : tie.InvT-loop
-Inv-loop state marks i₀ i = (i ≤ 32) × (all i (λ k. eqb (getD marks k 0) (orderedMask state (k + 1))) ≡ true)
+Inv-loop state marks i₀ i = (i ≤ rounds) × (all i (λ k. eqb (getD marks k 0) (orderedMask state (k + 1))) ≡ true)
 
 abbrev μ-loop : tie.MeasureT-loop
-μ-loop state marks i₀ i = 32 - i
+μ-loop state marks i₀ i = rounds - i
 
 loop-holds : tie.Need-loop-holds Inv-loop μ-loop
 loop-holds c = (omega arith, all-none _)
 
 returns : tie.Need-returns Inv-loop μ-loop
 returns c =
-    let after-ordered-mask : tie.After-ordered-mask Inv-loop μ-loop = search in
+    let after-mask-of : tie.After-mask-of Inv-loop μ-loop = search in
     let after-wide : tie.After-wide Inv-loop μ-loop = search in
     let at-loop : tie.At-loop Inv-loop μ-loop = search in
     let start : tie.Start Inv-loop μ-loop = search in
-    sym (all-stop 32 (λ k. eqb (getD (start .args .t2) k 0) (orderedMask (start .args .state .now) (k + 1))) (at-loop .loop .i) (omega arith)
-    (ne-eqb _ _ (rw (after-ordered-mask .ordered-mask .ensures, after-wide .wide .ensures) at (c .if1 .taken))))
+    sym (all-stop rounds (λ k. eqb (getD (start .args .t2) k 0) (orderedMask (start .args .state .now) (k + 1))) (at-loop .loop .i) (omega arith)
+    (ne-eqb _ _ (rw (after-mask-of .mask-of .ensures, after-wide .wide .ensures) at (c .if1 .taken))))
 
 loop-again : tie.Need-loop-again Inv-loop μ-loop
 loop-again c =
-    let after-ordered-mask : tie.After-ordered-mask Inv-loop μ-loop = search in
+    let after-mask-of : tie.After-mask-of Inv-loop μ-loop = search in
     let after-wide : tie.After-wide Inv-loop μ-loop = search in
     let at-loop : tie.At-loop Inv-loop μ-loop = search in (
       omega arith,
       all-more _ _ (at-loop .loop .inv .1)
-          (eq-eqb _ _ (rw (after-ordered-mask .ordered-mask .ensures, after-wide .wide .ensures) at (c .if1 .left))),
+          (eq-eqb _ _ (rw (after-mask-of .mask-of .ensures, after-wide .wide .ensures) at (c .if1 .left))),
     )
 
 returns-2 : tie.Need-returns-2 Inv-loop μ-loop
 returns-2 c =
     let at-loop : tie.At-loop Inv-loop μ-loop = search in
-    let e : at-loop .loop .i ≡ 32 = omega arith in sym (rw e at (at-loop .loop .inv .1))
+    let e : at-loop .loop .i ≡ rounds = omega arith in sym (rw e at (at-loop .loop .inv .1))
 
 pub all-marked-spec : {M : Type 1} → statement M
 all-marked-spec =

@@ -7,15 +7,16 @@ use borrow.Author.Needs.{needs}
 use Rattle.record.specs.Below.{all}
 use Rattle.record.proofs.Booleans.{passed, failed}
 use Rattle.record.proofs.Below.{all-none, all-more, all-stop}
+use Rattle.record.specs.Members.{rounds, slots}
 use Rattle.replica.specs.WellFormed.{cellOk}
 use Rattle.replica.proofs.wellformed.cells_ok.Statement.{statement}
 use Rattle.replica.proofs.wellformed.cells_ok.Tie as tie
 
 abbrev Inv-loop : tie.InvT-loop
-Inv-loop state i₀ i = (i ≤ 32) × (all i (λ k. all 16 (cellOk state (k + 1))) ≡ true)
+Inv-loop state i₀ i = (i ≤ rounds) × (all i (λ k. all slots (cellOk state (k + 1))) ≡ true)
 
 abbrev μ-loop : tie.MeasureT-loop
-μ-loop state i₀ i = 32 - i
+μ-loop state i₀ i = rounds - i
 
 loop-holds : tie.Need-loop-holds Inv-loop μ-loop
 loop-holds c = (omega arith, all-none _)
@@ -30,7 +31,7 @@ returns c =
     let after-round-cells-ok : tie.After-round-cells-ok Inv-loop μ-loop = search in
     let at-loop : tie.At-loop Inv-loop μ-loop = search in
     let start : tie.Start Inv-loop μ-loop = search in
-    sym (all-stop 32 (λ k. all 16 (cellOk (start .args .state .now) (k + 1))) (at-loop .loop .i) (omega arith)
+    sym (all-stop rounds (λ k. all slots (cellOk (start .args .state .now) (k + 1))) (at-loop .loop .i) (omega arith)
     (failed (after-round-cells-ok .round-cells-ok .ensures) (c .if1 .taken)))
 
 loop-again : tie.Need-loop-again Inv-loop μ-loop
@@ -42,7 +43,7 @@ loop-again c =
 returns-2 : tie.Need-returns-2 Inv-loop μ-loop
 returns-2 c =
     let at-loop : tie.At-loop Inv-loop μ-loop = search in
-    let e : at-loop .loop .i ≡ 32 = omega arith in sym (rw e at (at-loop .loop .inv .1))
+    let e : at-loop .loop .i ≡ rounds = omega arith in sym (rw e at (at-loop .loop .inv .1))
 
 pub cells-ok-spec : {M : Type 1} → statement M
 cells-ok-spec =

@@ -10,23 +10,27 @@ use Rattle.replica.proofs.wellformed.leader_ok.Tie as tie
 returns : tie.Need-returns
 unfolding leaderOk
 returns c =
-    let after-is-held : tie.After-is-held = search in
-    simp (failed (after-is-held .is-held .ensures) (c .if1 .taken))
+    let after-is-marked : tie.After-is-marked = search in
+    simp (failed (after-is-marked .is-marked .ensures) (c .if1 .taken))
 
 leader-of-requires : tie.Need-leader-of-requires
 leader-of-requires c κs =
-    let after-is-held : tie.After-is-held = search in
+    let after-is-marked : tie.After-is-marked = search in
     let start : tie.Start = search in
-    (start .pre .2, round-range _ (and-left _ _ (passed (after-is-held .is-held .ensures) (c .if1 .left))) .0)
+    (start .pre .2, round-range _ (and-left _ _ (passed (after-is-marked .is-marked .ensures) (c .if1 .left))) .0)
 
 returns-2 : tie.Need-returns-2
 unfolding leaderOk
 returns-2 c =
     let after-leader-of : tie.After-leader-of = search in
     let else1 : tie.Else1 = search in
-    let after-is-held : tie.After-is-held = search in
+    let after-is-marked : tie.After-is-marked = search in
     let start : tie.Start = search in
-    simp (passed (after-is-held .is-held .ensures) (else1 .if1 .left), ne-eqb _ _ (rw (after-leader-of .leader-of .ensures, start .pre .1) at (c .if2 .taken)))
+    simp (
+      passed (after-is-marked .is-marked .ensures) (else1 .if1 .left),
+      ne-eqb _ _ (rw (after-leader-of .leader-of .ensures, start .pre .1) at
+          (c .if2 .taken)),
+    )
 
 returns-3 : tie.Need-returns-3
 unfolding leaderOk
@@ -34,10 +38,10 @@ returns-3 c =
     let else2 : tie.Else2 = search in
     let after-leader-of : tie.After-leader-of = search in
     let else1 : tie.Else1 = search in
-    let after-is-held : tie.After-is-held = search in
+    let after-is-marked : tie.After-is-marked = search in
     let start : tie.Start = search in
     simp (
-      passed (after-is-held .is-held .ensures) (else1 .if1 .left),
+      passed (after-is-marked .is-marked .ensures) (else1 .if1 .left),
       eq-eqb _ _ (rw (after-leader-of .leader-of .ensures, start .pre .1) at (else2 .if2 .left)),
       eq-eqb _ _ (c .if3 .taken),
     )
@@ -49,10 +53,10 @@ returns-4 c =
     let else2 : tie.Else2 = search in
     let after-leader-of : tie.After-leader-of = search in
     let else1 : tie.Else1 = search in
-    let after-is-held : tie.After-is-held = search in
+    let after-is-marked : tie.After-is-marked = search in
     let start : tie.Start = search in
     simp (
-      passed (after-is-held .is-held .ensures) (else1 .if1 .left),
+      passed (after-is-marked .is-marked .ensures) (else1 .if1 .left),
       eq-eqb _ _ (rw (after-leader-of .leader-of .ensures, start .pre .1) at (else2 .if2 .left)),
       ne-eqb _ _ (else3 .if3 .left),
     )

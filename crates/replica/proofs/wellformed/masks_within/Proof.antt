@@ -7,15 +7,16 @@ use borrow.Author.Needs.{needs}
 use Rattle.record.specs.Below.{all}
 use Rattle.record.proofs.Booleans.{passed, failed}
 use Rattle.record.proofs.Below.{all-none, all-more, all-stop}
+use Rattle.record.specs.Members.{rounds}
 use Rattle.replica.specs.WellFormed.{masksWithin}
 use Rattle.replica.proofs.wellformed.masks_within.Statement.{statement}
 use Rattle.replica.proofs.wellformed.masks_within.Tie as tie
 
 abbrev Inv-loop : tie.InvT-loop
-Inv-loop state i₀ i = (i ≤ 32) × (all i (λ k. masksWithin state (k + 1)) ≡ true)
+Inv-loop state i₀ i = (i ≤ rounds) × (all i (λ k. masksWithin state (k + 1)) ≡ true)
 
 abbrev μ-loop : tie.MeasureT-loop
-μ-loop state i₀ i = 32 - i
+μ-loop state i₀ i = rounds - i
 
 loop-holds : tie.Need-loop-holds Inv-loop μ-loop
 loop-holds c = (omega arith, all-none _)
@@ -25,7 +26,7 @@ returns c =
     let after-round-within : tie.After-round-within Inv-loop μ-loop = search in
     let at-loop : tie.At-loop Inv-loop μ-loop = search in
     let start : tie.Start Inv-loop μ-loop = search in
-    sym (all-stop 32 (λ k. masksWithin (start .args .state .now) (k + 1)) (at-loop .loop .i) (omega arith)
+    sym (all-stop rounds (λ k. masksWithin (start .args .state .now) (k + 1)) (at-loop .loop .i) (omega arith)
     (failed (after-round-within .round-within .ensures) (c .if1 .taken)))
 
 loop-again : tie.Need-loop-again Inv-loop μ-loop
@@ -37,7 +38,7 @@ loop-again c =
 returns-2 : tie.Need-returns-2 Inv-loop μ-loop
 returns-2 c =
     let at-loop : tie.At-loop Inv-loop μ-loop = search in
-    let e : at-loop .loop .i ≡ 32 = omega arith in sym (rw e at (at-loop .loop .inv .1))
+    let e : at-loop .loop .i ≡ rounds = omega arith in sym (rw e at (at-loop .loop .inv .1))
 
 pub masks-within-spec : {M : Type 1} → statement M
 masks-within-spec =

@@ -5,9 +5,10 @@ use mathlib.Core.Bool.{true}
 use Prim.Native.Nat.{_≤_, _<_, _-_}
 use native.Mathlib.Omega.{arith}
 use Rattle.record.specs.Below.{all}
-use Rattle.record.specs.Questions.{termsOf}
+use Rattle.record.specs.Inner.{termsOf}
 use Rattle.record.proofs.Below.{all-none}
 use Rattle.record.proofs.Masks.{legal-range}
+use Rattle.record.specs.Members.{slots}
 use Rattle.replica.specs.State.{memberCount}
 use Rattle.replica.specs.WellFormed.{cellOk}
 use Rattle.replica.proofs.Laws.{all-no, all-yes, all-end}
@@ -20,7 +21,7 @@ Inv-loop state n round terms p₀ p = (p ≤ n) × (terms ≡ termsOf (memberCou
 abbrev μ-loop : tie.MeasureT-loop
 μ-loop state n round terms p₀ p = n - p
 
-known : (c : tie.Start Inv-loop μ-loop) → (0 < c .args .n) × (c .args .n ≤ 16)
+known : (c : tie.Start Inv-loop μ-loop) → (0 < c .args .n) × (c .args .n ≤ slots)
 known c = let g = legal-range _ (c .pre .0 .group) in (omega arith, omega arith)
 
 pub members-ok-spec : {M : Type 1} → statement M

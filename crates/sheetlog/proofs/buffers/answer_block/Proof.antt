@@ -1,3 +1,4 @@
+use Rattle.transcript.specs.Claims.{longestAnswer}
 use Rattle.sheetlog.specs.Blocks.{block, Holds}
 use Rattle.sheetlog.proofs.Feeding.{holds-none, holds-turn, holds-all}
 use lib.ListN.{length, take}
@@ -8,7 +9,7 @@ use Rattle.sheetlog.proofs.buffers.answer_block.Statement.{statement}
 use Rattle.sheetlog.proofs.buffers.answer_block.Tie as tie
 
 abbrev Inv-loop : tie.InvT-loop
-Inv-loop input line₀ kept out₀ state₀ fill₀ i₀ line out state fill i = (i ≤ length input) × (fill .filled ≤ 55 * i)
+Inv-loop input line₀ kept out₀ state₀ fill₀ i₀ line out state fill i = (i ≤ length input) × (fill .filled ≤ longestAnswer * i)
     × Holds (block (take kept line₀) state₀ (take i input)) line fill out state
     × (length line ≡ length line₀) × (length out ≡ length out₀) × (length state ≡ length state₀)
 

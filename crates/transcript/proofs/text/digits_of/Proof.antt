@@ -58,6 +58,7 @@ digits-of-spec =
     (tie.spec
     Inv-loop
     μ-loop
+    (λ c. search needs)
     returns
     loop-holds
     returns-2

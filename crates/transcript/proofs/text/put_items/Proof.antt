@@ -3,14 +3,14 @@ use lib.ListN.{getD}
 use native.Mathlib.Omega.{arith}
 use Prim.Native.Nat.{_≤_, _-_, _+_, _*_}
 use lib.ListN.{length, take}
-use Rattle.transcript.specs.Text.{Appended, items}
+use Rattle.transcript.specs.Text.{itemSize, Appended, items}
 use Rattle.transcript.proofs.Digits.{appended-none, appended-item, items-none, decimal-few}
 use borrow.Author.Needs.{needs}
 use Rattle.transcript.proofs.text.put_items.Statement.{statement}
 use Rattle.transcript.proofs.text.put_items.Tie as tie
 
 abbrev Inv-loop : tie.InvT-loop
-Inv-loop out₀ at numbers end₀ i₀ out end i = (i ≤ length numbers) × (end ≤ at + 11 * i) × Appended out₀ at (items (take i numbers)) out end
+Inv-loop out₀ at numbers end₀ i₀ out end i = (i ≤ length numbers) × (end ≤ at + itemSize * i) × Appended out₀ at (items (take i numbers)) out end
 
 abbrev μ-loop : tie.MeasureT-loop
 μ-loop out₀ at numbers end₀ i₀ out end i = length numbers - i

@@ -4,8 +4,8 @@ use Rattle.record.proofs.members.Members.with.Tie as tie
 
 returns : tie.Need-returns
 returns c =
-    let after-power : tie.After-power = search in
-    rw (after-power .power .ensures)
+    let after-with-bit : tie.After-with-bit = search in
+    rw (after-with-bit .with-bit .ensures)
 
 pub with-spec : {M : Type 1} → statement M
 with-spec = tie.close (tie.spec

@@ -1,0 +1,79 @@
+-- `take_vertex` meets its contract. Assumes nothing.
+use Rattle.ordering.proofs.Taking.{vertex-refused, VertexTaken, vertex-taken}
+use mathlib.Core.List.{List}
+use Prim.Native.Nat.{ℕ}
+use borrow.Author.Needs.{needs}
+use Rattle.ordering.proofs.vertex.take_vertex.Statement.{statement}
+use Rattle.ordering.proofs.vertex.take_vertex.Tie as tie
+
+abbrev words : tie.Start → List ℕ
+words s = s .args .state .now
+
+abbrev rec : tie.Start → List ℕ
+rec s = s .args .rec .now
+
+-- no question stopped the vertex
+known : (c : tie.Else1) → VertexTaken (words (search)) (rec (search))
+known c = let a : tie.After-check-vertex = search in vertex-taken _ _ _ (a .check-vertex .ensures) (cc)
+
+returns : tie.Need-returns
+returns c =
+    let a : tie.After-check-vertex = search in
+    let t : tie.Then1 = search in
+    vertex-refused (words (search)) (rec (search)) _ (a .check-vertex .ensures) (λ d. t .if1 .taken (cc)) _ (c .refuse .ensures)
+
+slice-read-n : tie.Need-slice-read-n
+slice-read-n c = let k = known (search) in search needs
+
+shared-slice-read-put-vertex : tie.Need-shared-slice-read-put-vertex
+shared-slice-read-put-vertex c = let k = known (search) in search needs
+
+shared-slice-read-put-vertex-2 : tie.Need-shared-slice-read-put-vertex-2
+shared-slice-read-put-vertex-2 c = let k = known (search) in search needs
+
+part-put-vertex-end : tie.Need-part-put-vertex-end
+part-put-vertex-end c = let k = known (search) in search needs
+
+put-vertex-requires : tie.Need-put-vertex-requires
+put-vertex-requires c κs = let k = known (search) in search needs
+
+raise-round-requires : tie.Need-raise-round-requires
+raise-round-requires c κs =
+    let p : tie.After-put-vertex = search in
+    let ready = known (search) .put _ (p .put-vertex .ensures) in
+    search needs
+
+settle-requires : tie.Need-settle-requires
+settle-requires c κs =
+    let p : tie.After-put-vertex = search in
+    let r : tie.After-raise-round = search in
+    let ready = known (search) .raised _ _ (p .put-vertex .ensures) (r .raise-round .ensures) in
+    search needs
+
+returns-2 : tie.Need-returns-2
+returns-2 c =
+    let p : tie.After-put-vertex = search in
+    let r : tie.After-raise-round = search in
+    let s : tie.After-settle = search in
+    known (search) .done _ _ _ (p .put-vertex .ensures) (r .raise-round .ensures) (s .settle .ensures)
+
+pub take-vertex-spec : {M : Type 1} → statement M
+take-vertex-spec =
+    tie.close
+    (tie.spec
+    (search needs)
+    (search needs)
+    (search needs)
+    (search needs)
+    returns
+    slice-read-n
+    shared-slice-read-put-vertex
+    shared-slice-read-put-vertex-2
+    (search needs)
+    (search needs)
+    part-put-vertex-end
+    put-vertex-requires
+    raise-round-requires
+    settle-requires
+    (search needs)
+    returns-2)

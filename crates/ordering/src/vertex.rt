@@ -1,0 +1,121 @@
+// Taking a vertex.
+ghost use mathlib.Core.Path.{_≡_};
+ghost use Prim.Native.Nat.{_<_, _≤_};
+ghost use lib.ListN.{length};
+ghost use Rattle.record.specs.Refusals.{firstNo};
+ghost use Rattle.record.specs.Members.{rounds, slots};
+ghost use Rattle.record.specs.Layout.{bodySize};
+ghost use Rattle.replica.specs.Layout.{stateSize};
+ghost use Rattle.replica.specs.Outcome.{told};
+ghost use Rattle.ordering.specs.Calls.{sameBody, placeQuestions, vertexRefusal, putVertex, takeVertex};
+ghost use Rattle.ordering.specs.Inner.{Placing};
+use super::search::NONE;
+use super::search::first_missing;
+use super::steps::settle;
+use commits::rounds::raise_round;
+use record::layout::BODY;
+use record::layout::BODY_SIZE;
+use record::layout::RECORD_SIZE;
+use record::layout::ROUND;
+use record::layout::SOURCE;
+use record::members::has_bit;
+use record::questions::check;
+use record::refusal::Refusal;
+use record::refusal::number;
+use replica::answer::Answer;
+use replica::answer::refuse;
+use replica::layout::HELD;
+use replica::layout::MEMBER_COUNT;
+use replica::layout::cell_at;
+use replica::layout::masks_at;
+use replica::masks::add_member;
+use replica::masks::mask_of;
+use replica::status::check_state;
+
+// The cell has the words of this body.
+fn same_body(state: &[u32], round: u32, member: u32, body: &[u32]) -> bool
+    requires { ⌜ (length (now state) ≡ stateSize) × (1 ≤ round) × (round ≤ rounds) × (member < slots) × (length (now body) ≡ bodySize) ⌝ }
+    ensures { λ r. ⌜ r ≡ sameBody (now (state .entry)) round member (now (body .entry)) ⌝ }
+{
+    let at = cell_at(round, member);
+    let mut i: usize = 0;
+    while i < BODY_SIZE {
+        if state[at + i] != body[i] {
+            return false;
+        }
+        i += 1;
+    }
+    true
+}
+
+// The words of a cell become those of a body.
+fn write_body(cell: &mut [u32], body: &[u32])
+    requires { ⌜ (length (now cell) ≡ bodySize) × (length (now body) ≡ bodySize) ⌝ }
+    ensures { λ _. ⌜ now (cell .exit) ≡ now (body .entry) ⌝ }
+{
+    let mut i: usize = 0;
+    while i < BODY_SIZE {
+        cell[i] = body[i];
+        i += 1;
+    }
+}
+
+// The vertex is written to its cell and marked held.
+fn put_vertex(state: &mut [u32], round: u32, member: u32, body: &[u32])
+    requires { ⌜ (length (now state) ≡ stateSize) × (1 ≤ round) × (round ≤ rounds) × (member < slots) × (length (now body) ≡ bodySize) ⌝ }
+    ensures { λ _. ⌜ now (state .exit) ≡ putVertex (now (state .entry)) round member (now (body .entry)) ⌝ }
+{
+    let mask = masks_at(round) + HELD;
+    add_member(state, mask, member);
+    let at = cell_at(round, member);
+    let end = at + BODY_SIZE;
+    write_body(&mut state[at..end], body);
+}
+
+// Questions 12 to 14, of a vertex that the record's questions admit.
+fn check_place(state: &[u32], n: u32, round: u32, source: u32, body: &[u32]) -> Refusal
+    requires { ⌜ Placing (now state) n round source (now body) ⌝ }
+    ensures { λ r. ⌜ r ≡ firstNo (placeQuestions (now (state .entry)) round source (now (body .entry))) ⌝ }
+{
+    if has_bit(mask_of(state, HELD, round), source) {
+        if same_body(state, round, source, body) {
+            return Refusal::Duplicate;
+        }
+        return Refusal::Conflict;
+    }
+    let id = first_missing(state, n, round, source, body);
+    if id < NONE {
+        return Refusal::MissingParent(id);
+    }
+    Refusal::None
+}
+
+// All questions of a vertex.
+fn check_vertex(state: &[u32], rec: &[u32]) -> Refusal
+    ensures { λ r. ⌜ r ≡ vertexRefusal (now (state .entry)) (now (rec .entry)) ⌝ }
+{
+    let why = check_state(state);
+    if number(why) != 0 {
+        return why;
+    }
+    let n = state[MEMBER_COUNT];
+    let refused = check(n, rec);
+    if number(refused) != 0 {
+        return refused;
+    }
+    check_place(state, n, rec[ROUND], rec[SOURCE], &rec[BODY..RECORD_SIZE])
+}
+
+// Takes a vertex.
+pub fn take_vertex(state: &mut [u32], rec: &[u32]) -> Answer
+    ensures { λ r. ⌜ told r (now (state .exit)) ≡ takeVertex (now (state .entry)) (now (rec .entry)) ⌝ }
+{
+    let why = check_vertex(state, rec);
+    if number(why) != 0 {
+        return refuse(why);
+    }
+    let n = state[MEMBER_COUNT];
+    put_vertex(state, rec[ROUND], rec[SOURCE], &rec[BODY..RECORD_SIZE]);
+    raise_round(state, n);
+    settle(state, n)
+}

@@ -1,0 +1,36 @@
+-- What the inner functions of the questions ask and answer. No claim rests on it.
+use mathlib.Core.Path.{_≡_}
+use mathlib.Core.Bool.{Bool, cond, _&&_}
+use mathlib.Core.List.{List}
+use Prim.Native.Nat.{ℕ, _-_, _≤_, _<_}
+use lib.Dec.{leb}
+use lib.ListN.{length}
+use Rattle.record.specs.Members.{rounds, leader, slots}
+use Rattle.record.specs.Layout.{bodySize, weakSlots, strongOf, weakCountOf}
+use Rattle.record.specs.Questions.{masksOk, strongOk, timeoutsOk, noVotesOk}
+use Rattle.record.specs.declared.questions.Terms.{Terms}
+
+-- what the questions need of n and the round, as `Terms`
+abbrev pub termsOf : ℕ → ℕ → Terms
+termsOf n round = record { n = n; previous = leader n (round - 1); leader = leader n round }
+
+-- a body of which 4 to 6 are answered yes, with the terms of its round
+pub record Known (terms : Terms) (round source : ℕ) (body : List ℕ) : Type 0 where
+  pub terms-of : terms ≡ termsOf (terms .n) round
+  pub round-low : 1 ≤ round
+  pub round-high : round ≤ rounds
+  pub source-low : source < terms .n
+  pub size : length body ≡ bodySize
+
+-- 7 to 10 together: what is asked of the three masks
+unfoldable pub masksAdmitted : ℕ → ℕ → ℕ → List ℕ → Bool
+masksAdmitted n round source body =
+    masksOk n body && (strongOk n round (strongOf body) && (timeoutsOk n round body && noVotesOk n round source body))
+
+-- the number before the first id
+abbrev pub beforeIds : ℕ
+beforeIds = slots - 1
+
+-- how many slots of weak ids are used: all, where the count is above their number
+unfoldable pub usedSlots : List ℕ → ℕ
+usedSlots body = cond (leb (weakCountOf body) weakSlots) (weakCountOf body) weakSlots

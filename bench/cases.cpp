@@ -1,5 +1,7 @@
 #include "cases.hpp"
 
+#include "plain.hpp"
+
 #include <algorithm>
 #include <bit>
 #include <cstdio>
@@ -235,14 +237,15 @@ void compare_at_random(int calls) {
             std::vector<u32> state = b.state;
             const u32 damage = random.below(3);
             for (u32 k = 0; k < damage; ++k) {
-                static constexpr std::array<u32, 6> ends{8, 200, 232, 744, 1500, 5864};
+                static constexpr std::array<u32, 6> ends{plain::masks_at, plain::leaders_at,     plain::journal_at,
+                                                         plain::cells_at, 2 * plain::cells_at, YARDBOOK_STATE_WORDS};
                 state[random.below(ends[random.below(6)])] ^= 1u << random.below(random.below(2) ? 32 : 10);
             }
             Call call{static_cast<Kind>(random.below(10))};
             const u32 top = std::min(32u, state[1] % 64 + 1);
             const u32 most_weak = random.below(4) == 0 ? 5 : 0;
             call.record = b.record(1 + random.below(top), random.below(n), random.below(4) != 0, false, most_weak);
-            if (random.below(3) == 0) call.record[random.below(12)] ^= 1u << random.below(20);
+            if (random.below(3) == 0) call.record[random.below(YARDBOOK_RECORD_WORDS)] ^= 1u << random.below(20);
             const bool note = call.kind == Kind::timeout || call.kind == Kind::no_vote;
             call.a = random.below(call.kind == Kind::open ? 20 : note ? top + 2 : 40);
             call.b = random.below(n + 1);

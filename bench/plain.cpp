@@ -9,14 +9,12 @@ namespace {
 
 using u32 = std::uint32_t;
 
-constexpr u32 rounds = 32;
-constexpr u32 slots = 16;
-constexpr std::size_t leaders_at = 200, leaders_size = 32, journal_at = 232, journal_size = 512, cells_at = 744;
-constexpr std::size_t body_words = 10;
+using namespace plain;
+
 enum Mask { held, heard, votes, timeouts, no_votes, ordered };
 
-u32 mask(const u32* state, u32 round, Mask kind) { return state[8 + 6 * (round - 1) + kind]; }
-u32& mask(u32* state, u32 round, Mask kind) { return state[8 + 6 * (round - 1) + kind]; }
+u32 mask(const u32* state, u32 round, Mask kind) { return state[masks_at + kinds * (round - 1) + kind]; }
+u32& mask(u32* state, u32 round, Mask kind) { return state[masks_at + kinds * (round - 1) + kind]; }
 const u32* cell(const u32* state, u32 round, u32 p) { return state + cells_at + body_words * (slots * (round - 1) + p); }
 
 // Without the popcnt instruction g++ would call a function here, and the archive is made without it.
@@ -38,11 +36,11 @@ struct Group {
     u32 leader(u32 round) const { return (round - 1) % n; }
 };
 
-bool legal(u32 n) { return n >= 4 && n <= 16 && n % 3 == 1; }
+bool legal(u32 n) { return n >= 4 && n <= slots && n % 3 == 1; }
 
 // Questions 7 to 11.
 u32 check_body(const Group& g, u32 round, u32 source, u32 leader, u32 previous, const u32* body) {
-    const u32 strong = body[0], timeout_mask = body[1], no_vote_mask = body[2], weak_count = body[4];
+    const u32 strong = body[strong_at], timeout_mask = body[timeouts_at], no_vote_mask = body[no_votes_at], weak_count = body[weak_count_at];
     if ((strong | timeout_mask | no_vote_mask) & g.outside) return 7;
     bool lack = false;
     if (round == 1) {
@@ -56,21 +54,21 @@ u32 check_body(const Group& g, u32 round, u32 source, u32 leader, u32 previous, 
     if (weak_count > g.f) return 11;
     u32 last = 0, i = 0;
     for (; i < weak_count; ++i) {
-        const u32 x = body[5 + i];
-        if (x <= last || x % 16 >= g.n || x < 16 || x / 16 + 2 > round) return 11;
+        const u32 x = body[weak_at + i];
+        if (x <= last || x % slots >= g.n || x < slots || x / slots + 2 > round) return 11;
         last = x;
     }
-    for (; i < 5; ++i)
-        if (body[5 + i] != 0) return 11;
+    for (; i < weak_slots; ++i)
+        if (body[weak_at + i] != 0) return 11;
     return 0;
 }
 
 // All parents of a checked body are held.
 bool parents_held(const u32* state, u32 round, const u32* body) {
     if (round == 1) return true;
-    if (body[0] & ~mask(state, round - 1, held)) return false;
-    for (u32 i = 0; i < body[4]; ++i)
-        if (!has(mask(state, body[5 + i] / 16, held), body[5 + i] % 16)) return false;
+    if (body[strong_at] & ~mask(state, round - 1, held)) return false;
+    for (u32 i = 0; i < body[weak_count_at]; ++i)
+        if (!has(mask(state, body[weak_at + i] / slots, held), body[weak_at + i] % slots)) return false;
     return true;
 }
 
@@ -118,24 +116,24 @@ bool cells_ok(const Group& g, const u32* state) {
 }
 
 bool leaders_ok(const Group& g, const u32* state) {
-    const u32 size = state[3];
+    const u32 size = state[leader_count_at];
     if (size > leaders_size) return false;
     u32 last = 0;
     for (u32 i = 0; i < size; ++i) {
-        const u32 x = state[leaders_at + i], round = x / 16;
-        if (round <= last || round > rounds || x % 16 != g.leader(round) || !has(mask(state, round, held), x % 16)) return false;
+        const u32 x = state[leaders_at + i], round = x / slots;
+        if (round <= last || round > rounds || x % slots != g.leader(round) || !has(mask(state, round, held), x % slots)) return false;
         last = round;
     }
-    return last == state[2];
+    return last == state[committed_at];
 }
 
 bool journal_ok(const u32* state) {
-    const u32 size = state[4];
+    const u32 size = state[journal_count_at];
     if (size > journal_size) return false;
     u32 left[rounds + 1] = {};
     for (u32 r = 1; r <= rounds; ++r) left[r] = mask(state, r, ordered);
     for (u32 i = 0; i < size; ++i) {
-        const u32 x = state[journal_at + i], round = x / 16, bit = 1u << x % 16;
+        const u32 x = state[journal_at + i], round = x / slots, bit = 1u << x % slots;
         if (round > rounds || (left[round] & bit) == 0) return false;
         left[round] ^= bit;
     }
@@ -145,11 +143,11 @@ bool journal_ok(const u32* state) {
 }
 
 bool well_formed(const u32* state) {
-    if (!legal(state[0]) || state[1] < 1 || state[1] > 33 || state[2] > 31) return false;
-    if (state[5] | state[6] | state[7]) return false;
-    const Group g(state[0]);
+    if (!legal(state[members_at]) || state[current_at] < 1 || state[current_at] > rounds + 1 || state[committed_at] > rounds - 1) return false;
+    if (state[zeros_at] | state[zeros_at + 1] | state[zeros_at + 2]) return false;
+    const Group g(state[members_at]);
     return masks_ok(g, state) && cells_ok(g, state) && leaders_ok(g, state) && journal_ok(state)
-        && zero(state + leaders_at + state[3], state + journal_at) && zero(state + journal_at + state[4], state + cells_at);
+        && zero(state + leaders_at + state[leader_count_at], state + journal_at) && zero(state + journal_at + state[journal_count_at], state + cells_at);
 }
 
 // Questions 1 and 3.
@@ -161,28 +159,28 @@ u32 check_state(const u32* state, std::size_t words) {
 // Questions 4 to 11.
 u32 check_record(const Group& g, const u32* record, std::size_t words) {
     if (words != YARDBOOK_RECORD_WORDS) return 4;
-    const u32 round = record[0], source = record[1];
+    const u32 round = record[round_at], source = record[source_at];
     if (round < 1 || round > rounds) return 5;
     if (source >= g.n) return 6;
-    return check_body(g, round, source, g.leader(round), round == 1 ? 0 : g.leader(round - 1), record + 2);
+    return check_body(g, round, source, g.leader(round), round == 1 ? 0 : g.leader(round - 1), record + body_at);
 }
 
 // The smallest id among the parents that are not held, 0 if all are.
 u32 missing_parent(const u32* state, const u32* record) {
-    const u32 round = record[0], *body = record + 2;
+    const u32 round = record[round_at], *body = record + body_at;
     if (round == 1) return 0;
-    for (u32 i = 0; i < body[4]; ++i)
-        if (!has(mask(state, body[5 + i] / 16, held), body[5 + i] % 16)) return body[5 + i];
-    const u32 missing = body[0] & ~mask(state, round - 1, held);
-    return missing == 0 ? 0 : 16 * (round - 1) + static_cast<u32>(std::countr_zero(missing));
+    for (u32 i = 0; i < body[weak_count_at]; ++i)
+        if (!has(mask(state, body[weak_at + i] / slots, held), body[weak_at + i] % slots)) return body[weak_at + i];
+    const u32 missing = body[strong_at] & ~mask(state, round - 1, held);
+    return missing == 0 ? 0 : slots * (round - 1) + static_cast<u32>(std::countr_zero(missing));
 }
 
 void raise_round(const Group& g, u32* state) {
-    for (u32 q = rounds; q >= state[1]; --q) {
+    for (u32 q = rounds; q >= state[current_at]; --q) {
         const u32 vertices = mask(state, q, held);
         if (count(vertices) < g.quorum) continue;
         if (has(vertices, g.leader(q)) || count(mask(state, q, timeouts)) >= g.quorum) {
-            state[1] = q + 1;
+            state[current_at] = q + 1;
             return;
         }
     }
@@ -204,23 +202,23 @@ void order(const Group& g, u32* state, u32 round) {
     for (u32 r = round; r >= 2; --r) {
         for (u32 left = reached[r]; left != 0; left &= left - 1) {
             const u32* body = cell(state, r, static_cast<u32>(std::countr_zero(left)));
-            reached[r - 1] |= body[0];
-            for (u32 i = 0; i < body[4]; ++i) reached[body[5 + i] / 16] |= 1u << body[5 + i] % 16;
+            reached[r - 1] |= body[strong_at];
+            for (u32 i = 0; i < body[weak_count_at]; ++i) reached[body[weak_at + i] / slots] |= 1u << body[weak_at + i] % slots;
         }
     }
-    u32* end = state + journal_at + state[4];
+    u32* end = state + journal_at + state[journal_count_at];
     for (u32 r = 1; r <= round; ++r) {
         u32& done = mask(state, r, ordered);
         for (u32 left = reached[r] & ~done; left != 0; left &= left - 1)
-            *end++ = 16 * r + static_cast<u32>(std::countr_zero(left));
+            *end++ = slots * r + static_cast<u32>(std::countr_zero(left));
         done |= reached[r];
     }
-    state[4] = static_cast<u32>(end - (state + journal_at));
+    state[journal_count_at] = static_cast<u32>(end - (state + journal_at));
 }
 
 void commit(const Group& g, u32* state, u32 q) {
     u32 taken = 1u << q, reached = 1u << g.leader(q);
-    for (u32 t = q - 1; t > state[2]; --t) {
+    for (u32 t = q - 1; t > state[committed_at]; --t) {
         u32 below = 0;
         for (u32 left = reached; left != 0; left &= left - 1)
             below |= cell(state, t + 1, static_cast<u32>(std::countr_zero(left)))[0];
@@ -231,20 +229,20 @@ void commit(const Group& g, u32* state, u32 q) {
             reached = 1u << leader;
         }
     }
-    state[2] = q;
+    state[committed_at] = q;
     for (u32 left = taken; left != 0; left &= left - 1) {
         const u32 t = static_cast<u32>(std::countr_zero(left));
-        state[leaders_at + state[3]++] = 16 * t + g.leader(t);
+        state[leaders_at + state[leader_count_at]++] = slots * t + g.leader(t);
     }
     for (u32 left = taken; left != 0; left &= left - 1) order(g, state, static_cast<u32>(std::countr_zero(left)));
 }
 
 yardbook_answer settle(const Group& g, u32* state) {
-    const u32 leaders = state[3], journal = state[4];
+    const u32 leaders = state[leader_count_at], journal = state[journal_count_at];
     // A commit makes no lower round committable, so one pass by rising round commits them all.
-    for (u32 q = state[2] + 1; q < rounds; ++q)
+    for (u32 q = state[committed_at] + 1; q < rounds; ++q)
         if (committable(g, state, q)) commit(g, state, q);
-    return {0, 0, state[3] - leaders, state[4] - journal};
+    return {0, 0, state[leader_count_at] - leaders, state[journal_count_at] - journal};
 }
 
 yardbook_answer refused(u32 number, u32 id = 0) { return {number, id, 0, 0}; }
@@ -252,7 +250,7 @@ yardbook_answer refused(u32 number, u32 id = 0) { return {number, id, 0, 0}; }
 u32 check_note(const u32* state, std::size_t words, u32 round, u32 signer, Mask kind) {
     if (const u32 number = check_state(state, words)) return number;
     if (round < 1 || round > rounds) return 5;
-    if (signer >= state[0]) return 6;
+    if (signer >= state[members_at]) return 6;
     return has(mask(state, round, kind), signer) ? 12 : 0;
 }
 
@@ -272,21 +270,21 @@ yardbook_answer plain_open(u32* state, std::size_t words, u32 n) {
     if (words != YARDBOOK_STATE_WORDS) return refused(1);
     if (!legal(n)) return refused(2);
     std::memset(state, 0, YARDBOOK_STATE_WORDS * sizeof(u32));
-    state[0] = n;
-    state[1] = 1;
+    state[members_at] = n;
+    state[current_at] = 1;
     return refused(0);
 }
 
 yardbook_answer plain_take_vertex(u32* state, std::size_t words, const u32* record, std::size_t record_words) {
     if (const u32 number = check_state(state, words)) return refused(number);
-    const Group g(state[0]);
+    const Group g(state[members_at]);
     if (const u32 number = check_record(g, record, record_words)) return refused(number);
-    const u32 round = record[0], source = record[1];
+    const u32 round = record[round_at], source = record[source_at];
     u32* body = state + (cell(state, round, source) - state);
     if (has(mask(state, round, held), source))
-        return refused(std::memcmp(body, record + 2, body_words * sizeof(u32)) == 0 ? 12 : 13);
+        return refused(std::memcmp(body, record + body_at, body_words * sizeof(u32)) == 0 ? 12 : 13);
     if (const u32 id = missing_parent(state, record)) return refused(14, id);
-    std::memcpy(body, record + 2, body_words * sizeof(u32));
+    std::memcpy(body, record + body_at, body_words * sizeof(u32));
     mask(state, round, held) |= 1u << source;
     raise_round(g, state);
     return settle(g, state);
@@ -294,19 +292,19 @@ yardbook_answer plain_take_vertex(u32* state, std::size_t words, const u32* reco
 
 yardbook_answer plain_take_first_message(u32* state, std::size_t words, const u32* record, std::size_t record_words) {
     if (const u32 number = check_state(state, words)) return refused(number);
-    const Group g(state[0]);
+    const Group g(state[members_at]);
     if (const u32 number = check_record(g, record, record_words)) return refused(number);
-    const u32 round = record[0], source = record[1];
+    const u32 round = record[round_at], source = record[source_at];
     if (has(mask(state, round, heard), source)) return refused(12);
     mask(state, round, heard) |= 1u << source;
-    if (round > 1 && has(record[2], g.leader(round - 1))) mask(state, round, votes) |= 1u << source;
+    if (round > 1 && has(record[body_at + strong_at], g.leader(round - 1))) mask(state, round, votes) |= 1u << source;
     return settle(g, state);
 }
 
 yardbook_answer plain_take_timeout(u32* state, std::size_t words, u32 round, u32 signer) {
     if (const u32 number = check_note(state, words, round, signer, timeouts)) return refused(number);
     mask(state, round, timeouts) |= 1u << signer;
-    raise_round(Group(state[0]), state);
+    raise_round(Group(state[members_at]), state);
     return refused(0);
 }
 
@@ -318,7 +316,7 @@ yardbook_answer plain_take_no_vote(u32* state, std::size_t words, u32 round, u32
 
 yardbook_state_status plain_status(const u32* state, std::size_t words) {
     if (const u32 number = check_state(state, words)) return {number, 0, 0, 0, 0};
-    return {0, state[1], state[2], state[3], state[4]};
+    return {0, state[current_at], state[committed_at], state[leader_count_at], state[journal_count_at]};
 }
 
 yardbook_answer plain_ask_leaders(const u32* state, std::size_t words, u32 k) { return refused(ask(state, words, k, 3)); }

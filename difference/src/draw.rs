@@ -192,9 +192,9 @@ fn unlikely(rng: &mut Rng, state: &[u32]) -> Vec<(usize, u32)> {
 /// A word of the state: of the head, the masks, the lists, or anywhere.
 fn place(rng: &mut Rng) -> usize {
     let bound = match rng.below(5) {
-        0 => 8,
-        1 | 2 => 200,
-        3 => 744,
+        0 => MASKS.start as u32,
+        1 | 2 => MASKS.end as u32,
+        3 => CELLS.start as u32,
         _ => STATE_WORDS as u32,
     };
     rng.below(bound) as usize

@@ -8,6 +8,7 @@
 use std::io::{stdout, BufWriter, Write};
 use std::process::ExitCode;
 
+use reference::layout::RECORD_WORDS;
 use reference::line::spaced;
 use reference::rng::Rng;
 use reference::simulate::{simulate, Options};
@@ -78,7 +79,8 @@ fn near(seed: u64, count: usize) -> Vec<u8> {
 }
 
 fn near_line(rng: &mut Rng) -> Vec<u8> {
-    let letters = [('O', 1), ('V', 12), ('F', 12), ('T', 2), ('N', 2), ('L', 1)];
+    let record = RECORD_WORDS as u32;
+    let letters = [('O', 1), ('V', record), ('F', record), ('T', 2), ('N', 2), ('L', 1)];
     let (letter, wanted) = letters[rng.below(6) as usize];
     let length = if rng.percent(80) {
         wanted

@@ -45,10 +45,10 @@ fn head(state: &[u32]) -> Damage {
     })
     .collect();
     damages.extend(LEGAL_SIZES.map(|n| (N, n)));
-    damages.extend([33, 34].map(|round| (CURRENT_ROUND, round)));
-    damages.extend([31, 32].map(|round| (COMMITTED_ROUND, round)));
-    damages.extend([32, 33].map(|count| (LEADER_COUNT, count)));
-    damages.extend([512, 513].map(|count| (JOURNAL_COUNT, count)));
+    damages.extend([0, 1].map(|more| (CURRENT_ROUND, LAST_CURRENT_ROUND + more)));
+    damages.extend([0, 1].map(|more| (COMMITTED_ROUND, LAST_COMMITTABLE_ROUND + more)));
+    damages.extend([0, 1].map(|more| (LEADER_COUNT, LEADER_LIST.len() as u32 + more)));
+    damages.extend([0, 1].map(|more| (JOURNAL_COUNT, JOURNAL.len() as u32 + more)));
     damages.extend(RESERVED.map(|at| (at, 1)));
     damages
 }

@@ -14,7 +14,8 @@ use crate::simulate::Options;
 use states::Reached;
 
 const SEED: u64 = 4;
-const WRONG_SIZES: [u32; 7] = [0, 1, 12, 5_863, 5_865, 6_000, 7_000];
+const SIZE: u32 = STATE_WORDS as u32;
+const WRONG_SIZES: [u32; 7] = [0, 1, RECORD_WORDS as u32, SIZE - 1, SIZE + 1, SIZE + 136, SIZE + 1_136];
 const ILLEGAL_SIZES: [u32; 13] = [0, 1, 2, 3, 5, 6, 8, 15, 17, 19, 65_540, 1 << 31, u32::MAX];
 
 /// All commands, in order.

@@ -8,7 +8,7 @@ use native.Mathlib.Omega.{arith}
 use borrow.Author.Tests.{not-true}
 use Rattle.record.specs.Members.{legal, leader, votedRounds}
 use Rattle.record.specs.Refusals.{numberOf, firstNo}
-use Rattle.record.specs.Layout.{roundOf, sourceOf, bodyOf, weakSlots}
+use Rattle.record.specs.Layout.{roundOf, sourceOf, bodyOf}
 use Rattle.record.specs.declared.refusal.Refusal.{Refusal}
 use Rattle.record.proofs.Booleans.{and-left, and-right}
 use Rattle.protocol.specs.Dag.{recordsOf, present, votes, committed}

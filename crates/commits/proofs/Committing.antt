@@ -21,7 +21,7 @@ use Rattle.protocol.proofs.Lists.{among-select}
 use Rattle.protocol.proofs.Chain.{chain-held}
 use Rattle.protocol.proofs.Laws.{chain-bounds, chain-length}
 use Rattle.replica.specs.Layout.{orderedAt, stateSize, leadersAt, journalAt, cellsAt, leadersSize, leaderCountAt, journalCountAt, committedRoundAt}
-use Rattle.replica.specs.State.{memberCount, committedRound, leaderCount, journalCount, orderedMask, vertices, orderedId}
+use Rattle.replica.specs.State.{memberCount, committedRound, leaderCount, journalCount, orderedMask, vertices, orderedId, addMember}
 use Rattle.commits.specs.Commit.{appendLeader, appendLeaders, enter, enterAll, orderLeader, orderLeaders, commit}
 use Rattle.commits.specs.Standing.{Standing, Room, LeaderRoom, LeadersReady}
 use Rattle.commits.proofs.Steps.{select-zero, select-in, select-out, length-select, append-count}
@@ -92,7 +92,7 @@ ordered-kept (r ∷ rs) l v e S R h =
 -- ---- words 0 to 3, which the journal's growth leaves
 
 pub enter-head : (l : List ℕ) (y j : ℕ) → j < journalCountAt → getD (enter l y) j 0 ≡ getD l j 0
-unfolding enter
+unfolding enter addMember
 enter-head l y j h =
     let a = set l (orderedAt (idRound y)) (add (orderedMask l (idRound y)) (idMember y)) in
     getD-set-other (set a (journalAt + journalCount l) y) journalCountAt j (journalCount l + 1) 0 (λ e. omega arith)

@@ -1,10 +1,10 @@
 -- What a change of the lists, the counts or the ordered masks leaves as it was: the vertices, the first messages, and what the commits rely on.
 -- Assumes nothing.
 use mathlib.Core.Path.{_≡_, refl, sym, ap, ap₂, _∙_}
-use mathlib.Core.Bool.{Bool, true, false, cond, not, _&&_, _||_, or-false}
-use mathlib.Core.Logic.{_⊎_, inl, inr, ⊎-elim}
-use mathlib.Core.List.{List, [], _∷_}
-use Prim.Native.Nat.{ℕ, zero, suc, _+_, _-_, _*_, _/_, _%_, _^_, _≤_, _<_}
+use mathlib.Core.Bool.{Bool, true, false, cond, _||_, or-false}
+use mathlib.Core.Logic.{_⊎_, inl, inr}
+use mathlib.Core.List.{List, []}
+use Prim.Native.Nat.{ℕ, zero, suc, _+_, _-_, _≤_, _<_}
 use native.Mathlib.Nat.{eq-or-lt-of-le, le-of-suc-le-suc}
 use native.Mathlib.Omega.{arith}
 use lib.Dec.{eqb}
@@ -12,20 +12,19 @@ use lib.ListN.{getD, set, take, drop, length, length-set, length-drop}
 use lib.Seq.{getD-set-same, getD-set-other, getD-drop, ext-getD}
 use borrow.Author.Tests.{eqb-true, eqb-false, eq-eqb, ne-eqb}
 use Rattle.record.specs.Below.{count}
-use Rattle.record.specs.Members.{leader, has, add, idRound, idMember, isRound, rounds, slots, idLimit}
+use Rattle.record.specs.Members.{has, add, idRound, idMember, isRound, rounds, slots, idLimit}
 use Rattle.record.proofs.Booleans.{which, never, and-cong, bool-ext}
 use Rattle.record.proofs.Below.{count-cong}
 use Rattle.record.proofs.Masks.{has-add}
 use Rattle.record.proofs.Rounds.{round-in, round-range}
-use Rattle.protocol.specs.Dag.{Records, Dag}
 use Rattle.protocol.specs.Chain.{leaderId}
-use Rattle.protocol.proofs.Laws.{records-ext, well-formed-cong}
+use Rattle.protocol.proofs.Laws.{records-ext}
 use Rattle.record.specs.Layout.{bodySize}
 use Rattle.replica.specs.Layout.{headSize, leadersSize, leaderCountAt, journalCountAt, timeoutsKind, memberCountAt}
-use Rattle.replica.specs.Layout.{masksAt, cellAt, orderedAt, heldAt, heardAt, votesAt, stateSize, leadersAt, journalAt, journalSize, cellsAt}
-use Rattle.replica.specs.State.{memberCount, committedRound, leaderCount, journalCount, heldMask, heardMask, votesMask, orderedMask, cell, vertices}
-use Rattle.replica.specs.State.{firsts, dag, orderedId}
-use Rattle.commits.specs.Commit.{appendLeader, appendLeaders, enter, enterAll, orderLeader, orderLeaders}
+use Rattle.replica.specs.Layout.{masksAt, cellAt, orderedAt, stateSize, leadersAt, journalAt, journalSize, cellsAt}
+use Rattle.replica.specs.State.{memberCount, leaderCount, journalCount, heldMask, heardMask, votesMask, orderedMask, vertices, addMember}
+use Rattle.replica.specs.State.{firsts, orderedId}
+use Rattle.commits.specs.Commit.{appendLeader, enter}
 use Rattle.commits.specs.Standing.{Standing, Room}
 
 -- ---- states alike in members, cells and the three masks of what was taken
@@ -130,7 +129,7 @@ alike-leader l r h =
     (loose-head leaderCountAt (omega arith) (omega arith)))
 
 pub alike-enter : (l : List ℕ) (y : ℕ) → slots ≤ y → y < idLimit → journalCount l < journalSize → Alike l (enter l y)
-unfolding enter
+unfolding enter addMember
 alike-enter l y low high h =
     let a = set l (orderedAt (idRound y)) (add (orderedMask l (idRound y)) (idMember y)) in
     let b = set a (journalAt + journalCount l) y in
@@ -144,7 +143,7 @@ module _ (l : List ℕ) (y : ℕ) (size : length l ≡ stateSize) (low : slots �
 
   -- the ordered masks after y is entered
   entered-mask : (r : ℕ) → 1 ≤ r → r ≤ rounds → orderedMask (enter l y) r ≡ orderedMask marked r
-  unfolding enter marked
+  unfolding enter addMember marked
   entered-mask r a b =
       getD-set-other (set marked (journalAt + journalCount l) y) journalCountAt (orderedAt r) (journalCount l + 1) 0 (λ e. omega arith)
       ∙ getD-set-other marked (journalAt + journalCount l) (orderedAt r) y 0 (λ e. omega arith)
@@ -182,7 +181,7 @@ module _ (l : List ℕ) (y : ℕ) (size : length l ≡ stateSize) (low : slots �
           rw (e, entered-mask (idRound z) (h .0) (h .1), marked-other (idRound z) (h .0) (h .1) s, ne-eqb y z (λ q. s (ap idRound (sym q)))) (sym (or-false _))
 
   pub entered-count : journalCount (enter l y) ≡ journalCount l + 1
-  unfolding enter marked
+  unfolding enter addMember marked
   entered-count =
       getD-set-same (set marked (journalAt + journalCount l) y) journalCountAt (journalCount l + 1) 0
       (omega (arith, length-set marked (journalAt + journalCount l) y, length-set l (orderedAt (idRound y)) (add (orderedMask l (idRound y)) (idMember y))))

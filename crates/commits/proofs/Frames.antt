@@ -9,7 +9,7 @@ use Rattle.protocol.specs.Dag.{Records}
 use Rattle.replica.specs.Layout.{committedRoundAt, heldKind, heardKind, votesKind}
 use Rattle.replica.specs.Layout.{cellsAt, memberCountAt, leaderCountAt, journalCountAt, zerosAt, orderedKind, currentRoundAt, timeoutsKind}
 use Rattle.replica.specs.Layout.{masksAt, heldAt, heardAt, votesAt, orderedAt, cellAt, headSize, leadersAt, leadersSize, journalAt, journalSize}
-use Rattle.replica.specs.State.{memberCount, leaderCount, journalCount, vertices, firsts}
+use Rattle.replica.specs.State.{memberCount, leaderCount, journalCount, vertices, firsts, addMember}
 use Rattle.replica.proofs.Keeping.{Keeps, keeps-trans, keeps-less, keeps-set, vertices-kept, firsts-kept}
 use Rattle.commits.specs.Commit.{appendLeader, enter}
 use Rattle.commits.specs.Standing.{Standing}
@@ -139,7 +139,7 @@ keeps-leader l r h = keeps-trans OffLeaders l _ _
 
 -- an id entered
 pub keeps-entry : (l : List ℕ) (y : ℕ) → 1 ≤ idRound y → idRound y ≤ rounds → journalCount l < journalSize → Keeps OffJournal l (enter l y)
-unfolding enter
+unfolding enter addMember
 keeps-entry l y a b h = keeps-trans OffJournal l _ _
     (keeps-set OffJournal l (orderedAt (idRound y)) _ (λ j k e. k .2 (idRound y) a b e))
     (keeps-trans OffJournal _ _ _

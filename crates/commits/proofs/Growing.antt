@@ -28,7 +28,7 @@ use Rattle.protocol.proofs.Laws.{chain-length}
 use Rattle.replica.specs.Layout.{committedRoundAt}
 use Rattle.replica.specs.Layout.{stateSize, orderedAt, leadersAt, leadersSize, journalAt, journalSize, leaderCountAt, journalCountAt, memberCountAt}
 use Rattle.replica.specs.State.{memberCount, committedRound, leaderCount, journalCount, orderedMask, leaderWord, journalWord, leaderList, journalList}
-use Rattle.replica.specs.State.{vertices, firsts, orderedId}
+use Rattle.replica.specs.State.{vertices, firsts, orderedId, addMember}
 use Rattle.replica.proofs.Formed.{WellFormed, leader-length, journal-length, leaders-few}
 use Rattle.replica.proofs.Dags.{dag-well-formed}
 use Rattle.replica.proofs.Keeping.{Keeps, keeps-refl, keeps-trans, keeps-less, keeps-set, leader-list-kept, journal-list-kept, ordered-id-kept}
@@ -134,13 +134,13 @@ count-more s t y (suc k) f a b h = go (which (eqb y k)) (count-more s t y k f a 
 module _ (l : List ℕ) (y : ℕ) (size : length l ≡ stateSize) (low : 1 ≤ idRound y) (high : idRound y ≤ rounds) where
   -- the ordered masks afterwards
   mask-here : orderedMask (enter l y) (idRound y) ≡ add (orderedMask l (idRound y)) (idMember y)
-  unfolding enter
+  unfolding enter addMember
   mask-here = first-of-three l (orderedAt (idRound y)) (add (orderedMask l (idRound y)) (idMember y)) (journalAt + journalCount l) y journalCountAt
       (journalCount l + 1)
       (omega arith) (λ e. omega arith) (λ e. omega arith)
 
   mask-other : (r : ℕ) → 1 ≤ r → r ≤ rounds → (idRound y ≡ r → ⊥) → orderedMask (enter l y) r ≡ orderedMask l r
-  unfolding enter
+  unfolding enter addMember
   mask-other r a b h = none-of-three l (orderedAt (idRound y)) (add (orderedMask l (idRound y)) (idMember y))
       (journalAt + journalCount l) y journalCountAt (journalCount l + 1)
       (orderedAt r) (λ e. h (omega arith)) (λ e. omega arith) (λ e. omega arith)
@@ -180,7 +180,7 @@ module _ (l : List ℕ) (y : ℕ) (size : length l ≡ stateSize) (low : 1 ≤ i
 
   -- one entry more
   pub enter-count : journalCount (enter l y) ≡ journalCount l + 1
-  enter-count = unfold enter in
+  enter-count = unfold enter in unfold addMember in
       last-of-three l (orderedAt (idRound y)) (add (orderedMask l (idRound y)) (idMember y)) (journalAt + journalCount l) y journalCountAt
       (journalCount l + 1) (omega arith)
 
@@ -189,7 +189,7 @@ module _ (l : List ℕ) (y : ℕ) (size : length l ≡ stateSize) (low : 1 ≤ i
   enter-list fits = rw (enter-count, words, add-one (journalCount l)) (take-suc-set (drop journalAt l) (journalCount l) y (rw length-drop (omega arith)))
     where
       words : drop journalAt (enter l y) ≡ set (drop journalAt l) (journalCount l) y
-      words = unfold enter in
+      words = unfold enter in unfold addMember in
           drop-set-lt journalAt (set (set l (orderedAt (idRound y)) (add (orderedMask l (idRound y)) (idMember y)))
           (journalAt + journalCount l) y) journalCountAt
           (journalCount l + 1) (omega arith)
@@ -198,7 +198,7 @@ module _ (l : List ℕ) (y : ℕ) (size : length l ≡ stateSize) (low : 1 ≤ i
           (omega arith))
 
   enter-rest : (i : ℕ) → journalCount l + 1 ≤ i → journalWord (enter l y) i ≡ journalWord l i
-  unfolding enter
+  unfolding enter addMember
   enter-rest i h =
       none-of-three l (orderedAt (idRound y)) (add (orderedMask l (idRound y)) (idMember y)) (journalAt + journalCount l) y journalCountAt
       (journalCount l + 1) (journalAt + i)

@@ -21,7 +21,7 @@ use Rattle.protocol.proofs.Laws.{chain-length}
 use Rattle.replica.specs.Layout.{leaderCountAt, committedRoundAt}
 use Rattle.replica.specs.State.{memberCount, committedRound, leaderCount, vertices, dag}
 use Rattle.commits.specs.Commit.{appendLeaders, taken, commit, committable, lowest, commitUpTo}
-use Rattle.commits.specs.Standing.{Standing, Room, Going}
+use Rattle.commits.specs.Standing.{Room, Going}
 use Rattle.commits.proofs.Steps.{committable-low}
 use Rattle.commits.proofs.Frame.{Alike, alike-self, alike-then, vertices-same, standing-kept}
 use Rattle.commits.proofs.Committing.{Quiet, quiet-leaders, quiet-head, quiet-then, quiet-room, order-head, ordered-kept}

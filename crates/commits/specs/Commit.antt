@@ -3,15 +3,15 @@ use mathlib.Core.Bool.{Bool, cond, not, _&&_, _||_}
 use mathlib.Core.List.{List, [], _∷_}
 use Prim.Native.Nat.{ℕ, zero, suc, _+_}
 use lib.Dec.{leb, ltb}
-use lib.ListN.{getD, set}
+use lib.ListN.{set}
 use Rattle.record.specs.Below.{select, least}
-use Rattle.record.specs.Members.{rounds, leader, has, add, meets, idRound, idMember, idLimit, votedRounds}
+use Rattle.record.specs.Members.{rounds, leader, has, meets, idRound, idMember, idLimit, votedRounds}
 use Rattle.protocol.specs.Dag.{Records, committed}
 use Rattle.protocol.specs.Paths.{history}
 use Rattle.protocol.specs.Chain.{chain, leaderId}
 use Rattle.replica.specs.Layout.{currentRoundAt, committedRoundAt, leaderCountAt, journalCountAt, orderedAt, leadersAt, journalAt}
-use Rattle.replica.specs.State.{memberCount, currentRound, committedRound, leaderCount, journalCount}
-use Rattle.replica.specs.State.{heldMask, timeoutsMask, orderedMask, vertices, dag, orderedId}
+use Rattle.replica.specs.State.{memberCount, currentRound, committedRound, leaderCount, journalCount, addMember}
+use Rattle.replica.specs.State.{heldMask, timeoutsMask, vertices, dag, orderedId}
 
 -- ---- the round rule
 
@@ -41,7 +41,7 @@ appendLeaders l (r ∷ rs) = appendLeaders (appendLeader l r) rs
 -- the vertex with the id y is ordered, and joins the journal
 unfoldable pub enter : List ℕ → ℕ → List ℕ
 enter l y =
-    set (set (set l (orderedAt (idRound y)) (add (orderedMask l (idRound y)) (idMember y))) (journalAt + journalCount l) y) journalCountAt (journalCount l + 1)
+    set (set (addMember l (orderedAt (idRound y)) (idMember y)) (journalAt + journalCount l) y) journalCountAt (journalCount l + 1)
 
 unfoldable pub enterAll : List ℕ → List ℕ → List ℕ
 enterAll l [] = l

@@ -1,16 +1,16 @@
 // The commits: which rounds are committable, and what committing one writes.
 ghost use mathlib.Core.Path.{_≡_};
 ghost use mathlib.Core.Bool.{true, false};
-ghost use Prim.Native.Nat.{ℕ, suc, _<_, _≤_};
+ghost use Prim.Native.Nat.{_<_, _≤_};
 ghost use lib.ListN.{length};
 ghost use Rattle.record.specs.Below.{count, select};
 ghost use Rattle.record.specs.Members.{leader, has, rounds, slots, votedRounds, idLimit};
 ghost use Rattle.protocol.specs.Dag.{committed};
 ghost use Rattle.protocol.specs.Masks.{voters};
 ghost use Rattle.replica.specs.Layout.{stateSize, journalSize};
-ghost use Rattle.replica.specs.State.{memberCount, committedRound, leaderCount, journalCount, vertices, dag, orderedId};
-ghost use Rattle.commits.specs.Commit.{appendLeader, appendLeaders, enter, orderLeader, orderLeaders, commit, committable, lowest, commitAll};
-ghost use Rattle.commits.specs.Standing.{Standing, Room, LeaderRoom, LeaderHeld, LeaderReady, LeadersReady, Going, Next, orderId, orderRound};
+ghost use Rattle.replica.specs.State.{memberCount, committedRound, journalCount, vertices, dag};
+ghost use Rattle.commits.specs.Commit.{appendLeader, appendLeaders, enter, orderLeader, orderLeaders, commit, lowest, commitAll};
+ghost use Rattle.commits.specs.Standing.{Standing, Room, LeaderRoom, LeaderReady, LeadersReady, Going, Next, orderId, orderRound};
 use super::history::history_of;
 use super::walk::taken_rounds;
 use record::layout::STRONG;

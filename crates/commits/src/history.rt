@@ -1,11 +1,8 @@
 // A history as 32 masks, one for each round, filled by falling round.
 ghost use mathlib.Core.Path.{_≡_};
 ghost use Prim.Native.Nat.{_/_, _%_, _^_, _<_, _≤_};
-ghost use lib.ListN.{length, getD};
-ghost use Rattle.record.specs.Layout.{weakCountOf, weakOf};
 ghost use Rattle.protocol.specs.Masks.{join, joinWeakParents, joinParents, joinRound, historyMasks};
 ghost use Rattle.record.specs.Members.{rounds, slots, idLimit, idRound, idMember};
-ghost use Rattle.replica.specs.Layout.{stateSize, cellAt};
 ghost use Rattle.replica.specs.State.{memberCount, vertices};
 ghost use Rattle.commits.specs.Standing.{Standing};
 use record::layout::STRONG;

@@ -1,8 +1,6 @@
 // The walk over leaders.
 ghost use mathlib.Core.Path.{_≡_};
-ghost use mathlib.Core.Bool.{true};
 ghost use Prim.Native.Nat.{_<_, _≤_};
-ghost use lib.ListN.{length};
 ghost use Rattle.record.specs.Below.{select};
 ghost use Rattle.record.specs.Members.{has, rounds, votedRounds};
 ghost use Rattle.protocol.specs.Chain.{chain};

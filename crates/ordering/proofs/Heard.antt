@@ -4,10 +4,9 @@ use mathlib.Core.Bool.{Bool, true, false}
 use mathlib.Core.List.{List, [], _∷_}
 use Prim.Native.Nat.{ℕ, _+_, _-_, _≤_, _<_}
 use native.Mathlib.Omega.{arith}
-use lib.ListN.{getD, set}
+use lib.ListN.{getD}
 use lib.Seq.{getD-drop}
-use Rattle.record.specs.Members.{leader, has, with, rounds}
-use Rattle.record.specs.declared.members.Members.{Members}
+use Rattle.record.specs.Members.{leader, has, rounds}
 use Rattle.record.specs.Layout.{bodyOf, strongOf}
 use Rattle.record.proofs.Masks.{leader-small, has-zero}
 use Rattle.replica.specs.Layout.{masksAt, heardKind, votesKind}

@@ -23,7 +23,6 @@ use Rattle.protocol.proofs.Lists.{rising, among-append, once}
 use Rattle.protocol.proofs.History.{id-round, id-member}
 use Rattle.protocol.proofs.Chain.{chain-some, chain-held, walk-rising}
 use Rattle.protocol.proofs.Journal.{extend-once}
-use Rattle.record.specs.Layout.{weakSlots}
 use Rattle.replica.specs.Layout.{stateSize, masksAt, heldAt, timeoutsKind, noVotesKind, orderedKind, memberCountAt}
 use Rattle.replica.specs.State.{memberCount, committedRound, heldMask, orderedMask, leaderList, journalList, vertices, dag, addMember}
 use Rattle.replica.specs.State.{heldId, orderedId}

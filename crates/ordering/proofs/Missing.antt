@@ -3,7 +3,7 @@ use mathlib.Core.Path.{_≡_, sym, ap, _∙_}
 use mathlib.Core.Bool.{Bool, true, false, not}
 use mathlib.Core.Logic.{_⊎_, inl, inr, ⊎-elim}
 use mathlib.Core.List.{List}
-use Prim.Native.Nat.{ℕ, zero, suc, _+_, _-_, _*_, _≤_, _<_}
+use Prim.Native.Nat.{ℕ, zero, suc, _+_, _-_, _≤_, _<_}
 use native.Mathlib.Nat.{eq-or-lt-of-le}
 use native.Mathlib.Numerals.{add-one}
 use native.Mathlib.Omega.{arith}
@@ -22,7 +22,7 @@ use Rattle.replica.specs.Layout.{stateSize}
 use Rattle.replica.specs.State.{heldId}
 use Rattle.replica.specs.Parents.{isParent, missing}
 use Rattle.replica.proofs.ParentLaws.{strong-parent, weak-parent, parent-cases, weak-five, weak-small}
-use Rattle.ordering.specs.Inner.{Placing}
+use Rattle.ordering.specs.Inner.{Searching}
 
 -- the first i weak ids are held
 abbrev pub WeakHeld : List ℕ → List ℕ → ℕ → Type 0
@@ -133,9 +133,11 @@ pub record Search (n r : ℕ) (l body : List ℕ) : Type 0 where
       → (t : Bool) → t ≡ heldId l (idOf (r - 1) m) → not t ≡ true → idOf (r - 1) m ≡ least idLimit (missing l r body)
   pub strong-all : (m : ℕ) → StrongHeld r l body m → n ≤ m → idLimit ≡ least idLimit (missing l r body)
 
-pub searched : (l : List ℕ) (n r p : ℕ) (body : List ℕ) → Placing l n r p body → Search n r l body
+pub searched : (l : List ℕ) (n r : ℕ) (body : List ℕ) → Searching l n r body → Search n r l body
 unfolding strongOf weakCountOf weakOf
-searched l n r p body pre =
+searched l n r body searching =
+    let p = searching .source in
+    let pre = searching .placing in
     let a = admitted n r p body (pre .admitted) in
     record {
       state-size = pre .size;

@@ -18,7 +18,6 @@ use Rattle.record.proofs.Booleans.{which}
 use Rattle.record.specs.Members.{rounds, slots}
 use Rattle.replica.specs.Layout.{stateSize, masksAt, timeoutsAt, kinds, leaderCountAt, journalCountAt, timeoutsKind}
 use Rattle.replica.specs.State.{memberCount, addMember}
-use Rattle.replica.specs.Parents.{parentsHeld}
 use Rattle.replica.specs.WellFormed.{wellFormed}
 use Rattle.replica.specs.Outcome.{Outcome, told, nothingAdded, admitted, outcome}
 use Rattle.replica.specs.declared.answer.Answer.{Answer}

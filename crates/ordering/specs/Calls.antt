@@ -6,15 +6,15 @@ use lib.Dec.{eqb}
 use lib.ListN.{getD}
 use lib.Seq.{paste}
 use Rattle.record.specs.Below.{all, least}
-use Rattle.record.specs.Members.{has, add, idLimit}
+use Rattle.record.specs.Members.{has, idLimit}
 use Rattle.record.specs.Refusals.{Question, firstNo}
 use Rattle.record.specs.Layout.{bodySize, roundOf, sourceOf, bodyOf}
 use Rattle.record.specs.Questions.{signerQuestions, recordQuestions}
 use Rattle.record.specs.declared.refusal.Refusal.{Refusal}
 use Rattle.record.specs.declared.refusal.Refusal.the-variants.{Duplicate, Conflict, MissingParent}
 use Rattle.protocol.specs.Dag.{votes}
-use Rattle.replica.specs.Layout.{masksAt, heldAt, heardAt, votesAt, timeoutsAt, noVotesAt, cellAt, timeoutsKind, noVotesKind, maskAt}
-use Rattle.replica.specs.State.{memberCount, heldMask, heardMask, timeoutsMask, noVotesMask, cell, addMember, maskOf}
+use Rattle.replica.specs.Layout.{heldAt, heardAt, votesAt, timeoutsAt, cellAt, timeoutsKind, noVotesKind, maskAt}
+use Rattle.replica.specs.State.{memberCount, heldMask, heardMask, addMember, maskOf}
 use Rattle.replica.specs.Parents.{missing, parentsHeld}
 use Rattle.replica.specs.Outcome.{Outcome, outcome}
 use Rattle.replica.specs.Status.{stateQuestions}

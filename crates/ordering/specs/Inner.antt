@@ -16,6 +16,11 @@ pub record Placing (l : List ℕ) (n r p : ℕ) (body : List ℕ) : Type 0 where
   pub legit : legal n ≡ true
   pub admitted : numberOf (bodyRefusal n r p body) ≡ 0
 
+-- so of a source that does not matter
+pub record Searching (l : List ℕ) (n r : ℕ) (body : List ℕ) : Type 0 where
+  pub source : ℕ
+  pub placing : Placing l n r source body
+
 -- the words of a state of n members, and the round, source and strong mask of a first message that the record's questions admit
 pub record Hearing (l : List ℕ) (n r p strong : ℕ) : Type 0 where
   pub size : length l ≡ stateSize

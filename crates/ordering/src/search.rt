@@ -3,7 +3,7 @@ ghost use mathlib.Core.Path.{_≡_};
 ghost use Rattle.record.specs.Below.{least};
 ghost use Rattle.record.specs.Members.{idLimit};
 ghost use Rattle.replica.specs.Parents.{missing};
-ghost use Rattle.ordering.specs.Inner.{Placing};
+ghost use Rattle.ordering.specs.Inner.{Searching};
 use record::layout::STRONG;
 use record::layout::WEAK;
 use record::layout::WEAK_COUNT;
@@ -19,8 +19,8 @@ pub const NONE: u32 = ID_LIMIT;
 
 // The smallest id among the parents that are not held. Weak ids rise, and lie in rounds before that of the strong parents,
 // so it is the first that the loops find; the outer one is there for its label.
-pub fn first_missing(state: &[u32], n: u32, round: u32, source: u32, body: &[u32]) -> u32
-    requires { ⌜ Placing (now state) n round source (now body) ⌝ }
+pub fn first_missing(state: &[u32], n: u32, round: u32, body: &[u32]) -> u32
+    requires { ⌜ Searching (now state) n round (now body) ⌝ }
     ensures { λ r. ⌜ r ≡ least idLimit (missing (now (state .entry)) round (now (body .entry))) ⌝ }
 {
     let count = wide(body[WEAK_COUNT]);

@@ -83,7 +83,7 @@ fn check_place(state: &[u32], n: u32, round: u32, source: u32, body: &[u32]) -> 
         }
         return Refusal::Conflict;
     }
-    let id = first_missing(state, n, round, source, body);
+    let id = first_missing(state, n, round, body);
     if id < NONE {
         return Refusal::MissingParent(id);
     }

@@ -1,6 +1,6 @@
 // Rounds, masks of members, quorums and leaders.
 ghost use mathlib.Core.Path.{_≡_};
-ghost use Prim.Native.Nat.{ℕ, _<_, _≤_, _^_};
+ghost use Prim.Native.Nat.{_<_, _≤_, _^_};
 ghost use Rattle.record.specs.Members.{isRound, legal, faulty, quorum, leader, has, add, within, meets, with};
 
 pub const ROUNDS: u32 = 32;

@@ -26,6 +26,7 @@ use super::layout::wide;
 use super::members::Members;
 use super::members::SLOTS;
 use super::members::faulty_of;
+use super::members::has_bit;
 use super::members::is_round;
 use super::members::is_within;
 use super::members::leader_of;
@@ -88,11 +89,7 @@ fn lacks_leader(terms: Terms, round: u32, strong: u32) -> bool
     if round < 2 {
         return false;
     }
-    let members = Members {
-        bits: strong,
-        n: terms.n,
-    };
-    !members.has(terms.previous)
+    !has_bit(strong, terms.previous)
 }
 
 // The mask is a quorum where it is wanted, and 0 where not: 9, of the timeout mask.

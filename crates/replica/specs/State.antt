@@ -5,7 +5,7 @@ use Prim.Native.Nat.{ℕ, _+_, _-_, _^_}
 use lib.ListN.{getD, set, take, drop}
 use Rattle.record.specs.Members.{leader, has, add, idRound, idMember, isRound}
 use Rattle.record.specs.Layout.{bodySize}
-use Rattle.protocol.specs.Dag.{Records, Dag, held}
+use Rattle.protocol.specs.Dag.{Records, Dag}
 use Rattle.replica.specs.Layout.{memberCountAt, currentRoundAt, committedRoundAt, leaderCountAt, journalCountAt, heldKind, heardKind}
 use Rattle.replica.specs.Layout.{votesKind, timeoutsKind, noVotesKind, orderedKind, maskAt, leadersAt, journalAt, cellAt}
 

@@ -2,7 +2,7 @@ use Rattle.commits.proofs.Laws.{highest-none, highest-here, highest-bel
 use Rattle.commits.specs.Commit.{highestPassable}
 use mathlib.Core.Path.{_≡_, refl, _∙_, sym, ap}
 use native.Mathlib.Omega.{arith}
-use Prim.Native.Nat.{_≤_, _-_}
+use Prim.Native.Nat.{_≤_}
 use borrow.Author.Needs.{needs}
 use Rattle.commits.proofs.rounds.highest_passable.Statement.{statement}
 use Rattle.commits.proofs.rounds.highest_passable.Tie as tie

@@ -9,22 +9,22 @@ use Rattle.ordering.proofs.search.first_missing.Statement.{statement}
 use Rattle.ordering.proofs.search.first_missing.Tie as tie
 
 abbrev Inv-loop : tie.InvT-loop
-Inv-loop state n round source body count strong i₀ i = WeakHeld state body i
+Inv-loop state n round body count strong i₀ i = WeakHeld state body i
 
 abbrev μ-loop : tie.MeasureT-loop
-μ-loop state n round source body count strong i₀ i = count - i
+μ-loop state n round body count strong i₀ i = count - i
 
 abbrev Inv-loop2 : tie.InvT-loop2
-Inv-loop2 state n round source body count strong i p₀ p = StrongHeld round state body p
+Inv-loop2 state n round body count strong i p₀ p = StrongHeld round state body p
 
 abbrev μ-loop2 : tie.MeasureT-loop2
-μ-loop2 state n round source body count strong i p₀ p = n - p
+μ-loop2 state n round body count strong i p₀ p = n - p
 
 abbrev Inv-search : tie.InvT-search
-Inv-search state n round source body count strong = Search n round state body
+Inv-search state n round body count strong = Search n round state body
 
 abbrev μ-search : tie.MeasureT-search
-μ-search state n round source body count strong = 0
+μ-search state n round body count strong = 0
 
 known : (s : tie.Start Inv-loop μ-loop Inv-loop2 μ-loop2 Inv-search μ-search)
     → Search (s .args .n) (s .args .round) (s .args .state .now) (s .args .body .now)

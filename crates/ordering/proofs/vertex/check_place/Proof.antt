@@ -16,6 +16,6 @@ check-place-spec =
     (λ c κs. let k = known (search) in search needs)
     (λ c. known (search) .same (cc) (cc))
     (λ c. known (search) .other (cc) (cc))
-    (λ c κs. search needs)
+    (λ c κs. let s : tie.Start = search in record { source = s .args .source; placing = s .pre })
     (λ c. known (search) .lacking _ (cc) (search) (search))
     (λ c. known (search) .free (cc) (search needs)))

@@ -14,8 +14,8 @@ returns : tie.Need-returns
 unfolding lacksLeader
 returns c = simp (lt-leb _ _ (c .if1 .taken))
 
-has-requires : tie.Need-has-requires
-has-requires c κs =
+has-bit-requires : tie.Need-has-bit-requires
+has-bit-requires c κs =
     let start : tie.Start = search in
     omega (arith, ap (λ (t : Terms). t .previous) (start .pre .0), leader-small (start .args .terms .n) (start .args .round - 1) (omega arith))
 
@@ -24,10 +24,10 @@ unfolding lacksLeader
 returns-2 c =
     let else1 : tie.Else1 = search in
     let start : tie.Start = search in
-    simp (le-leb _ _ (else1 .if1 .left)) (ap not (c .has .ensures ∙ ap (λ (t : Terms). has (start .args .strong) (t .previous)) (start .pre .0)))
+    simp (le-leb _ _ (else1 .if1 .left)) (ap not (c .has-bit .ensures ∙ ap (λ (t : Terms). has (start .args .strong) (t .previous)) (start .pre .0)))
 
 pub lacks-leader-spec : {M : Type 1} → statement M
 lacks-leader-spec = tie.close (tie.spec
     returns
-    has-requires
+    has-bit-requires
     returns-2)

@@ -2,7 +2,7 @@ use mathlib.Core.List.{append-nil}
 use native.Mathlib.Omega.{arith}
 use mathlib.Core.Path.{_≡_, refl, sym, ap, _∙_}
 use mathlib.Core.List.{List, _++_}
-use Prim.Native.Nat.{ℕ, _≤_, _-_, _+_}
+use Prim.Native.Nat.{ℕ, _≤_, _-_}
 use lib.ListN.{length, drop}
 use Rattle.transcript.specs.Text.{digitsFrom}
 use Rattle.transcript.proofs.Digits.{digits-done, digits-out, digits-turn, decimal-zero, decimal-more}

@@ -14,7 +14,7 @@ use Rattle.record.specs.Refusals.{numberOf, Question, firstNo}
 use Rattle.record.specs.Layout.{roundOf, sourceOf, bodyOf, strongOf, weakCountOf, weakOf, weakSlots}
 use Rattle.record.specs.Questions.{recordQuestions, bodyRefusal}
 use Rattle.record.specs.Admitted.{Admitted}
-use Rattle.record.proofs.Booleans.{which, never, and-left, and-right, and-both, and-fails-left, cond-true}
+use Rattle.record.proofs.Booleans.{which, never, and-left, and-right, and-both, and-fails-left, cond-true, imp-elim}
 use Rattle.record.proofs.Below.{all-elim}
 use Rattle.record.proofs.Turn.{next, done, front-yes, numbered-law, admitted}
 use Rattle.protocol.specs.Dag.{Records, recordsOf, present, held}
@@ -71,11 +71,6 @@ dry m [] = m
 dry m (c ∷ calls) = dry (admit c 0 m) calls
 
 -- ---- the questions of the calls
-
--- a test that is met where it is wanted
-imp-elim : (a b : Bool) → (not a || b) ≡ true → a ≡ true → b ≡ true
-imp-elim true b e h = e
-imp-elim false b e h = never h refl
 
 -- a member that was heard has a first message
 heard-there : (l : List ℕ) (r p : ℕ) → (isRound r && has (heardMask l r) p) ≡ true → present (firsts l r p) ≡ true

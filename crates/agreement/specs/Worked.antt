@@ -35,7 +35,7 @@ seen o given = record {
   journal = journalIn (o .words);
 }
 
--- a row: calls on 5,864 zero words, which are all admitted; a last call; and what must be seen then
+-- a row: calls on as many zero words as a state has, which are all admitted; a last call; and what must be seen then
 pub record Row : Type 0 where
   pub calls : List Call
   pub last : Call

@@ -14,7 +14,7 @@ use Rattle.record.proofs.Booleans.{which, and-both, and-left, and-right, and-fa
 use Rattle.protocol.specs.Dag.{held}
 use Rattle.protocol.specs.Paths.{history}
 use Rattle.protocol.specs.Masks.{historyMasks}
-use Rattle.protocol.proofs.History.{history-held, id-split, id-member}
+use Rattle.protocol.proofs.History.{history-held}
 use Rattle.protocol.proofs.Masks.{history-claim}
 use Rattle.replica.specs.Layout.{stateSize}
 use Rattle.replica.specs.State.{memberCount, vertices, orderedId}
@@ -23,6 +23,7 @@ use Rattle.commits.specs.Standing.{Standing, Room, orderId, orderRound}
 use Rattle.commits.proofs.Walking.{select-none}
 use Rattle.commits.proofs.Steps.{select-zero, select-in, select-out, enter-none, enter-more, order-out, order-old, order-new, room-for}
 use Rattle.commits.proofs.Frame.{Alike, alike-self, alike-then, alike-enter, entered-ordered, room-kept}
+use Rattle.record.proofs.Rounds.{id-same, id-member}
 
 -- a state of the right length, with room
 abbrev pub Roomy : List ℕ → Type 0
@@ -159,7 +160,7 @@ module _ (n : ℕ) (l : List ℕ) (S : Standing l) (R : Room l) (e : n ≡ membe
   mask-of y low high =
       history-claim n (vertices l) (rw e (S .members)) (rw e (S .valid)) r (leader n r) there (idRound y) (idMember y) (omega arith) (omega arith)
       (omega arith)
-      ∙ ap (history n (vertices l) r (leader n r)) (id-split y)
+      ∙ ap (history n (vertices l) r (leader n r)) (id-same y)
 
   -- the ids of a round below its member k, by the round's mask
   members-step : (s mask k : ℕ) → k ≤ slots → ((p : ℕ) → p < slots → has mask p ≡ history n (vertices l) r (leader n r) (idOf s p))

@@ -17,14 +17,13 @@ use Rattle.record.proofs.Booleans.{which, never, and-cong, bool-ext}
 use Rattle.record.proofs.Below.{count-cong}
 use Rattle.record.proofs.Masks.{has-add}
 use Rattle.record.proofs.Rounds.{round-in, round-range}
-use Rattle.protocol.specs.Chain.{leaderId}
 use Rattle.protocol.proofs.Laws.{records-ext}
 use Rattle.record.specs.Layout.{bodySize}
-use Rattle.replica.specs.Layout.{headSize, leadersSize, leaderCountAt, journalCountAt, timeoutsKind, memberCountAt}
+use Rattle.replica.specs.Layout.{headSize, journalCountAt, timeoutsKind, memberCountAt}
 use Rattle.replica.specs.Layout.{masksAt, cellAt, orderedAt, stateSize, leadersAt, journalAt, journalSize, cellsAt}
-use Rattle.replica.specs.State.{memberCount, leaderCount, journalCount, heldMask, heardMask, votesMask, orderedMask, vertices, addMember}
+use Rattle.replica.specs.State.{memberCount, journalCount, heldMask, heardMask, votesMask, orderedMask, vertices, addMember}
 use Rattle.replica.specs.State.{firsts, orderedId}
-use Rattle.commits.specs.Commit.{appendLeader, enter}
+use Rattle.commits.specs.Commit.{enter}
 use Rattle.commits.specs.Standing.{Standing, Room}
 
 -- ---- states alike in members, cells and the three masks of what was taken
@@ -120,13 +119,6 @@ module _ {l m : List ℕ} (A : Alike l m) where
   }
 
 -- ---- one leader, one id
-
-pub alike-leader : (l : List ℕ) (r : ℕ) → leaderCount l < leadersSize → Alike l (appendLeader l r)
-unfolding appendLeader
-alike-leader l r h =
-    alike-then (alike-set l (leadersAt + leaderCount l) (leaderId (memberCount l) r) (loose-list _ (omega arith) (omega arith)))
-    (alike-set (set l (leadersAt + leaderCount l) (leaderId (memberCount l) r)) leaderCountAt (leaderCount l + 1)
-    (loose-head leaderCountAt (omega arith) (omega arith)))
 
 pub alike-enter : (l : List ℕ) (y : ℕ) → slots ≤ y → y < idLimit → journalCount l < journalSize → Alike l (enter l y)
 unfolding enter addMember

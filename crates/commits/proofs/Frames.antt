@@ -3,7 +3,7 @@ use mathlib.Core.Path.{_≡_, sym, ap, _∙_}
 use mathlib.Core.List.{List}
 use Prim.Native.Nat.{ℕ, _+_, _≤_, _<_}
 use native.Mathlib.Omega.{arith}
-use lib.ListN.{getD, set}
+use lib.ListN.{getD}
 use Rattle.record.specs.Members.{legal, has, idRound, rounds}
 use Rattle.protocol.specs.Dag.{Records}
 use Rattle.replica.specs.Layout.{committedRoundAt, heldKind, heardKind, votesKind}
@@ -107,28 +107,7 @@ module _ (l l′ : List ℕ) (p : Keeps OffLists l l′) where
 abbrev pub Core : ℕ → Type 0
 Core j = (currentRoundAt ≤ j → j ≤ journalCountAt → ⊥) × (leadersAt ≤ j → j < cellsAt → ⊥) × ((r : ℕ) → 1 ≤ r → r ≤ rounds → j ≡ orderedAt r → ⊥)
 
--- Standing rests on none of these
-core-standing : (l l′ : List ℕ) → Keeps Core l l′ → Standing l → Standing l′
-core-standing l l′ p = standing-kept Core l l′ p (λ a b. omega arith, λ a b. omega arith, λ r a b e. omega arith)
-    (λ r i a b k. (λ c d. omega arith, λ c d. omega arith, λ s c d e. omega arith)) (λ j a. (λ c d. omega arith, λ c d. omega arith, λ s c d e. omega arith))
-
--- a word from 1 to 4
-pub standing-count : (l : List ℕ) (j x : ℕ) → currentRoundAt ≤ j → j ≤ journalCountAt → Standing l → Standing (set l j x)
-standing-count l j x a b = core-standing l (set l j x) (keeps-set Core l j x (λ i k e. k .0 (omega arith) (omega arith)))
-
--- a list word
-pub standing-list : (l : List ℕ) (j x : ℕ) → leadersAt ≤ j → j < cellsAt → Standing l → Standing (set l j x)
-standing-list l j x a b = core-standing l (set l j x) (keeps-set Core l j x (λ i k e. k .1 (omega arith) (omega arith)))
-
--- an ordered mask
-pub standing-ordered : (l : List ℕ) (r x : ℕ) → 1 ≤ r → r ≤ rounds → Standing l → Standing (set l (orderedAt r) x)
-standing-ordered l r x a b = core-standing l (set l (orderedAt r) x) (keeps-set Core l (orderedAt r) x (λ i k e. k .2 r a b e))
-
 -- ---- what one append and one entry keep
-
--- the committed round
-pub keeps-committed : (l : List ℕ) (q : ℕ) → Keeps OffLists l (set l committedRoundAt q)
-keeps-committed l q = keeps-set OffLists l 2 q (λ j k e. k .not-committed e)
 
 -- a leader appended
 pub keeps-leader : (l : List ℕ) (r : ℕ) → leaderCount l < leadersSize → Keeps OffLeaders l (appendLeader l r)
@@ -145,10 +124,6 @@ keeps-entry l y a b h = keeps-trans OffJournal l _ _
     (keeps-trans OffJournal _ _ _
     (keeps-set OffJournal _ (journalAt + journalCount l) y (λ j k e. k .1 (omega arith) (omega arith)))
     (keeps-set OffJournal _ journalCountAt _ (λ j k e. k .0 e)))
-
--- an append and an entry are list words
-pub leaders-lists : (l l′ : List ℕ) → Keeps OffLeaders l l′ → Keeps OffLists l l′
-leaders-lists l l′ p = keeps-less OffLeaders OffLists l l′ (λ j k. k .off-leaders) p
 
 -- the same of entries
 pub journal-lists : (l l′ : List ℕ) → Keeps OffJournal l l′ → Keeps OffLists l l′

@@ -1,6 +1,6 @@
 -- How the leader list and the journal grow: by one, by many, and by a commit. Assumes nothing.
 use mathlib.Core.Path.{_≡_, refl, sym, ap, ap₂, _∙_, subst}
-use mathlib.Core.Bool.{Bool, true, false, cond, not, _&&_, _||_}
+use mathlib.Core.Bool.{Bool, true, false, not, _&&_, _||_, or-false}
 use mathlib.Core.Logic.{_⊎_, inl, inr, ⊎-elim}
 use mathlib.Core.List.{List, [], _∷_, _++_, map, append-assoc, append-nil}
 use Prim.Native.Nat.{ℕ, zero, suc, _+_, _^_, _≤_, _<_}
@@ -13,7 +13,7 @@ use borrow.Author.Tests.{eqb-true, eqb-false, eq-eqb, ne-eqb, not-true}
 use Rattle.record.specs.Below.{count, select}
 use Rattle.record.specs.Members.{legal, leader, has, add, idRound, idMember, isRound, idLimit, rounds, votedRounds}
 use Rattle.record.proofs.Booleans.{which, never, and-left, and-right, or-cases, or-left, or-right, bool-ext}
-use Rattle.record.proofs.Below.{count-mono, count-cong, select-cong}
+use Rattle.record.proofs.Below.{count-mono, count-cong, select-cong, digit-mono}
 use Rattle.record.proofs.Masks.{has-add, add-lt}
 use Rattle.record.proofs.Rounds.{round-range, round-in}
 use Rattle.protocol.specs.Dag.{Records, held}
@@ -21,7 +21,7 @@ use Rattle.protocol.specs.Paths.{history}
 use Rattle.protocol.specs.Chain.{leaderId}
 use Rattle.protocol.specs.Journal.{among, fresh, extend}
 use Rattle.protocol.specs.Premises.{ValidVertices}
-use Rattle.protocol.proofs.Lists.{or-false, or-assoc, among-none, among-append, among-one, among-select, once, once-select}
+use Rattle.protocol.proofs.Lists.{or-assoc, among-none, among-append, among-one, among-select, once, once-select}
 use Rattle.protocol.proofs.History.{Named, named-up, history-held}
 use Rattle.protocol.proofs.Chain.{chain-held}
 use Rattle.protocol.proofs.Laws.{chain-length}
@@ -29,13 +29,13 @@ use Rattle.replica.specs.Layout.{committedRoundAt}
 use Rattle.replica.specs.Layout.{stateSize, orderedAt, leadersAt, leadersSize, journalAt, journalSize, leaderCountAt, journalCountAt, memberCountAt}
 use Rattle.replica.specs.State.{memberCount, committedRound, leaderCount, journalCount, orderedMask, leaderWord, journalWord, leaderList, journalList}
 use Rattle.replica.specs.State.{vertices, firsts, orderedId, addMember}
-use Rattle.replica.proofs.Formed.{WellFormed, leader-length, journal-length, leaders-few}
+use Rattle.replica.proofs.Formed.{WellFormed, journal-length, leaders-few}
 use Rattle.replica.proofs.Dags.{dag-well-formed}
 use Rattle.replica.proofs.Keeping.{Keeps, keeps-refl, keeps-trans, keeps-less, keeps-set, leader-list-kept, journal-list-kept, ordered-id-kept}
 use Rattle.commits.specs.Commit.{appendLeader, appendLeaders, enter, enterAll, orderLeader, orderLeaders, taken, commit}
 use Rattle.commits.specs.Standing.{Standing, Room}
 use Rattle.commits.proofs.Ground.{room, room-limit}
-use Rattle.commits.proofs.Frames.{OffLeaders, OffJournal, OffLists, keeps-leader, keeps-entry, leaders-lists, journal-lists, lists-standing}
+use Rattle.commits.proofs.Frames.{OffLeaders, OffJournal, OffLists, keeps-leader, keeps-entry, journal-lists, lists-standing}
 use Rattle.commits.proofs.Frames.{lists-vertices, lists-firsts}
 
 -- ---- words set one after the other
@@ -123,13 +123,9 @@ unfolding count
 count-more s t y zero f a b h = absurd (omega arith)
 count-more s t y (suc k) f a b h = go (which (eqb y k)) (count-more s t y k f a b)
   where
-    digit : (a b : Bool) → (a ≡ true → b ≡ true) → cond a 1 0 ≤ cond b 1 0
-    digit true b f = rw (f refl) (omega arith)
-    digit false b f = omega arith
-
     go : (eqb y k ≡ true) ⊎ (eqb y k ≡ false) → (y < k → count k s + 1 ≤ count k t) → count (suc k) s + 1 ≤ count (suc k) t
     go (inl q) ih = rw (ap s (sym (eqb-true y k q)) ∙ a, ap t (sym (eqb-true y k q)) ∙ b) (omega (arith, count-mono k s t f))
-    go (inr q) ih = omega (arith, ih (omega (arith, eqb-false y k q)), digit (s k) (t k) (f k))
+    go (inr q) ih = omega (arith, ih (omega (arith, eqb-false y k q)), digit-mono (s k) (t k) (f k))
 
 module _ (l : List ℕ) (y : ℕ) (size : length l ≡ stateSize) (low : 1 ≤ idRound y) (high : idRound y ≤ rounds) where
   -- the ordered masks afterwards
@@ -500,17 +496,6 @@ module _ (l : List ℕ) (S : WellFormed l) (q : ℕ) (above : committedRound l <
   pub commit-leader-count : leaderCount (commit l q) ≡ leaderCount l + length (taken l q)
   commit-leader-count = grown .leader-count
 
-  -- the leader count, by the list
-  pub commit-leader-length : leaderCount (commit l q) ≡ length (leaderList l ++ map (leaderId (memberCount l)) (taken l q))
-  commit-leader-length =
-      omega (
-        arith,
-        grown .leader-count,
-        length-append (leaderList l) (map (leaderId (memberCount l)) (taken l q)),
-        length-map (taken l q) (leaderId (memberCount l)),
-        leader-length l S,
-      )
-
   -- the journal count, by the list
   pub commit-journal-length : journalCount (commit l q) ≡ length (extend (memberCount l) (vertices l) (journalList l) (taken l q))
   commit-journal-length =
@@ -518,27 +503,9 @@ module _ (l : List ℕ) (S : WellFormed l) (q : ℕ) (above : committedRound l <
 
 -- ---- Standing, and room, are kept
 
--- by a leader appended
-pub standing-append : (l : List ℕ) (r : ℕ) → leaderCount l < leadersSize → Standing l → Standing (appendLeader l r)
-standing-append l r h T = lists-standing l (appendLeader l r) (leaders-lists l (appendLeader l r) (keeps-leader l r h)) T
-
--- by several
-pub standing-append-all : (l rs : List ℕ) → leaderCount l + length rs ≤ leadersSize → Standing l → Standing (appendLeaders l rs)
-standing-append-all l rs h T = lists-standing l (appendLeaders l rs) (leaders-lists l (appendLeaders l rs) (append-all l rs (T .size) h .kept)) T
-
 -- by entries
 entered-standing : (l xs l′ : List ℕ) → Entered l xs l′ → Standing l → Standing l′
 entered-standing l xs l′ E T = lists-standing l l′ (journal-lists l l′ (E .kept)) T
-
--- by an id that is not ordered yet
-pub standing-enter : (l : List ℕ) (y : ℕ) → Standing l → Room l → 1 ≤ idRound y → idRound y ≤ rounds → orderedId l y ≡ false → Standing (enter l y)
-    × Room (enter l y)
-standing-enter l y T R a b new = let E = enter-one l y (T .size) R a b new in (entered-standing l (y ∷ []) (enter l y) E T, E .room)
-
--- by several
-pub standing-enter-all : (l ys : List ℕ) → Standing l → Room l → once ys ≡ true
-    → ((y : ℕ) → among ys y ≡ true → (1 ≤ idRound y) × (idRound y ≤ rounds) × (orderedId l y ≡ false)) → Standing (enterAll l ys) × Room (enterAll l ys)
-standing-enter-all l ys T R p f = let E = enter-all l ys (T .size) R p f in (entered-standing l ys (enterAll l ys) E T, E .room)
 
 module _ (n : ℕ) (v : Records) (g : legal n ≡ true) (W : ValidVertices n v) where
   -- by a leader's history

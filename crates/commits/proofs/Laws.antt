@@ -16,10 +16,10 @@ use Rattle.protocol.specs.Dag.{Records}
 use Rattle.protocol.specs.Masks.{parents, join, joinWeak, joinParents, joinRound, fill, historyMasks}
 use Rattle.replica.specs.Layout.{cellAt, currentRoundAt}
 use Rattle.replica.specs.State.{memberCount, currentRound, heldMask, timeoutsMask, vertices}
-use Rattle.replica.proofs.Words.{id-round, id-member}
 use Rattle.commits.specs.Commit.{passable, highestPassable, raiseRound}
 use Rattle.commits.specs.Standing.{Standing}
 use Rattle.protocol.proofs.Paths.{weak-present}
+use Rattle.record.proofs.Rounds.{id-round, id-member}
 
 -- ---- the round rule
 

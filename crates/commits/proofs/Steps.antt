@@ -23,13 +23,12 @@ use Rattle.protocol.specs.Dag.{Dag, present, held, votes, enough, committed}
 use Rattle.protocol.specs.Masks.{voters}
 use Rattle.protocol.specs.Chain.{leaderId}
 use Rattle.protocol.proofs.Voters.{voters-in, voters-out, voters-claim}
-use Rattle.protocol.proofs.History.{id-round, id-member}
 use Rattle.replica.specs.Layout.{cellAt, stateSize, leadersAt, leadersSize, journalSize, leaderCountAt, memberCountAt}
 use Rattle.replica.specs.State.{memberCount, committedRound, leaderCount, journalCount, heldMask, heardMask, votesMask, orderedMask, cell, vertices}
 use Rattle.replica.specs.State.{firsts, dag, orderedId}
 use Rattle.replica.specs.WellFormed.{subset}
 use Rattle.replica.proofs.Laws.{subset-has}
-use Rattle.record.proofs.Rounds.{round-in, id-low}
+use Rattle.record.proofs.Rounds.{round-in, id-low, id-round, id-member}
 use Rattle.commits.specs.Commit.{appendLeader, appendLeaders, enter, enterAll, committable}
 use Rattle.commits.specs.Standing.{Standing, Room, LeaderRoom, orderId, orderRound}
 use Rattle.commits.proofs.Laws.{Cell}

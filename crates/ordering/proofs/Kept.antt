@@ -14,13 +14,12 @@ use Rattle.record.specs.declared.refusal.Refusal.{Refusal}
 use Rattle.record.proofs.Booleans.{which, and-left, and-right, and-both, or-cases, or-left, or-right}
 use Rattle.record.proofs.Below.{least-sat}
 use Rattle.record.proofs.Masks.{leader-lt, has-bound}
-use Rattle.record.proofs.Rounds.{round-in}
+use Rattle.record.proofs.Rounds.{round-in, id-round, id-member}
 use Rattle.protocol.specs.Dag.{held, committed}
 use Rattle.protocol.specs.Chain.{walk, leaderId}
 use Rattle.protocol.specs.Journal.{among}
 use Rattle.protocol.proofs.Commit.{committed-held}
 use Rattle.protocol.proofs.Lists.{rising, among-append, once}
-use Rattle.protocol.proofs.History.{id-round, id-member}
 use Rattle.protocol.proofs.Chain.{chain-some, chain-held, walk-rising}
 use Rattle.protocol.proofs.Journal.{extend-once}
 use Rattle.replica.specs.Layout.{stateSize, masksAt, heldAt, timeoutsKind, noVotesKind, orderedKind, memberCountAt}
@@ -35,8 +34,7 @@ use Rattle.commits.specs.Commit.{taken, commit, committable, lowest, commitUpTo
 use Rattle.ordering.specs.Calls.{putVertex, hear, takeBody, takeFirstBody, takeTimeout, takeNoVote, placeQuestions, vertexQuestions}
 use Rattle.ordering.specs.Calls.{firstQuestions, noteRefusal}
 use Rattle.ordering.specs.Kept.{LeavesWellFormed, KeepsWellFormed}
-use Rattle.commits.specs.Standing.{Standing, Room}
-use Rattle.commits.proofs.Ground.{standing, room-limit}
+use Rattle.commits.proofs.Ground.{room-limit}
 use Rattle.commits.proofs.Frames.{OffLists, off-front, off-zeros, off-mask, off-cells}
 use Rattle.commits.proofs.Growing.{Committed, grown, leaders-fit}
 use Rattle.ordering.proofs.Turns.{record-passed, parents-passed, note-passed}
@@ -142,10 +140,6 @@ module _ (l : List ℕ) (S : WellFormed l) (q : ℕ) (above : committedRound l <
     leaders = commit-leaders-formed;
     journal = commit-journal-formed;
   }
-
-  -- so commits can stand on it again
-  pub standing-commit : Standing (commit l q) × Room (commit l q)
-  standing-commit = (standing (commit l q) formed-commit, C .room)
 
 -- ---- all commits
 

@@ -16,7 +16,7 @@ use Rattle.protocol.specs.Journal.{extend, journal}
 use Rattle.protocol.specs.Premises.{DagPremises}
 use Rattle.protocol.specs.Claims.{Prefix, Growth, Agreement, Safety}
 use Rattle.protocol.proofs.Paths.{path-held, key}
-use Rattle.protocol.proofs.Commit.{committed-held, last-committed, Within, last-grows}
+use Rattle.protocol.proofs.Commit.{committed-held, last-committed}
 use Rattle.protocol.proofs.Lists.{map-append}
 use Rattle.protocol.proofs.Chain.{chain-none, chain-split, chain-same}
 use Rattle.protocol.proofs.Journal.{extend-none, extend-append, extend-prefix, chain-journal}
@@ -58,10 +58,6 @@ module _ (n : ℕ) {I : Type 0} (dag : I → Dag) (honest : ℕ → Bool) (P : D
   agreement i j = ⊎-elim
       (λ e. inl (ordered i j (leb-true _ _ e))) (λ e. inr (ordered j i (omega (arith, leb-false (last n (dag i)) (last n (dag j)) e))))
       (which (leb (last n (dag i)) (last n (dag j))))
-
-  -- a member's lists only grow as it gains records
-  pub lists-grow : (i j : I) → Within (dag i) (dag j) → Prefix (leaders n (dag i)) (leaders n (dag j)) × Prefix (journal n (dag i)) (journal n (dag j))
-  lists-grow i j W = ordered i j (last-grows n (dag i) (dag j) W)
 
 -- The safety theorem.
 pub safety : Safety

@@ -6,7 +6,7 @@ use Prim.Native.Nat.{ℕ, zero, suc, _≤_, _<_}
 use native.Mathlib.Nat.{eq-or-lt-of-le, not-suc-le-zero}
 use native.Mathlib.Omega.{arith}
 use lib.Dec.{leb}
-use borrow.Author.Tests.{leb-true, leb-false, le-leb}
+use borrow.Author.Tests.{leb-true, le-leb}
 use Rattle.record.specs.Below.{count}
 use Rattle.record.specs.Members.{quorum, leader, votedRounds}
 use Rattle.record.proofs.Booleans.{which, never, and-left, and-right, and-both, or-cases, or-left, or-right, cond-cong}
@@ -62,10 +62,6 @@ last-committed n d = up-to-committed n d votedRounds
 pub last-low : (n : ℕ) (d : Dag) → last n d ≤ votedRounds
 last-low n d = up-to-low n d votedRounds
 
--- and no round from there up to 31 is committed
-pub committed-above : (n : ℕ) (d : Dag) (q : ℕ) → last n d < q → q ≤ votedRounds → committed n d q ≡ false
-committed-above n d q l h = ⊎-elim (λ c. absurd (omega (arith, up-to-highest n d votedRounds q (omega arith) h c))) (λ e. e) (which (committed n d q))
-
 -- ---- a DAG that gains records
 
 -- all that the first DAG has, the second has
@@ -93,17 +89,6 @@ module _ (n : ℕ) (d e : Dag) (W : Within d e) where
       (λ x. or-left _ (enough-more n _ _ (vertex-votes q) x))
       (λ x. or-right (enough n (λ p. votes n q (e .vertex (suc q) p))) (enough-more n _ _ (first-votes q) x))
       (or-cases _ _ (and-right (held (d .vertex) q (leader n q)) _ c)))
-
-  -- the last committed round does not fall
-  pub up-to-grows : (k : ℕ) → lastUpTo n d k ≤ lastUpTo n e k
-  up-to-grows k = ⊎-elim
-      (λ z. omega (arith, leb-true (lastUpTo n d k) 0 z))
-      (λ z. up-to-highest n e k (lastUpTo n d k) (leb-false _ _ z) (up-to-low n d k) (committed-stays _ (up-to-committed n d k (leb-false _ _ z))))
-      (which (leb (lastUpTo n d k) 0))
-
-  -- so for the last of all
-  pub last-grows : last n d ≤ last n e
-  last-grows = up-to-grows votedRounds
 
 -- ---- two DAGs with the same vertices, and the same votes of first messages
 

@@ -1,7 +1,7 @@
 -- Paths by sets: what a vertex reaches in round t are the strong parents of what it reaches in round t + 1.
 use mathlib.Core.Path.{_≡_, refl, sym, ap, _∙_}
-use mathlib.Core.Bool.{Bool, true, false, _&&_, _||_, false≢true}
-use mathlib.Core.Logic.{_⊎_, inl, inr, ⊎-elim}
+use mathlib.Core.Bool.{Bool, true, false, _&&_, _||_, false≢true, or-false}
+use mathlib.Core.Logic.{_⊎_, inl, inr}
 use Prim.Native.Nat.{ℕ, zero, suc, _≤_, _<_}
 use native.Mathlib.Nat.{eq-or-lt-of-le, not-suc-le-zero}
 use native.Mathlib.Omega.{arith}
@@ -17,7 +17,6 @@ use Rattle.protocol.specs.Dag.{Records, held}
 use Rattle.protocol.specs.Paths.{path}
 use Rattle.protocol.specs.Premises.{ValidVertices}
 use Rattle.protocol.specs.Masks.{parents, ParentsClaim}
-use Rattle.protocol.proofs.Lists.{or-false}
 use Rattle.protocol.proofs.Paths.{parent-present, parent-held, path-self, path-edge}
 
 module _ (n : ℕ) (v : Records) where
@@ -54,10 +53,6 @@ module _ (n : ℕ) (v : Records) where
   -- from a held vertex, in its own round, to itself alone
   pub path-start : (r p q : ℕ) → zero < r → held v r p ≡ true → path n v r p r q ≡ eqb p q
   path-start r p q l h = bool-ext (λ e. eq-eqb p q (path-here r p q e)) (λ e. rw (← eqb-true p q e) (path-self n v r p l h))
-
-  -- and to no higher round
-  pub path-above : (r p t q : ℕ) → r < t → path n v r p t q ≡ false
-  path-above r p t q l = ⊎-elim (λ e. absurd (omega (arith, path-le r p t q e))) (λ e. e) (which (path n v r p t q))
 
   -- a path to a lower round has a last edge
   last-edge : (r p t q : ℕ) → p < n → t < r → path n v r p t q ≡ true

@@ -17,17 +17,7 @@ use Rattle.protocol.specs.Dag.{Records, held}
 use Rattle.protocol.specs.Paths.{historyUpTo, history}
 use Rattle.protocol.specs.Premises.{ValidVertices}
 use Rattle.protocol.proofs.Paths.{parent-present, weak-present}
-
--- an id is that of its round and member
-pub id-split : (y : ℕ) → idOf (idRound y) (idMember y) ≡ y
-id-split y = omega arith
-
--- the round and the member of an id
-pub id-round : (r p : ℕ) → p < slots → idRound (idOf r p) ≡ r
-id-round r p l = omega arith
-
-pub id-member : (r p : ℕ) → p < slots → idMember (idOf r p) ≡ p
-id-member r p l = omega arith
+use Rattle.record.proofs.Rounds.{id-same}
 
 -- The edges fall by a round at least, to members of the group.
 pub record Edges (n : ℕ) (v : Records) : Type 0 where
@@ -131,7 +121,7 @@ module _ (n : ℕ) (v : Records) where
         step zero lj pj = absurd (not-suc-le-zero pj)
         step (suc j) lj pj =
             by-weak j t q i _ li
-            (rw (id-split (weakOf (v t q) i))
+            (rw (id-same (weakOf (v t q) i))
             at (by-self j (idRound (weakOf (v t q) i)) (idMember (weakOf (v t q) i))
             (omega (arith, E .weak-low t q i li .0, E .weak-low t q i li .1))))
 

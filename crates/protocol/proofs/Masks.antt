@@ -1,6 +1,6 @@
 -- Histories as masks: what each step of filling them adds, and that the filled masks name exactly the history.
 use mathlib.Core.Path.{_≡_, refl, sym, ap, ap₂, _∙_}
-use mathlib.Core.Bool.{Bool, true, false, _&&_, _||_}
+use mathlib.Core.Bool.{Bool, true, false, _&&_, _||_, or-false}
 use mathlib.Core.Logic.{_⊎_, inl, inr, ⊎-elim}
 use mathlib.Core.List.{List}
 use Prim.Native.Nat.{ℕ, zero, suc, _-_, _^_, _≤_, _<_}
@@ -22,10 +22,11 @@ use Rattle.protocol.specs.Dag.{Records, held}
 use Rattle.protocol.specs.Paths.{path, historyUpTo, history}
 use Rattle.protocol.specs.Premises.{ValidVertices}
 use Rattle.protocol.specs.Masks.{join, joinWeak, joinParents, joinRound, fill, historyMasks, HistoryClaim, StrongHistoryClaim}
-use Rattle.protocol.proofs.Lists.{or-false, or-assoc}
+use Rattle.protocol.proofs.Lists.{or-assoc}
 use Rattle.protocol.proofs.Paths.{parent-held, path-self, path-edge}
 use Rattle.protocol.proofs.Frontier.{first-edge, path-here, path-le}
-use Rattle.protocol.proofs.History.{id-round, id-member, Edges, edges, by-self, by-strong, by-cases, none-yet, history-strong, history-weak}
+use Rattle.protocol.proofs.History.{Edges, edges, by-self, by-strong, by-cases, none-yet, history-strong, history-weak}
+use Rattle.record.proofs.Rounds.{id-round, id-member}
 
 -- the masks have member q in round t
 abbrev pub marked : List ℕ → ℕ → ℕ → Bool

@@ -62,10 +62,6 @@ all-join a b t = bool-ext
 
 -- ---- any
 
-pub any-none : (t : ℕ → Bool) → any 0 t ≡ false
-unfolding any
-any-none t = refl
-
 pub any-intro : (k : ℕ) (t : ℕ → Bool) (i : ℕ) → i < k → t i ≡ true → any k t ≡ true
 unfolding any
 any-intro zero t i h e = absurd (not-suc-le-zero h)
@@ -101,7 +97,7 @@ any-cong (suc k) s t h = ap₂ _||_ (any-cong k s t (λ i l. h i (omega arith)))
 
 -- ---- count
 
-digit-mono : (a b : Bool) → (a ≡ true → b ≡ true) → cond a 1 0 ≤ cond b 1 0
+pub digit-mono : (a b : Bool) → (a ≡ true → b ≡ true) → cond a 1 0 ≤ cond b 1 0
 digit-mono true b h = rw (h refl) (omega arith)
 digit-mono false b h = omega arith
 

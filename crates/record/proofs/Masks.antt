@@ -1,6 +1,6 @@
 -- Laws of masks of members, with `|`, `&`, `1 << p` and `count_ones`. Assumes nothing.
 use mathlib.Core.Path.{_≡_, refl, sym, ap, ap₂, _∙_}
-use mathlib.Core.Bool.{Bool, true, false, cond, _&&_, _||_, true≢false}
+use mathlib.Core.Bool.{Bool, true, false, cond, _&&_, _||_, true≢false, or-false}
 use mathlib.Core.Logic.{⊎-elim}
 use Prim.Native.Nat.{ℕ, zero, suc, _+_, _-_, _*_, _/_, _%_, _^_, _≤_, _<_}
 use native.Mathlib.Nat.{pow-suc, mul-comm, one-mul, lt-of-lt-of-le, mod-lt, mod-le, zero-mod, zero-div, div-eq-of-lt, div-div-eq-div-mul}
@@ -136,10 +136,6 @@ has-add-same m p = has-add m p p ∙ or-right (has m p) (eq-eqb p p refl)
 
 pub has-add-other : (m q p : ℕ) → (q ≡ p → ⊥) → has (add m q) p ≡ has m p
 has-add-other m q p h = has-add m q p ∙ rw (ne-eqb q p h) (or-false (has m p))
-  where
-    or-false : (b : Bool) → (b || false) ≡ b
-    or-false true = refl
-    or-false false = refl
 
 -- the added mask stays below 2 ^ k
 pub add-lt : (k m p : ℕ) → m < 2 ^ k → p < k → add m p < 2 ^ k

@@ -5,7 +5,7 @@ use Prim.Native.Nat.{ℕ, _≤_, _<_}
 use native.Mathlib.Omega.{arith}
 use lib.Dec.{leb, ltb}
 use borrow.Author.Tests.{leb-true, le-leb, lt-leb, ltb-true, lt-ltb}
-use Rattle.record.specs.Members.{isRound, idRound, rounds, slots, idLimit}
+use Rattle.record.specs.Members.{isRound, idRound, rounds, slots, idLimit, idMember, idOf}
 use Rattle.record.proofs.Booleans.{and-left, and-right, and-both, and-fails-left, and-fails-right, bool-ext}
 
 -- exactly the numbers from 1 to 32 are rounds
@@ -33,3 +33,13 @@ pub id-test : (x : ℕ) → slots ≤ x → ltb x idLimit ≡ isRound (idRound x
 id-test x h = bool-ext
     (λ e. round-in (idRound x) (omega arith) (omega (arith, ltb-true x idLimit e)))
     (λ e. lt-ltb x idLimit (omega (arith, round-range (idRound x) e .1)))
+
+-- the round and the member of an id, which is theirs
+pub id-round : (r p : ℕ) → p < slots → idRound (idOf r p) ≡ r
+id-round r p l = omega arith
+
+pub id-member : (r p : ℕ) → p < slots → idMember (idOf r p) ≡ p
+id-member r p l = omega arith
+
+pub id-same : (y : ℕ) → idOf (idRound y) (idMember y) ≡ y
+id-same y = omega arith

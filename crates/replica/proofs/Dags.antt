@@ -3,26 +3,23 @@ use mathlib.Core.Path.{_≡_, refl, sym, _∙_}
 use mathlib.Core.Bool.{true, false, _&&_}
 use mathlib.Core.Logic.{_⊎_, inl, inr}
 use mathlib.Core.List.{List, [], _∷_}
-use Prim.Native.Nat.{ℕ, suc, _+_, _-_, _≤_, _<_}
+use Prim.Native.Nat.{ℕ, _+_, _-_, _≤_, _<_}
 use native.Mathlib.Nat.{not-suc-le-zero}
-use native.Mathlib.Numerals.{sub-one}
 use native.Mathlib.Omega.{arith}
 use lib.ListN.{length, getD, drop}
 use lib.Seq.{getD-drop, getD-take}
-use borrow.Author.Tests.{eq-eqb}
-use Rattle.record.specs.Members.{leader, has, idOf, idRound, idMember, isRound, rounds, slots, votedRounds, idLimit}
+use Rattle.record.specs.Members.{has, idOf, idRound, idMember, isRound, rounds, slots, idLimit}
 use Rattle.record.specs.Layout.{strongOf, weakCountOf, weakOf, bodySize, weakSlots}
 use Rattle.record.specs.Admitted.{Admitted}
 use Rattle.record.proofs.Booleans.{which, never, and-left, and-right, and-both}
-use Rattle.record.proofs.Masks.{has-zero, has-one, has-bound}
+use Rattle.record.proofs.Masks.{has-bound}
 use Rattle.record.proofs.Turn.{admitted}
-use Rattle.record.proofs.Rounds.{round-in, round-range}
-use Rattle.protocol.specs.Dag.{present, held, votes}
+use Rattle.record.proofs.Rounds.{round-in, round-range, id-round, id-member}
+use Rattle.protocol.specs.Dag.{present, held}
 use Rattle.protocol.specs.Premises.{ValidVertices}
 use Rattle.protocol.proofs.Paths.{parent-present, weak-present}
-use Rattle.protocol.proofs.History.{id-round, id-member}
 use Rattle.replica.specs.Layout.{stateSize, cellAt}
-use Rattle.replica.specs.State.{memberCount, heldMask, heardMask, votesMask, cell, vertices, firsts, heldId}
+use Rattle.replica.specs.State.{memberCount, heldMask, cell, vertices, heldId}
 use Rattle.replica.specs.Parents.{isParent}
 use Rattle.replica.proofs.ParentLaws.{strong-parent, weak-parent, parents-elim}
 use Rattle.replica.proofs.Formed.{WellFormed, length-part}
@@ -35,7 +32,7 @@ some-words [] h = absurd (not-suc-le-zero h)
 some-words (w ∷ body) h = refl
 
 module _ (l : List ℕ) (size : length l ≡ stateSize) where
-  -- a cell has ten words
+  -- a cell has the size of a body
   pub cell-length : (r p : ℕ) → 1 ≤ r → r ≤ rounds → p < slots → length (cell l r p) ≡ bodySize
   cell-length r p a b k = length-part l (cellAt r p) bodySize (omega arith)
 
@@ -130,25 +127,3 @@ module _ (l : List ℕ) (S : WellFormed l) where
       go : (has (heldMask l r) p ≡ true) ⊎ (has (heldMask l r) p ≡ false) → getD (vertices l r p) i 0 ≡ getD l (cellAt r p + i) 0
       go (inl e) = rw (vertex-cell l (S .size) r p (there e)) (getD-take bodySize (drop (cellAt r p) l) i 0 m ∙ getD-drop (cellAt r p) l i 0)
       go (inr e) = rw (none e) (sym (S .cells .zero-cell r p i a b k m e))
-
--- ---- first messages
-
--- where votes are heard, the first message of a member of round q + 1 votes for the leader of round q exactly if the votes mask has it
-pub first-vote : (l : List ℕ) (q p : ℕ) → 1 ≤ q → q ≤ votedRounds → (has (votesMask l (suc q)) p ≡ true → has (heardMask l (suc q)) p ≡ true)
-    → votes (memberCount l) q (firsts l (suc q) p) ≡ has (votesMask l (suc q)) p
-unfolding firsts strongOf
-first-vote l q p a b f = go (which (has (votesMask l (suc q)) p)) (which (has (heardMask l (suc q)) p))
-  where
-    ok : isRound (suc q) ≡ true
-    ok = round-in (suc q) (omega arith) (omega arith)
-
-    go : (has (votesMask l (suc q)) p ≡ true) ⊎ (has (votesMask l (suc q)) p ≡ false)
-        → (has (heardMask l (suc q)) p ≡ true) ⊎ (has (heardMask l (suc q)) p ≡ false)
-        → votes (memberCount l) q (firsts l (suc q) p) ≡ has (votesMask l (suc q)) p
-    go (inl v) d = rw (ok, f v, v, sub-one (suc q)) (has-one (leader (memberCount l) q) (leader (memberCount l) q) ∙ eq-eqb (leader (memberCount l) q) _ refl)
-    go (inr v) (inl h) = rw (ok, h, v) (has-zero (leader (memberCount l) q))
-    go (inr v) (inr h) = rw (ok, h, v) (has-zero (leader (memberCount l) q))
-
--- so in a formed state
-pub formed-vote : (l : List ℕ) → WellFormed l → (q p : ℕ) → 1 ≤ q → q ≤ votedRounds → votes (memberCount l) q (firsts l (suc q) p) ≡ has (votesMask l (suc q)) p
-formed-vote l S q p a b = first-vote l q p a b (S .masks .votes-heard (suc q) p (omega arith) (omega arith))

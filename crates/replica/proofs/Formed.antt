@@ -412,29 +412,6 @@ module _ (l : List ℕ) (S : WellFormed l) where
   leader-ok : (i : ℕ) → i < leaderCount l → leaderOk l i ≡ true
   leader-ok = all-elim (leaderCount l) (leaderOk l) (from-led l (S .size) (leaderCount l) (committedRound l) (S .leaders .few) (S .leaders .led) .0)
 
-  -- a held leader's vertex, of a higher round than the one before
-  pub leader-entry : (i : ℕ) → i < leaderCount l → (heldId l (leaderWord l i) ≡ true)
-      × (idMember (leaderWord l i) ≡ leader (memberCount l) (idRound (leaderWord l i)))
-  unfolding leaderOk
-  leader-entry i k = let t = leader-ok i k in (and-left _ _ t, eqb-true _ _ (and-left _ _ (and-right (heldId l (leaderWord l i)) _ t)))
-
-  -- rounds rise from each entry to the next
-  pub leader-rising : (i : ℕ) → suc i < leaderCount l → idRound (leaderWord l i) < idRound (leaderWord l (suc i))
-  leader-rising i k = rw (before-suc l (S .size) i) at (leader-rises l (S .size) (suc i) (leader-ok (suc i) k))
-
-  -- the last of them is of the committed round
-  pub last-leader : lastLeaderRound l ≡ committedRound l
-  unfolding lastLeaderRound
-  last-leader = sym (from-led l (S .size) (leaderCount l) (committedRound l) (S .leaders .few) (S .leaders .led) .1)
-
   -- the list is no longer than the committed round
   pub leaders-few : leaderCount l ≤ committedRound l
   leaders-few = omega (arith, leader-length, led-length (memberCount l) (heldId l) 0 (committedRound l) (leaderList l) (S .leaders .led))
-
-  -- an ordered vertex that stands nowhere before
-  pub journal-entry : (i : ℕ) → i < journalCount l → (orderedId l (journalWord l i) ≡ true) × (among (take i (journalList l)) (journalWord l i) ≡ false)
-  unfolding entryOk
-  journal-entry i k =
-      let t = all-elim (journalCount l) (entryOk l)
-      (from-once l (S .size) (journalCount l) (omega arith) (S .journal .few) (S .journal .alone) (λ y d. sym (S .journal .names y) ∙ d)) i k in
-      (and-left _ _ t, not-true _ (and-right (orderedId l (journalWord l i)) _ t))

@@ -185,10 +185,3 @@ module _ (K : ℕ → Type 0) (l l′ : List ℕ) (p : Keeps K l l′) where
           names = λ y. ap (λ (j : List ℕ). among j y) e ∙ J .names y ∙ sym (ordered-id-kept y);
           rest = λ i a b. p .same (journalAt + i) (f (journalAt + i) (omega arith) (omega arith)) ∙ J .rest i (omega arith) b;
         }
-
--- a word below the cells that is no held mask, set
-pub vertices-set : (l : List ℕ) (j x : ℕ) → j < cellsAt → ((r : ℕ) → 1 ≤ r → r ≤ rounds → heldAt r ≡ j → ⊥) → vertices (set l j x) ≡ vertices l
-vertices-set l j x h f = vertices-kept K l (set l j x) (keeps-set K l j x (λ i k e. k e)) f (λ i a e. omega arith)
-  where
-    K : ℕ → Type 0
-    K i = i ≡ j → ⊥

@@ -1,6 +1,6 @@
 -- Laws of the marks that the test of the journal sets, a mask for each round. Assumes nothing.
 use mathlib.Core.Path.{_≡_, refl, sym, ap, ap₂, _∙_}
-use mathlib.Core.Bool.{Bool, true, false, not, _&&_, _||_}
+use mathlib.Core.Bool.{Bool, true, false, not, _&&_, _||_, or-false}
 use mathlib.Core.List.{List}
 use mathlib.Core.Logic.{⊎-elim}
 use Prim.Native.Nat.{ℕ, _+_, _-_, _^_, _≤_, _<_}
@@ -11,16 +11,17 @@ use lib.Seq.{getD-set-same, getD-set-other}
 use borrow.Author.Tests.{eqb-true, eqb-false, eq-eqb, ne-eqb, le-leb, lt-leb}
 use Rattle.record.specs.Below.{all}
 use Rattle.record.specs.Members.{legal, has, add, idOf, idRound, idMember, isRound, idLimit, rounds, slots}
-use Rattle.record.proofs.Booleans.{which, never, and-left, and-right, and-both, and-fails-left, and-fails-right, bool-ext, passed, failed}
+use Rattle.record.proofs.Booleans.{which, and-left, and-right, and-both, and-fails-left, and-fails-right, bool-ext, passed, failed, imp-elim}
 use Rattle.record.proofs.Below.{all-none, all-more, all-intro, all-elim, all-stop}
 use Rattle.record.proofs.Masks.{has-zero, has-add, add-lt, mask-ext}
-use Rattle.record.proofs.Rounds.{round-range}
+use Rattle.record.proofs.Rounds.{round-range, id-same}
 use Rattle.protocol.specs.Journal.{among}
 use Rattle.replica.specs.Layout.{stateSize, journalSize}
 use Rattle.replica.specs.State.{memberCount, journalCount, orderedMask, journalWord, journalList, orderedId}
 use Rattle.replica.specs.WellFormed.{eachRound, masksWithin, entryOk, journalOk}
-use Rattle.replica.proofs.Words.{id-same, ordered-id, masks-small, legal-pow, journal-length, journal-at, journal-whole, among-none}
+use Rattle.replica.proofs.Words.{ordered-id, masks-small, legal-pow, journal-length, journal-at, journal-whole}
 use Rattle.replica.proofs.Words.{among-more, among-index, index-among}
+use Rattle.protocol.proofs.Lists.{among-none}
 
 -- the marks after i entries: bit p of mask r is set if the id of round r + 1 and member p is among them
 pub record Marked (l : List ℕ) (i : ℕ) (marks : List ℕ) : Type 0 where
@@ -78,15 +79,11 @@ marked-more l i marks x at e f h ex m a b d = record {
         (λ s. let u : x ≡ idOf (at + 1) p = eqb-true x (idOf (at + 1) p) s in eq-eqb (idMember x) p (omega arith)))
         ∙ sym (added p q at))
 
-    or-no : (c : Bool) → c ≡ (c || false)
-    or-no true = refl
-    or-no false = refl
-
     same-other : (r p : ℕ) → r < rounds → p < slots → (r ≡ at → ⊥)
         → has (getD (set marks at (add (getD marks at 0) (idMember x))) r 0) p ≡ among (take (i + 1) (journalList l)) (idOf (r + 1) p)
     same-other r p k q t =
         rw (getD-set-other marks at r (add (getD marks at 0) (idMember x)) 0 t)
-        (m .same r p k q ∙ or-no (among (take i (journalList l)) (idOf (r + 1) p))
+        (m .same r p k q ∙ sym (or-false (among (take i (journalList l)) (idOf (r + 1) p)))
         ∙ ap (λ (c : Bool). among (take i (journalList l)) (idOf (r + 1) p) || c) (sym (ne-eqb x (idOf (r + 1) p) (λ u. t (omega arith))))
         ∙ sym (added p q r))
 
@@ -136,10 +133,6 @@ pub imply : (a b : Bool) → (a ≡ true → b ≡ true) → (not a || b) ≡ tr
 imply true b h = h refl
 imply false b h = refl
 
-pub implied : (a b : Bool) → (not a || b) ≡ true → a ≡ true → b ≡ true
-implied true b e h = e
-implied false b e h = never h refl
-
 -- y is listed if it is ordered
 abbrev pub named : List ℕ → ℕ → Bool
 named l y = not (orderedId l y) || among (journalList l) y
@@ -188,7 +181,7 @@ entries-decide l marks e g w f h m =
     back-at : all idLimit (named l) ≡ true → (r : ℕ) → r < rounds → (p : ℕ) → p < slots → has (getD marks r 0) p ≡ has (orderedMask l (r + 1)) p
     back-at t r b p q =
         whole r p b q
-        ∙ bool-ext (among-ordered l (idOf (r + 1) p) e f h) (implied (orderedId l (idOf (r + 1) p)) (among (journalList l) (idOf (r + 1) p))
+        ∙ bool-ext (among-ordered l (idOf (r + 1) p) e f h) (imp-elim (orderedId l (idOf (r + 1) p)) (among (journalList l) (idOf (r + 1) p))
         (all-elim idLimit (named l) t (idOf (r + 1) p) (omega arith)))
         ∙ ordered-id l (r + 1) p (omega arith) (omega arith) q
 

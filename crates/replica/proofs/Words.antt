@@ -12,28 +12,20 @@ use lib.ListN.{length, getD, set, take, drop, length-drop}
 use lib.Pow.{pow-mono}
 use lib.Seq.{take-suc, take-take, length-take-le, getD-take, getD-drop}
 use borrow.Author.Tests.{eqb-true, eq-eqb}
-use Rattle.record.specs.Members.{legal, has, within, with, idOf, idRound, idMember, rounds, slots}
+use Rattle.record.specs.Members.{legal, has, within, with, idOf, rounds, slots}
 use Rattle.record.specs.declared.members.Members.{Members}
-use Rattle.record.proofs.Booleans.{and-left, and-right, and-both, or-left, or-right, or-cases}
+use Rattle.record.proofs.Booleans.{and-left, and-right, or-left, or-right, or-cases}
 use Rattle.record.proofs.Below.{all-elim}
-use Rattle.record.proofs.Masks.{within-lt, lt-within, legal-range}
+use Rattle.record.proofs.Masks.{within-lt, legal-range}
 use Rattle.protocol.specs.Journal.{among}
 use Rattle.replica.specs.State.{memberCount, leaderCount, journalCount, heldMask, heardMask, votesMask, timeoutsMask, noVotesMask, orderedMask}
-use Rattle.replica.specs.State.{addMember, leaderWord, journalWord, leaderList, journalList, heldId, orderedId}
+use Rattle.replica.specs.State.{addMember, journalWord, leaderList, journalList, heldId, orderedId}
 use Rattle.replica.specs.WellFormed.{eachRound, masksWithin}
-use Rattle.record.proofs.Rounds.{round-in}
+use Rattle.record.proofs.Rounds.{round-in, id-round, id-member}
 use Rattle.replica.specs.Layout.{stateSize, leadersAt, leadersSize, journalAt, journalSize}
+use Rattle.protocol.proofs.Lists.{among-one}
 
 -- ---- ids
-
-pub id-round : (r p : ℕ) → p < slots → idRound (idOf r p) ≡ r
-id-round r p h = omega arith
-
-pub id-member : (r p : ℕ) → p < slots → idMember (idOf r p) ≡ p
-id-member r p h = omega arith
-
-pub id-same : (y : ℕ) → idOf (idRound y) (idMember y) ≡ y
-id-same y = omega arith
 
 -- the tests of an id, by its round and member
 pub held-id : (l : List ℕ) (r p : ℕ) → 1 ≤ r → r ≤ rounds → p < slots → heldId l (idOf r p) ≡ has (heldMask l r) p
@@ -79,12 +71,6 @@ masks-small l r e =
       ordered = within-lt n (orderedMask l r) (and-right (within n (noVotesMask l r)) _ e₄);
     }
 
-pub small-masks : (l : List ℕ) (r : ℕ) → Small (memberCount l) l r → masksWithin l r ≡ true
-unfolding masksWithin
-small-masks l r s =
-    and-both (lt-within _ _ (s .held)) (and-both (lt-within _ _ (s .heard)) (and-both (lt-within _ _ (s .votes))
-    (and-both (lt-within _ _ (s .timeouts)) (and-both (lt-within _ _ (s .no-votes)) (lt-within _ _ (s .ordered))))))
-
 -- what holds of each round, of round r
 pub round-elim : (t : ℕ → Bool) → eachRound t ≡ true → (r : ℕ) → 1 ≤ r → r ≤ rounds → t r ≡ true
 round-elim t e r a b =
@@ -103,9 +89,6 @@ leader-length l e h = length-take-le (leaderCount l) (drop leadersAt l) (omega (
 pub journal-length : (l : List ℕ) → length l ≡ stateSize → journalCount l ≤ journalSize → length (journalList l) ≡ journalCount l
 journal-length l e h = length-take-le (journalCount l) (drop journalAt l) (omega (arith, length-drop journalAt l))
 
-pub leader-at : (l : List ℕ) (i : ℕ) → i < leaderCount l → getD (leaderList l) i 0 ≡ leaderWord l i
-leader-at l i h = getD-take (leaderCount l) (drop leadersAt l) i 0 h ∙ getD-drop leadersAt l i 0
-
 pub journal-at : (l : List ℕ) (i : ℕ) → i < journalCount l → getD (journalList l) i 0 ≡ journalWord l i
 journal-at l i h = getD-take (journalCount l) (drop journalAt l) i 0 h ∙ getD-drop journalAt l i 0
 
@@ -113,10 +96,6 @@ pub journal-whole : (l : List ℕ) → take (journalCount l) (journalList l) ≡
 journal-whole l = take-take (journalCount l) (journalCount l) (drop journalAt l) (le-refl (journalCount l))
 
 -- ---- what stands in a list
-
-pub among-none : (y : ℕ) → among [] y ≡ false
-unfolding among
-among-none y = refl
 
 pub among-append : (xs ys : List ℕ) (y : ℕ) → among (xs ++ ys) y ≡ (among xs y || among ys y)
 unfolding among
@@ -126,14 +105,6 @@ among-append (x ∷ xs) ys y = ap (λ (b : Bool). eqb x y || b) (among-append xs
     regroup : (a b c : Bool) → ((a || b) || c) ≡ (a || (b || c))
     regroup true b c = refl
     regroup false b c = refl
-
-pub among-one : (x y : ℕ) → among (x ∷ []) y ≡ eqb x y
-unfolding among
-among-one x y = or-no (eqb x y)
-  where
-    or-no : (b : Bool) → (b || false) ≡ b
-    or-no true = refl
-    or-no false = refl
 
 -- with one entry more
 pub among-more : (xs : List ℕ) (i y : ℕ) → i < length xs → among (take (i + 1) xs) y ≡ (among (take i xs) y || eqb (getD xs i 0) y)

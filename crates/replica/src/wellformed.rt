@@ -176,7 +176,7 @@ fn members_ok(state: &[u32], n: u32, round: u32) -> bool
 
 // The cells of a round from member n on are zero. Their number is written out for each n, so that the test of so many words needs no loop.
 fn rest_cells_zero(state: &[u32], n: u32, start: usize) -> bool
-    requires { ⌜ (legal n ≡ true) × (start + roundSize ≤ length (now state)) × (start + roundSize ≤ stateSize) ⌝ }
+    requires { ⌜ (legal n ≡ true) × (length (now state) ≡ stateSize) × (start + roundSize ≤ stateSize) ⌝ }
     ensures { λ r. ⌜ r ≡ all (bodySize * (slots - n)) (λ i. eqb (getD (now (state .entry)) (start + bodySize * n + i) 0) 0) ⌝ }
 {
     let end = start + ROUND_SIZE;

@@ -1,11 +1,12 @@
 -- A group of each size in turn; `RestCells` of `Cells`.
+use native.Mathlib.Omega.{arith}
 use borrow.Author.Needs.{needs}
 use Rattle.replica.proofs.Cells.{RestCells, rest-cells}
 use Rattle.replica.proofs.wellformed.rest_cells_zero.Statement.{statement}
 use Rattle.replica.proofs.wellformed.rest_cells_zero.Tie as tie
 
 known : (c : tie.Start) → RestCells (c .args .state .now) (c .args .n) (c .args .start)
-known c = rest-cells _ _ _ (c .pre .0) (c .pre .1)
+known c = rest-cells _ _ _ (c .pre .0) (omega arith)
 
 pub rest-cells-zero-spec : {M : Type 1} → statement M
 rest-cells-zero-spec =

@@ -7,14 +7,14 @@ use Prim.Native.Nat.{ℕ, zero, suc, _+_, _-_, _≤_, _<_}
 use native.Mathlib.Omega.{arith}
 use lib.Bits.{bitOr}
 use lib.Dec.{eqb, leb, ltb}
-use borrow.Author.Tests.{leb-true, leb-false, le-leb, lt-leb, lt-ltb, ltb-true, ne-eqb, not-true, not-false}
+use borrow.Author.Tests.{le-ltb, leb-true, leb-false, le-leb, lt-leb, lt-ltb, ltb-true, ne-eqb, not-true, not-false}
 use Rattle.record.specs.Below.{all}
 use Rattle.record.specs.Members.{faulty}
 use Rattle.record.specs.Layout.{weakSlots, weakCountOf, weakOf}
 use Rattle.record.specs.Questions.{weakIdOk, rises, usedOk, slotOk, weakOk}
 use Rattle.record.specs.Inner.{usedSlots, beforeIds}
 use Rattle.record.proofs.Booleans.{which, and-left, and-right, and-both, and-fails-left, bool-ext, cond-true, cond-false, passed, failed}
-use Rattle.record.proofs.Below.{all-none, all-more, all-stop, all-intro, all-elim}
+use Rattle.record.proofs.Below.{all-cong, all-none, all-more, all-stop, all-intro, all-elim}
 use Rattle.record.proofs.Masks.{or-zero}
 use Rattle.record.proofs.Turn.{weak-id}
 
@@ -117,6 +117,16 @@ slots-parts n round body = bool-ext
 
 -- ---- question 11 decided in parts
 
+-- none is used: every slot is 0
+pub none-decide : (n round : ℕ) (body : List ℕ) → weakCountOf body ≡ 0 → (z : Bool) → z ≡ restZero body 0 → z ≡ weakOk n round body
+unfolding weakOk slotOk
+none-decide n round body e z ez =
+    ez ∙ sym (rw (le-leb (weakCountOf body) (faulty n) (omega arith))
+    (all-cong weakSlots (slotOk n round body) (λ i. ltb i 0 || eqb (weakOf body i) 0) (λ i l. slot i)))
+  where
+    slot : (i : ℕ) → slotOk n round body i ≡ (ltb i 0 || eqb (weakOf body i) 0)
+    slot i = rw (e, le-ltb i 0 (omega arith))
+
 module _ (n round : ℕ) (body : List ℕ) (f : ℕ) (e : f ≡ faulty n) where
   -- too many are used
   pub weak-over : f < weakCountOf body → false ≡ weakOk n round body
@@ -135,28 +145,16 @@ module _ (n round : ℕ) (body : List ℕ) (f : ℕ) (e : f ≡ faulty n) where
     pub slots-decide : not b ≡ false → (z : Bool) → z ≡ restZero body k → z ≡ weakOk n round body
     slots-decide t z ez = ez ∙ sym (decides ∙ rw (passed eb t))
 
--- ---- slots that are not used, where no weak id is or one
+-- ---- all slots, joined
 
 five : (t : ℕ → Bool) → all weakSlots t ≡ ((((t 0 && t 1) && t 2) && t 3) && t 4)
 unfolding all
 five t = refl
 
-rest-zero : (b c d e : ℕ) → eqb (bitOr (bitOr (bitOr b c) d) e) 0 ≡ (((eqb b 0 && eqb c 0) && eqb d 0) && eqb e 0)
-rest-zero b c d e =
-    or-zero (bitOr (bitOr b c) d) e
-    ∙ ap (λ (x : Bool). x && eqb e 0) (or-zero (bitOr b c) d ∙ ap (λ (x : Bool). x && eqb d 0) (or-zero b c))
+joined : (a b c d e : ℕ) → eqb (bitOr (bitOr (bitOr (bitOr a b) c) d) e) 0 ≡ ((((eqb a 0 && eqb b 0) && eqb c 0) && eqb d 0) && eqb e 0)
+joined a b c d e = rw (or-zero (bitOr (bitOr (bitOr a b) c) d) e, or-zero (bitOr (bitOr a b) c) d, or-zero (bitOr a b) c, or-zero a b)
 
-pub none-used : (body : List ℕ) → eqb (bitOr (bitOr (bitOr (bitOr (weakOf body 1) (weakOf body 2)) (weakOf body 3)) (weakOf body 4)) (weakOf body 0)) 0
-    ≡ restZero body 0
+pub none-used : (body : List ℕ)
+    → eqb (bitOr (bitOr (bitOr (bitOr (weakOf body 0) (weakOf body 1)) (weakOf body 2)) (weakOf body 3)) (weakOf body 4)) 0 ≡ restZero body 0
 none-used body =
-    or-zero (bitOr (bitOr (bitOr (weakOf body 1) (weakOf body 2)) (weakOf body 3)) (weakOf body 4)) (weakOf body 0)
-    ∙ ap (λ (x : Bool). x && eqb (weakOf body 0) 0) (rest-zero (weakOf body 1) (weakOf body 2) (weakOf body 3) (weakOf body 4))
-    ∙ first (eqb (weakOf body 0) 0) (eqb (weakOf body 1) 0) (eqb (weakOf body 2) 0) (eqb (weakOf body 3) 0) (eqb (weakOf body 4) 0)
-    ∙ sym (five (λ i. ltb i 0 || eqb (weakOf body i) 0))
-  where
-    first : (a b c d e : Bool) → ((((b && c) && d) && e) && a) ≡ ((((a && b) && c) && d) && e)
-    first true b c d e = and-true (((b && c) && d) && e)
-    first false b c d e = and-false (((b && c) && d) && e)
-
-pub one-used : (body : List ℕ) → eqb (bitOr (bitOr (bitOr (weakOf body 1) (weakOf body 2)) (weakOf body 3)) (weakOf body 4)) 0 ≡ restZero body 1
-one-used body = rest-zero (weakOf body 1) (weakOf body 2) (weakOf body 3) (weakOf body 4) ∙ sym (five (λ i. ltb i 1 || eqb (weakOf body i) 0))
+    joined (weakOf body 0) (weakOf body 1) (weakOf body 2) (weakOf body 3) (weakOf body 4) ∙ sym (five (λ i. ltb i 0 || eqb (weakOf body i) 0))

@@ -160,19 +160,12 @@ fn slots_zero(body: &[u32], count: usize) -> bool
     true
 }
 
-// The same. Most records have no weak id or one: for them the words are joined before they are tested.
-fn unused_zero(body: &[u32], count: usize) -> bool
-    requires { ⌜ (length (now body) ≡ bodySize) × (count ≤ weakSlots) ⌝ }
-    ensures { λ r. ⌜ r ≡ all weakSlots (λ i. ltb i count || eqb (weakOf (now (body .entry)) i) 0) ⌝ }
+// All slots are 0. The words are joined before they are tested, so that no word costs a branch.
+fn slots_blank(body: &[u32]) -> bool
+    requires { ⌜ length (now body) ≡ bodySize ⌝ }
+    ensures { λ r. ⌜ r ≡ all weakSlots (λ i. ltb i 0 || eqb (weakOf (now (body .entry)) i) 0) ⌝ }
 {
-    let joined = body[WEAK + 1] | body[WEAK + 2] | body[WEAK + 3] | body[WEAK + 4];
-    if count == 0 {
-        return joined | body[WEAK] == 0;
-    }
-    if count == 1 {
-        return joined == 0;
-    }
-    slots_zero(body, count)
+    body[WEAK] | body[WEAK + 1] | body[WEAK + 2] | body[WEAK + 3] | body[WEAK + 4] == 0
 }
 
 // How many slots are used. Only a group of more than 16 members may use more weak ids than there are slots.
@@ -187,11 +180,14 @@ fn used_slots(body: &[u32]) -> usize
     count
 }
 
-// 11
+// 11. Most records have no weak id: for them nothing else is asked.
 fn weak_ok(n: u32, round: u32, body: &[u32]) -> bool
     requires { ⌜ length (now body) ≡ bodySize ⌝ }
     ensures { λ r. ⌜ r ≡ weakOk n round (now (body .entry)) ⌝ }
 {
+    if body[WEAK_COUNT] == 0 {
+        return slots_blank(body);
+    }
     let most = faulty_of(n);
     if most < body[WEAK_COUNT] {
         return false;
@@ -200,7 +196,7 @@ fn weak_ok(n: u32, round: u32, body: &[u32]) -> bool
     if !weak_ids_ok(n, round, body, count) {
         return false;
     }
-    unused_zero(body, count)
+    slots_zero(body, count)
 }
 
 // 9 and 10, of masks that lack the previous leader.

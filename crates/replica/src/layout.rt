@@ -65,7 +65,7 @@ pub fn cell_at(round: u32, member: u32) -> usize
     requires { ⌜ (1 ≤ round) × (round ≤ rounds) × (member < slots) ⌝ }
     ensures { λ r. ⌜ r ≡ cellAt round member ⌝ }
 {
-    CELLS + BODY_SIZE * wide(SLOTS * (round - 1) + member)
+    wide(CELLS as u32 + BODY_SIZE as u32 * (SLOTS * (round - 1) + member))
 }
 
 // The number is the id of a vertex of rounds 1 to 32.

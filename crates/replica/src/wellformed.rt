@@ -8,7 +8,7 @@ ghost use Rattle.record.specs.Below.{all};
 ghost use Rattle.record.specs.Members.{rounds, slots, legal};
 ghost use Rattle.record.specs.Inner.{Known};
 ghost use Rattle.record.specs.Layout.{bodySize};
-ghost use Rattle.replica.specs.Layout.{stateSize, kinds, leadersSize, journalSize, roundSize};
+ghost use Rattle.replica.specs.Layout.{cellAt, stateSize, kinds, leadersSize, journalSize, roundSize};
 ghost use Rattle.replica.specs.State.{memberCount, committedRound, leaderCount, journalCount, orderedMask};
 ghost use Rattle.replica.specs.WellFormed.{eachRound, masksWithin, kindWithin, recordOk, cellOk, leaderOk, lastLeaderRound, leadersOk, journalOk};
 ghost use Rattle.replica.specs.WellFormed.{restZero, every, clauses, wellFormed};
@@ -145,12 +145,11 @@ fn record_ok(state: &[u32], terms: Terms, round: u32, source: u32, body: &[u32])
     parents_held(state, round, body)
 }
 
-// A held record passes questions 5 to 11 and 14, and a cell not held is zero.
-fn cell_ok(state: &[u32], terms: Terms, round: u32, member: u32) -> bool
-    requires { ⌜ GroupedRound (now state) terms round × (member < slots) ⌝ }
+// A held record passes questions 5 to 11 and 14, and a cell not held is zero. The cell stands at the given word.
+fn cell_ok(state: &[u32], terms: Terms, round: u32, member: u32, at: usize) -> bool
+    requires { ⌜ GroupedRound (now state) terms round × (member < slots) × (at ≡ cellAt round member) ⌝ }
     ensures { λ r. ⌜ r ≡ cellOk (now (state .entry)) round member ⌝ }
 {
-    let at = cell_at(round, member);
     let end = at + BODY_SIZE;
     if !has_bit(mask_of(state, HELD, round), member) {
         return is_zero(&state[at..end]);
@@ -164,11 +163,13 @@ fn members_ok(state: &[u32], n: u32, round: u32) -> bool
     ensures { λ r. ⌜ r ≡ all n (cellOk (now (state .entry)) round) ⌝ }
 {
     let terms = terms_of(n, round);
+    let mut at: usize = cell_at(round, 0);
     let mut p: u32 = 0;
     while p < n {
-        if !cell_ok(state, terms, round, p) {
+        if !cell_ok(state, terms, round, p, at) {
             return false;
         }
+        at += BODY_SIZE;
         p += 1;
     }
     true

@@ -8,7 +8,6 @@ pub cell-ok-spec : {M : Type 1} → statement M
 cell-ok-spec =
     tie.close
     (tie.spec
-    (λ c κs. search needs)
     (λ c. search needs)
     (λ c κs. search needs)
     (λ c κs. search needs)

@@ -1,15 +1,16 @@
 -- Laws of question 11, asked of one weak id after the other and then of the slots that are not used. Assumes nothing.
 use mathlib.Core.Path.{_≡_, refl, sym, ap, _∙_}
-use mathlib.Core.Bool.{Bool, true, false, cond, not, _&&_, _||_, and-true, and-false}
+use mathlib.Core.Bool.{Bool, true, false, cond, not, _&&_, _||_, and-true}
 use mathlib.Core.Logic.{_⊎_, inl, inr}
 use mathlib.Core.List.{List}
-use Prim.Native.Nat.{ℕ, zero, suc, _+_, _-_, _≤_, _<_}
+use Prim.Native.Nat.{ℕ, zero, suc, _+_, _-_, _*_, _≤_, _<_}
 use native.Mathlib.Omega.{arith}
+use native.Mathlib.Numerals.{add-one}
 use lib.Bits.{bitOr}
 use lib.Dec.{eqb, leb, ltb}
 use borrow.Author.Tests.{le-ltb, leb-true, leb-false, le-leb, lt-leb, lt-ltb, ltb-true, ne-eqb, not-true, not-false}
 use Rattle.record.specs.Below.{all}
-use Rattle.record.specs.Members.{faulty}
+use Rattle.record.specs.Members.{faulty, slots, idRound}
 use Rattle.record.specs.Layout.{weakSlots, weakCountOf, weakOf}
 use Rattle.record.specs.Questions.{weakIdOk, rises, usedOk, slotOk, weakOk}
 use Rattle.record.specs.Inner.{usedSlots, beforeIds}
@@ -19,6 +20,12 @@ use Rattle.record.proofs.Masks.{or-zero}
 use Rattle.record.proofs.Turn.{weak-id}
 
 -- ---- one weak id after the other
+
+-- the ids of the rounds that lie two rounds below, and of no other
+pub two-below : (round x : ℕ) → 1 ≤ round → ltb x (slots * (round - 1)) ≡ leb (idRound x + 2) round
+two-below round x low = bool-ext
+    (λ e. le-leb (idRound x + 2) round (omega (arith, ltb-true x (slots * (round - 1)) e)))
+    (λ e. lt-ltb x (slots * (round - 1)) (omega (arith, leb-true (idRound x + 2) round e)))
 
 -- the first weak id rises above nothing, and each later one above the one before
 rises-first : (body : List ℕ) → rises body 0 ≡ true
@@ -145,7 +152,17 @@ module _ (n round : ℕ) (body : List ℕ) (f : ℕ) (e : f ≡ faulty n) where
     pub slots-decide : not b ≡ false → (z : Bool) → z ≡ restZero body k → z ≡ weakOk n round body
     slots-decide t z ez = ez ∙ sym (decides ∙ rw (passed eb t))
 
--- ---- all slots, joined
+-- ---- slots, joined
+
+-- the joined words of the slots below i that are not used, with one more
+module _ (body : List ℕ) (count i j : ℕ) (e : eqb j 0 ≡ all i (λ k. ltb k count || eqb (weakOf body k) 0)) where
+  pub joined-more : count ≤ i → eqb (bitOr j (weakOf body i)) 0 ≡ all (i + 1) (λ k. ltb k count || eqb (weakOf body k) 0)
+  unfolding all
+  joined-more h = rw (add-one i, or-zero j (weakOf body i), le-ltb i count h, e)
+
+  pub joined-same : i < count → eqb j 0 ≡ all (i + 1) (λ k. ltb k count || eqb (weakOf body k) 0)
+  unfolding all
+  joined-same h = rw (add-one i, lt-ltb i count h, and-true) e
 
 five : (t : ℕ → Bool) → all weakSlots t ≡ ((((t 0 && t 1) && t 2) && t 3) && t 4)
 unfolding all

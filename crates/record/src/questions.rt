@@ -115,7 +115,7 @@ fn no_votes_ok(terms: Terms, source: u32, lack: bool, no_votes: u32) -> bool
 
 // 11, of the weak id x: it is above the last one, of a member below n, and at least two rounds below the record.
 fn weak_id_ok(n: u32, round: u32, last: u32, x: u32) -> bool
-    requires { ⌜ beforeIds ≤ last ⌝ }
+    requires { ⌜ (beforeIds ≤ last) × (1 ≤ round) × (round ≤ rounds) ⌝ }
     ensures { λ r. ⌜ r ≡ (ltb last x && weakIdOk n round x) ⌝ }
 {
     if x <= last {
@@ -124,12 +124,12 @@ fn weak_id_ok(n: u32, round: u32, last: u32, x: u32) -> bool
     if n <= x % SLOTS {
         return false;
     }
-    x / SLOTS + 2 <= round
+    x < SLOTS * (round - 1)
 }
 
 // So for so many weak ids. The one before the first counts as below every id.
 fn weak_ids_ok(n: u32, round: u32, body: &[u32], count: usize) -> bool
-    requires { ⌜ (length (now body) ≡ bodySize) × (count ≤ weakSlots) ⌝ }
+    requires { ⌜ (length (now body) ≡ bodySize) × (count ≤ weakSlots) × (1 ≤ round) × (round ≤ rounds) ⌝ }
     ensures { λ r. ⌜ r ≡ all count (usedOk n round (now (body .entry))) ⌝ }
 {
     let mut last: u32 = BEFORE_IDS;
@@ -145,22 +145,24 @@ fn weak_ids_ok(n: u32, round: u32, body: &[u32], count: usize) -> bool
     true
 }
 
-// The slots from so many on are 0.
+// The slots from so many on are 0. Their words are joined before they are tested, so that no word costs a branch.
 fn slots_zero(body: &[u32], count: usize) -> bool
-    requires { ⌜ (length (now body) ≡ bodySize) × (count ≤ weakSlots) ⌝ }
+    requires { ⌜ length (now body) ≡ bodySize ⌝ }
     ensures { λ r. ⌜ r ≡ all weakSlots (λ i. ltb i count || eqb (weakOf (now (body .entry)) i) 0) ⌝ }
 {
-    let mut i: usize = count;
+    let mut joined: u32 = 0;
+    let mut i: usize = 0;
     while i < WEAK_SLOTS {
-        if body[WEAK + i] != 0 {
-            return false;
+        let word = body[WEAK + i];
+        if count <= i {
+            joined = joined | word;
         }
         i += 1;
     }
-    true
+    joined == 0
 }
 
-// All slots are 0. The words are joined before they are tested, so that no word costs a branch.
+// All slots are 0.
 fn slots_blank(body: &[u32]) -> bool
     requires { ⌜ length (now body) ≡ bodySize ⌝ }
     ensures { λ r. ⌜ r ≡ all weakSlots (λ i. ltb i 0 || eqb (weakOf (now (body .entry)) i) 0) ⌝ }
@@ -182,7 +184,7 @@ fn used_slots(body: &[u32]) -> usize
 
 // 11. Most records have no weak id: for them nothing else is asked.
 fn weak_ok(n: u32, round: u32, body: &[u32]) -> bool
-    requires { ⌜ length (now body) ≡ bodySize ⌝ }
+    requires { ⌜ (length (now body) ≡ bodySize) × (1 ≤ round) × (round ≤ rounds) ⌝ }
     ensures { λ r. ⌜ r ≡ weakOk n round (now (body .entry)) ⌝ }
 {
     if body[WEAK_COUNT] == 0 {

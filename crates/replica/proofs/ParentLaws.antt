@@ -25,7 +25,7 @@ use Rattle.record.proofs.Turn.{admitted}
 use Rattle.replica.specs.State.{memberCount, heldMask, heldId}
 use Rattle.replica.specs.Parents.{isParent, missing, parentsHeld}
 use Rattle.replica.specs.WellFormed.{subset, recordOk}
-use Rattle.replica.specs.Inner.{Grouped, AdmittedIn}
+use Rattle.replica.specs.Inner.{Grouped, AdmittedIn, WeakIn}
 use Rattle.replica.proofs.Laws.{subset-has, has-subset}
 
 -- ---- who is a parent
@@ -122,14 +122,23 @@ module _ (l : List ℕ) (r : ℕ) (body : List ℕ) (A : AdmittedIn l r body) wh
   known = admitted (memberCount l) r (A .source) body (A .admitted)
 
   -- what is asked of the words
+  few : weakCountOf body ≤ weakSlots
+  few = weak-five (memberCount l) r (A .source) l body (A .group) known
+
   pub parents-size : length body ≡ bodySize
   parents-size = known .size
 
   pub parents-round : r ≤ rounds
   parents-round = known .round-high
 
-  pub parents-few : weakCountOf body ≤ weakSlots
-  parents-few = weak-five (memberCount l) r (A .source) l body (A .group) known
+  pub parents-weak : WeakIn l body
+  parents-weak = record {
+    size = A .size;
+    body-size = known .size;
+    few = few;
+    low = λ i b. known .weak-low i (omega (arith, few)) b;
+    high = λ i b. omega (arith, few, known .weak-high i (omega (arith, few)) b, known .round-high);
+  }
 
   -- there are none, or the strong mask and then the weak ids decide
   pub parents-none : r < 2 → true ≡ parentsHeld l r body
@@ -144,6 +153,11 @@ module _ (l : List ℕ) (r : ℕ) (body : List ℕ) (A : AdmittedIn l r body) wh
 
     pub weak-decides : not s ≡ false → (z : Bool) → z ≡ all (weakCountOf body) (λ i. heldId l (weakOf body i)) → z ≡ parentsHeld l r body
     weak-decides h z d = d ∙ sym (decides ∙ rw (passed e h))
+
+-- a weak id is of a round, so the bit in the mask of that round decides
+pub weak-held-id : (l body : List ℕ) → WeakIn l body → (i : ℕ) → i < weakCountOf body
+    → (b : Bool) → b ≡ has (heldMask l (idRound (weakOf body i))) (idMember (weakOf body i)) → b ≡ heldId l (weakOf body i)
+weak-held-id l body W i low b e = rw (round-in _ (W .low i low) (W .high i low)) e
 
 -- ---- the test of a record: it is admitted, and then its parents decide
 

@@ -2,9 +2,10 @@
 use mathlib.Core.Path.{_≡_}
 use mathlib.Core.Bool.{true}
 use mathlib.Core.List.{List}
-use Prim.Native.Nat.{ℕ, _≤_}
+use Prim.Native.Nat.{ℕ, _≤_, _<_}
 use lib.ListN.{length}
-use Rattle.record.specs.Members.{rounds, legal}
+use Rattle.record.specs.Members.{rounds, legal, idRound}
+use Rattle.record.specs.Layout.{bodySize, weakSlots, weakCountOf, weakOf}
 use Rattle.record.specs.Refusals.{numberOf}
 use Rattle.record.specs.Questions.{bodyRefusal}
 use Rattle.record.specs.Inner.{termsOf}
@@ -32,3 +33,11 @@ pub record AdmittedIn (l : List ℕ) (r : ℕ) (body : List ℕ) : Type 0 where
   pub group : legal (memberCount l) ≡ true
   pub source : ℕ
   pub admitted : numberOf (bodyRefusal (memberCount l) r source body) ≡ 0
+
+-- the words of a state, and a body whose weak ids are of rounds
+pub record WeakIn (l body : List ℕ) : Type 0 where
+  pub size : length l ≡ stateSize
+  pub body-size : length body ≡ bodySize
+  pub few : weakCountOf body ≤ weakSlots
+  pub low : (i : ℕ) → i < weakCountOf body → 1 ≤ idRound (weakOf body i)
+  pub high : (i : ℕ) → i < weakCountOf body → idRound (weakOf body i) ≤ rounds

@@ -4,19 +4,20 @@ ghost use Prim.Native.Nat.{_-_, _≤_};
 ghost use lib.ListN.{length};
 ghost use Rattle.record.specs.Below.{all};
 ghost use Rattle.record.specs.Members.{rounds};
-ghost use Rattle.record.specs.Layout.{bodySize, weakSlots, weakCountOf, weakOf};
+ghost use Rattle.record.specs.Layout.{weakCountOf, weakOf};
 ghost use Rattle.replica.specs.Layout.{stateSize};
 ghost use Rattle.replica.specs.State.{heldMask, heldId};
 ghost use Rattle.replica.specs.Parents.{parentsHeld};
 ghost use Rattle.replica.specs.WellFormed.{subset};
-ghost use Rattle.replica.specs.Inner.{AdmittedIn};
+ghost use Rattle.replica.specs.Inner.{AdmittedIn, WeakIn};
 use super::layout::HELD;
-use super::masks::is_marked;
 use super::masks::mask_of;
 use record::layout::STRONG;
 use record::layout::WEAK;
 use record::layout::WEAK_COUNT;
 use record::layout::wide;
+use record::members::SLOTS;
+use record::members::has_bit;
 
 // The strong parents, in the round before, are held.
 fn strong_held(state: &[u32], round: u32, strong: u32) -> bool
@@ -28,13 +29,14 @@ fn strong_held(state: &[u32], round: u32, strong: u32) -> bool
 
 // The weak ids that are used are held.
 fn weak_held(state: &[u32], body: &[u32]) -> bool
-    requires { ⌜ (length (now state) ≡ stateSize) × (length (now body) ≡ bodySize) × (weakCountOf (now body) ≤ weakSlots) ⌝ }
+    requires { ⌜ WeakIn (now state) (now body) ⌝ }
     ensures { λ r. ⌜ r ≡ all (weakCountOf (now (body .entry))) (λ i. heldId (now (state .entry)) (weakOf (now (body .entry)) i)) ⌝ }
 {
     let count = wide(body[WEAK_COUNT]);
     let mut i: usize = 0;
     while i < count {
-        if !is_marked(state, HELD, body[WEAK + i]) {
+        let x = body[WEAK + i];
+        if !has_bit(mask_of(state, HELD, x / SLOTS), x % SLOTS) {
             return false;
         }
         i += 1;

@@ -9,6 +9,7 @@ use Rattle.record.specs.Layout.{weakCountOf, weakOf}
 use Rattle.record.proofs.Below.{all-none}
 use Rattle.replica.specs.State.{heldId}
 use Rattle.replica.proofs.Laws.{all-no, all-yes, all-end}
+use Rattle.replica.proofs.ParentLaws.{weak-held-id}
 use Rattle.replica.proofs.parents.weak_held.Statement.{statement}
 use Rattle.replica.proofs.parents.weak_held.Tie as tie
 
@@ -22,19 +23,34 @@ loop-holds : tie.Need-loop-holds Inv-loop μ-loop
 unfolding weakCountOf
 loop-holds c = let w : tie.After-wide Inv-loop μ-loop = search in (omega arith, w .wide .ensures, all-none _)
 
+mask-of-requires : tie.Need-mask-of-requires Inv-loop μ-loop
+unfolding weakOf
+mask-of-requires c κs =
+    let a : tie.At-loop Inv-loop μ-loop = search in
+    let s : tie.Start Inv-loop μ-loop = search in
+    let low = s .pre .low (a .loop .i) (omega arith) in
+    let high = s .pre .high (a .loop .i) (omega arith) in
+    search needs
+
 returns : tie.Need-returns Inv-loop μ-loop
 unfolding weakOf
 returns c =
-    let d : tie.After-is-marked Inv-loop μ-loop = search in
+    let d : tie.After-has-bit Inv-loop μ-loop = search in
+    let m : tie.After-mask-of Inv-loop μ-loop = search in
+    let a : tie.At-loop Inv-loop μ-loop = search in
     let s : tie.Start Inv-loop μ-loop = search in
-    all-no _ (λ k. heldId (s .args .state .now) (weakOf (s .args .body .now) k)) _ _ (omega arith) (d .is-marked .ensures) (c .if1 .taken)
+    let e = weak-held-id _ _ (s .pre) (a .loop .i) (omega arith) _ (rw (m .mask-of .ensures) at (d .has-bit .ensures)) in
+    all-no _ (λ k. heldId (s .args .state .now) (weakOf (s .args .body .now) k)) _ _ (omega arith) e (c .if1 .taken)
 
 loop-again : tie.Need-loop-again Inv-loop μ-loop
 unfolding weakOf
 loop-again c =
-    let d : tie.After-is-marked Inv-loop μ-loop = search in
+    let d : tie.After-has-bit Inv-loop μ-loop = search in
+    let m : tie.After-mask-of Inv-loop μ-loop = search in
     let a : tie.At-loop Inv-loop μ-loop = search in
-    (omega arith, a .loop .inv .1, all-yes _ _ _ (a .loop .inv .2) (d .is-marked .ensures) (c .if1 .left))
+    let s : tie.Start Inv-loop μ-loop = search in
+    let e = weak-held-id _ _ (s .pre) (a .loop .i) (omega arith) _ (rw (m .mask-of .ensures) at (d .has-bit .ensures)) in
+    (omega arith, a .loop .inv .1, all-yes _ _ _ (a .loop .inv .2) e (c .if1 .left))
 
 returns-2 : tie.Need-returns-2 Inv-loop μ-loop
 returns-2 c =
@@ -54,6 +70,7 @@ weak-held-spec =
     (λ c. search needs)
     (λ c. search needs)
     (λ c. search needs)
+    mask-of-requires
     (λ c κs. search needs)
     returns
     (λ c. search needs)

@@ -13,7 +13,7 @@ use Rattle.record.specs.Members.{rounds, slots, leader, has, meets, idOf, idRou
 use Rattle.record.specs.Layout.{strongOf, weakCountOf, weakOf, weakSlots, weakPlace, weakCountPlace, strongPlace}
 use Rattle.record.proofs.Booleans.{and-fails-left, and-both, or-left, cond-true, cond-false}
 use Rattle.protocol.specs.Dag.{Records}
-use Rattle.protocol.specs.Masks.{parents, join, joinWeak, joinParents, joinRound, fill, historyMasks}
+use Rattle.protocol.specs.Masks.{parents, join, joinWeak, joinParents, joinRound, joinRoundParents, fill, historyMasks}
 use Rattle.replica.specs.Layout.{cellAt, currentRoundAt}
 use Rattle.replica.specs.State.{memberCount, currentRound, heldMask, timeoutsMask, vertices}
 use Rattle.commits.specs.Commit.{passable, highestPassable, raiseRound}
@@ -123,24 +123,24 @@ pub join-weak-more : (h body m o : List ℕ) (i x : ℕ) → m ≡ joinWeak h bo
 unfolding joinWeak
 join-weak-more h body m o i x e d f = rw (add-one i) (rw (e, d) at f)
 
-pub join-round-none : (v : Records) (h : List ℕ) (r : ℕ) → h ≡ joinRound v h r 0
+pub join-round-none : (v : Records) (h : List ℕ) (r m : ℕ) → h ≡ joinRound v h r m 0
 unfolding joinRound
-join-round-none v h r = refl
+join-round-none v h r m = refl
 
-module _ (v : Records) (h m o : List ℕ) (r p at : ℕ) (e : m ≡ joinRound v h r p) (d : at ≡ r - 1) where
-  pub join-round-in : has (getD m at 0) p ≡ true → o ≡ joinParents v m r p → o ≡ joinRound v h r (p + 1)
+module _ (v : Records) (h j o : List ℕ) (r m p : ℕ) (e : j ≡ joinRound v h r m p) where
+  pub join-round-in : has m p ≡ true → o ≡ joinParents v j r p → o ≡ joinRound v h r m (p + 1)
   unfolding joinRound
-  join-round-in k f = rw (add-one p) (rw e at f ∙ sym (cond-true _ _ (rw (e, d) at k)))
+  join-round-in k f = rw (add-one p) (rw e at f ∙ sym (cond-true _ _ k))
 
-  pub join-round-out : has (getD m at 0) p ≡ false → o ≡ m → o ≡ joinRound v h r (p + 1)
+  pub join-round-out : has m p ≡ false → o ≡ j → o ≡ joinRound v h r m (p + 1)
   unfolding joinRound
-  join-round-out k f = rw (add-one p) (f ∙ e ∙ sym (cond-false _ _ (rw (e, d) at k)))
+  join-round-out k f = rw (add-one p) (f ∙ e ∙ sym (cond-false _ _ k))
 
 pub fill-none : (n : ℕ) (v : Records) (h : List ℕ) → fill n v h 0 ≡ h
 unfolding fill
 fill-none n v h = refl
 
-pub fill-step : (n : ℕ) (v : Records) (h : List ℕ) (k : ℕ) → 0 < k → fill n v h k ≡ fill n v (joinRound v h (k + 1) n) (k - 1)
+pub fill-step : (n : ℕ) (v : Records) (h : List ℕ) (k : ℕ) → 0 < k → fill n v h k ≡ fill n v (joinRoundParents v h (k + 1) n) (k - 1)
 unfolding fill
 fill-step n v h zero l = absurd (not-suc-le-zero l)
 fill-step n v h (suc k) l = rw (sub-one (suc k), add-one (suc k))

@@ -1,7 +1,7 @@
 // A history as 32 masks, one for each round, filled by falling round.
 ghost use mathlib.Core.Path.{_≡_};
 ghost use Prim.Native.Nat.{_/_, _%_, _^_, _<_, _≤_};
-ghost use Rattle.protocol.specs.Masks.{join, joinWeakParents, joinParents, joinRound, historyMasks};
+ghost use Rattle.protocol.specs.Masks.{join, joinWeakParents, joinParents, joinRoundParents, historyMasks};
 ghost use Rattle.record.specs.Members.{rounds, slots, idLimit, idRound, idMember};
 ghost use Rattle.replica.specs.State.{memberCount, vertices};
 ghost use Rattle.commits.specs.Standing.{Standing};
@@ -54,12 +54,12 @@ fn join_parents(state: &[u32], n: u32, masks: &mut [u32; MASKS], round: u32, mem
 // Adds the parents of the round's vertices that the masks have.
 fn join_round(state: &[u32], n: u32, masks: &mut [u32; MASKS], round: u32)
     requires { ⌜ Standing (now state) × (n ≡ memberCount (now state)) × (2 ≤ round) × (round ≤ rounds) ⌝ }
-    ensures { λ _. ⌜ now (masks .exit) ≡ joinRound (vertices (now (state .entry))) (now (masks .entry)) round n ⌝ }
+    ensures { λ _. ⌜ now (masks .exit) ≡ joinRoundParents (vertices (now (state .entry))) (now (masks .entry)) round n ⌝ }
 {
-    let at = wide(round - 1);
+    let mask = masks[wide(round - 1)];
     let mut p: u32 = 0;
     while p < n {
-        if has_bit(masks[at], p) {
+        if has_bit(mask, p) {
             join_parents(state, n, masks, round, p);
         }
         p += 1;

@@ -21,7 +21,7 @@ use Rattle.record.proofs.Masks.{legal-range, has-zero, has-one, has-or}
 use Rattle.protocol.specs.Dag.{Records, held}
 use Rattle.protocol.specs.Paths.{path, historyUpTo, history}
 use Rattle.protocol.specs.Premises.{ValidVertices}
-use Rattle.protocol.specs.Masks.{join, joinWeak, joinParents, joinRound, fill, historyMasks, HistoryClaim, StrongHistoryClaim}
+use Rattle.protocol.specs.Masks.{join, joinWeak, joinParents, joinRound, joinRoundParents, fill, historyMasks, HistoryClaim, StrongHistoryClaim}
 use Rattle.protocol.proofs.Lists.{or-assoc}
 use Rattle.protocol.proofs.Paths.{parent-held, path-self, path-edge}
 use Rattle.protocol.proofs.Frontier.{first-edge, path-here, path-le}
@@ -70,20 +70,19 @@ pub joinParents-length : (v : Records) (h : List ℕ) (r p : ℕ) → length (jo
 unfolding joinParents
 joinParents-length v h r p = joinWeak-length _ (v r p) _ ∙ join-length h (r - 1) _
 
-pub joinRound-length : (v : Records) (h : List ℕ) (r k : ℕ) → length (joinRound v h r k) ≡ length h
+pub joinRound-length : (v : Records) (h : List ℕ) (r m k : ℕ) → length (joinRound v h r m k) ≡ length h
 unfolding joinRound
-joinRound-length v h r zero = refl
-joinRound-length v h r (suc k) = go (which (has (getD (joinRound v h r k) (r - 1) 0) k)) (joinRound-length v h r k)
+joinRound-length v h r m zero = refl
+joinRound-length v h r m (suc k) = go (which (has m k)) (joinRound-length v h r m k)
   where
-    go : (has (getD (joinRound v h r k) (r - 1) 0) k ≡ true) ⊎ (has (getD (joinRound v h r k) (r - 1) 0) k ≡ false)
-        → length (joinRound v h r k) ≡ length h → length (joinRound v h r (suc k)) ≡ length h
-    go (inl e) ih = rw e (joinParents-length v (joinRound v h r k) r k ∙ ih)
+    go : (has m k ≡ true) ⊎ (has m k ≡ false) → length (joinRound v h r m k) ≡ length h → length (joinRound v h r m (suc k)) ≡ length h
+    go (inl e) ih = rw e (joinParents-length v (joinRound v h r m k) r k ∙ ih)
     go (inr e) ih = rw e ih
 
 pub fill-length : (n : ℕ) (v : Records) (h : List ℕ) (k : ℕ) → length (fill n v h k) ≡ length h
 unfolding fill
 fill-length n v h zero = refl
-fill-length n v h (suc k) = fill-length n v (joinRound v h (suc (suc k)) n) k ∙ joinRound-length v h (suc (suc k)) n
+fill-length n v h (suc k) = fill-length n v (joinRoundParents v h (suc (suc k)) n) k ∙ joinRound-length v h (suc (suc k)) _ n
 
 -- so for weak parents
 pub joinWeak-marked : (h body : List ℕ) (k s q : ℕ) → length h ≡ rounds
@@ -125,50 +124,48 @@ module _ (n : ℕ) (v : Records) (high : n ≤ slots) (E : Edges n v) where
       (omega (arith, b .0), omega (arith, b .1), omega (arith, b .2)))
       (or-cases (eqb (r - 1) s && has (strongOf (v r p)) q) _ e)
 
-  -- the parents of a round's vertices that the masks have, of members below k
-  parentsOf : List ℕ → ℕ → ℕ → ℕ → ℕ → Bool
-  parentsOf h r k s q = any k (λ x. marked h r x && parent (v r x) r s q)
+  -- the parents of round r's vertices of the members below k in the mask m
+  parentsOf : ℕ → ℕ → ℕ → ℕ → ℕ → Bool
+  parentsOf r m k s q = any k (λ x. has m x && parent (v r x) r s q)
 
-  no-parents : (h : List ℕ) (r k s q : ℕ) → r ≤ s → parentsOf h r k s q ≡ false
+  no-parents : (r m k s q : ℕ) → r ≤ s → parentsOf r m k s q ≡ false
   unfolding parentsOf
-  no-parents h r k s q l = any-false k _ (λ x lx. and-fails-right (marked h r x) (none x (which (parent (v r x) r s q))))
+  no-parents r m k s q l = any-false k _ (λ x lx. and-fails-right (has m x) (none x (which (parent (v r x) r s q))))
     where
       none : (x : ℕ) → (parent (v r x) r s q ≡ true) ⊎ (parent (v r x) r s q ≡ false) → parent (v r x) r s q ≡ false
       none x (inl e) = absurd (omega (arith, parent-low r x s q e .1))
       none x (inr e) = e
 
-  joinRound-marked : (h : List ℕ) (r k s q : ℕ) → length h ≡ rounds → 2 ≤ r → r ≤ rounds → 1 ≤ s
-      → marked (joinRound v h r k) s q ≡ (marked h s q || parentsOf h r k s q)
+  joinRound-marked : (h : List ℕ) (r m k s q : ℕ) → length h ≡ rounds → 2 ≤ r → r ≤ rounds → 1 ≤ s
+      → marked (joinRound v h r m k) s q ≡ (marked h s q || parentsOf r m k s q)
   unfolding joinRound parentsOf any
-  joinRound-marked h r zero s q z l u ls = sym (or-false (marked h s q))
-  joinRound-marked h r (suc k) s q z l u ls = go (which (marked h r k)) (joinRound-marked h r k r k z l u (omega arith)) (joinRound-marked h r k s q z l u ls)
+  joinRound-marked h r m zero s q z l u ls = sym (or-false (marked h s q))
+  joinRound-marked h r m (suc k) s q z l u ls = go (which (has m k)) (joinRound-marked h r m k s q z l u ls)
     where
-      go : (marked h r k ≡ true) ⊎ (marked h r k ≡ false) → marked (joinRound v h r k) r k ≡ (marked h r k || parentsOf h r k r k)
-          → marked (joinRound v h r k) s q ≡ (marked h s q || parentsOf h r k s q)
-          → marked (joinRound v h r (suc k)) s q ≡ (marked h s q || parentsOf h r (suc k) s q)
-      go (inl e) here ih =
-          rw (here ∙ or-left _ e, e)
-          (joinParents-marked (joinRound v h r k) r k s q (joinRound-length v h r k ∙ z) l u ls
+      go : (has m k ≡ true) ⊎ (has m k ≡ false) → marked (joinRound v h r m k) s q ≡ (marked h s q || parentsOf r m k s q)
+          → marked (joinRound v h r m (suc k)) s q ≡ (marked h s q || parentsOf r m (suc k) s q)
+      go (inl e) ih =
+          rw e
+          (joinParents-marked (joinRound v h r m k) r k s q (joinRound-length v h r m k ∙ z) l u ls
           ∙ ap (λ (b : Bool). b || parent (v r k) r s q) ih ∙ or-assoc (marked h s q) _ _)
-      go (inr e) here ih =
-          rw (here ∙ ap₂ _||_ e (no-parents h r k r k (omega arith)), e) (ih ∙ ap (λ (b : Bool). marked h s q || b) (sym (or-false (parentsOf h r k s q))))
+      go (inr e) ih = rw e (ih ∙ ap (λ (b : Bool). marked h s q || b) (sym (or-false (parentsOf r m k s q))))
 
   -- ---- filling
 
   module _ (k : ℕ) (h : List ℕ) (z : length h ≡ rounds) (u : suc (suc k) ≤ rounds) where
-    round-keeps : (s q : ℕ) → 1 ≤ s → marked h s q ≡ true → marked (joinRound v h (suc (suc k)) n) s q ≡ true
-    round-keeps s q ls e = joinRound-marked h (suc (suc k)) n s q z (omega arith) u ls ∙ or-left _ e
+    round-keeps : (s q : ℕ) → 1 ≤ s → marked h s q ≡ true → marked (joinRoundParents v h (suc (suc k)) n) s q ≡ true
+    round-keeps s q ls e = joinRound-marked h (suc (suc k)) _ n s q z (omega arith) u ls ∙ or-left _ e
 
     -- the round's own masks, and those of higher ones, are final
-    round-final : (s q : ℕ) → suc (suc k) ≤ s → marked (joinRound v h (suc (suc k)) n) s q ≡ true → marked h s q ≡ true
-    round-final s q l e = ⊎-elim (λ d. d) (λ d. never d (no-parents h (suc (suc k)) n s q l))
-        (or-cases _ _ (sym (joinRound-marked h (suc (suc k)) n s q z (omega arith) u (omega arith)) ∙ e))
+    round-final : (s q : ℕ) → suc (suc k) ≤ s → marked (joinRoundParents v h (suc (suc k)) n) s q ≡ true → marked h s q ≡ true
+    round-final s q l e = ⊎-elim (λ d. d) (λ d. never d (no-parents (suc (suc k)) _ n s q l))
+        (or-cases _ _ (sym (joinRound-marked h (suc (suc k)) _ n s q z (omega arith) u (omega arith)) ∙ e))
 
     round-parents : (x s q : ℕ) → x < n → marked h (suc (suc k)) x ≡ true → parent (v (suc (suc k)) x) (suc (suc k)) s q ≡ true
-        → marked (joinRound v h (suc (suc k)) n) s q ≡ true
+        → marked (joinRoundParents v h (suc (suc k)) n) s q ≡ true
     unfolding parentsOf
     round-parents x s q lx e d =
-        joinRound-marked h (suc (suc k)) n s q z (omega arith) u (parent-low (suc (suc k)) x s q d .0)
+        joinRound-marked h (suc (suc k)) _ n s q z (omega arith) u (parent-low (suc (suc k)) x s q d .0)
         ∙ or-right (marked h s q) (any-intro n _ x lx (and-both e d))
 
   -- with each vertex of a round above low the masks have its parents
@@ -179,20 +176,20 @@ module _ (n : ℕ) (v : Records) (high : n ≤ slots) (E : Edges n v) where
   unfolding fill
   fill-keeps zero h z u s q ls e = e
   fill-keeps (suc k) h z u s q ls e =
-      fill-keeps k (joinRound v h (suc (suc k)) n) (joinRound-length v h (suc (suc k)) n ∙ z) (omega arith) s q ls (round-keeps k h z u s q ls e)
+      fill-keeps k (joinRoundParents v h (suc (suc k)) n) (joinRound-length v h (suc (suc k)) _ n ∙ z) (omega arith) s q ls (round-keeps k h z u s q ls e)
 
   fill-closed : (k : ℕ) (h : List ℕ) → length h ≡ rounds → suc k ≤ rounds → Closed (suc k) h → Closed 1 (fill n v h k)
   unfolding fill
   fill-closed zero h z u C = C
-  fill-closed (suc k) h z u C = fill-closed k (joinRound v h (suc (suc k)) n) (joinRound-length v h (suc (suc k)) n ∙ z) (omega arith) next
+  fill-closed (suc k) h z u C = fill-closed k (joinRoundParents v h (suc (suc k)) n) (joinRound-length v h (suc (suc k)) _ n ∙ z) (omega arith) next
     where
-      next : Closed (suc k) (joinRound v h (suc (suc k)) n)
+      next : Closed (suc k) (joinRoundParents v h (suc (suc k)) n)
       next r x s q l lr lx e d = go (eq-or-lt-of-le l)
         where
           e′ : marked h r x ≡ true
           e′ = round-final k h z u r x (omega arith) e
 
-          go : (suc (suc k) ≡ r) ⊎ (suc (suc k) < r) → marked (joinRound v h (suc (suc k)) n) s q ≡ true
+          go : (suc (suc k) ≡ r) ⊎ (suc (suc k) < r) → marked (joinRoundParents v h (suc (suc k)) n) s q ≡ true
           go (inl y) = round-parents k h z u x s q lx (rw y e′) (rw y d)
           go (inr y) = round-keeps k h z u s q (parent-low r x s q d .0) (C r x s q y lr lx e′ d)
 
@@ -202,15 +199,16 @@ module _ (n : ℕ) (v : Records) (high : n ≤ slots) (E : Edges n v) where
       → (s q : ℕ) → 1 ≤ s → marked (fill n v h k) s q ≡ true → H s q ≡ true
   unfolding fill parentsOf
   fill-formed H closed zero h z u S = S
-  fill-formed H closed (suc k) h z u S = fill-formed H closed k (joinRound v h (suc (suc k)) n) (joinRound-length v h (suc (suc k)) n ∙ z) (omega arith) next
+  fill-formed H closed (suc k) h z u S =
+      fill-formed H closed k (joinRoundParents v h (suc (suc k)) n) (joinRound-length v h (suc (suc k)) _ n ∙ z) (omega arith) next
     where
-      next : (s q : ℕ) → 1 ≤ s → marked (joinRound v h (suc (suc k)) n) s q ≡ true → H s q ≡ true
+      next : (s q : ℕ) → 1 ≤ s → marked (joinRoundParents v h (suc (suc k)) n) s q ≡ true → H s q ≡ true
       next s q ls e = ⊎-elim (λ d. S s q ls d)
           (λ d.
           let w = any-elim n (λ x. marked h (suc (suc k)) x && parent (v (suc (suc k)) x) (suc (suc k)) s q) d in
           closed (suc (suc k)) (w .0) s q (w .1) (S (suc (suc k)) (w .0) (omega arith) (and-left _ _ (w .2)))
           (and-right (marked h (suc (suc k)) (w .0)) _ (w .2)))
-          (or-cases _ _ (sym (joinRound-marked h (suc (suc k)) n s q z (omega arith) u ls) ∙ e))
+          (or-cases _ _ (sym (joinRound-marked h (suc (suc k)) _ n s q z (omega arith) u ls) ∙ e))
 
   -- closed masks have the history of each vertex that they have
   closed-history : (h : List ℕ) → Closed 1 h → (k r p y : ℕ) → r ≤ rounds → p < n → marked h r p ≡ true → historyUpTo n v k r p y ≡ true

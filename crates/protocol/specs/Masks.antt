@@ -33,10 +33,14 @@ joinWeakParents v h r p = joinWeak h (v r p) (weakCountOf (v r p))
 unfoldable pub joinParents : Records → List ℕ → ℕ → ℕ → List ℕ
 joinParents v h r p = joinWeakParents v (join h (r - 1) (strongOf (v r p))) r p
 
--- the parents of those vertices of round r, of members below k, that the masks have
-unfoldable pub joinRound : Records → List ℕ → ℕ → ℕ → List ℕ
-joinRound v h r zero = h
-joinRound v h r (suc k) = cond (has (getD (joinRound v h r k) (r - 1) 0) k) (joinParents v (joinRound v h r k) r k) (joinRound v h r k)
+-- the parents of round r's vertices of the members below k in the mask m added
+unfoldable pub joinRound : Records → List ℕ → ℕ → ℕ → ℕ → List ℕ
+joinRound v h r m zero = h
+joinRound v h r m (suc k) = cond (has m k) (joinParents v (joinRound v h r m k) r k) (joinRound v h r m k)
+
+-- so for those that the masks h have
+abbrev pub joinRoundParents : Records → List ℕ → ℕ → ℕ → List ℕ
+joinRoundParents v h r k = joinRound v h r (getD h (r - 1) 0) k
 
 module _ (n : ℕ) where
   -- the members below k whose vertices of round r + 1 vote for the leader of round r
@@ -44,10 +48,10 @@ module _ (n : ℕ) where
   voters v r zero = 0
   voters v r (suc k) = cond (votes n r (v (suc r) k)) (add (voters v r k) k) (voters v r k)
 
-  -- so for the rounds k + 1, k, .. 2
+  -- for the rounds k + 1, k, .. 2 the parents of the vertices that the masks have are joined
   unfoldable pub fill : Records → List ℕ → ℕ → List ℕ
   fill v h zero = h
-  fill v h (suc k) = fill v (joinRound v h (suc (suc k)) n) k
+  fill v h (suc k) = fill v (joinRoundParents v h (suc (suc k)) n) k
 
   -- the history of the vertex of round r and member p, as masks
   unfoldable pub historyMasks : Records → ℕ → ℕ → List ℕ

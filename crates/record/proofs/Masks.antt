@@ -8,12 +8,13 @@ use native.Mathlib.Omega.{arith}
 use lib.Arith.{lt-one}
 use lib.Bits.{bitOr, bitAnd, or-shr, or-mod, or-lt, or-add-and, and-le-l, and-le-r, and-shr, and-mod}
 use lib.Count.{ones, ones-step}
-use lib.Dec.{eqb, leb, eqb·zero-suc, eqb·suc-zero, eqb·suc-suc, lit<}
-use lib.Pow.{pow-mono, pow-lt, pow-pos, shl-exact, split}
-use borrow.Author.Tests.{leb-true, leb-false, lt-ltb, ltb-true, eqb-true, eq-eqb, ne-eqb}
+use lib.Dec.{eqb, leb, ltb, eqb·zero-suc, eqb·suc-zero, eqb·suc-suc, lit<}
+use lib.Pow.{pow-mono, pow-lt, pow-pos, shl-exact}
+use borrow.Author.Tests.{leb-true, leb-false, le-leb, lt-ltb, le-ltb, ltb-true, ltb-false, eqb-true, eq-eqb, ne-eqb}
 use Rattle.record.specs.Below.{count}
 use Rattle.record.specs.Members.{legal, faulty, quorum, leader, has, add, within, meets, rounds, slots}
-use Rattle.record.proofs.Booleans.{which, and-left, and-right, and-both, or-right, bool-ext}
+use Rattle.record.specs.Inner.{largestMask}
+use Rattle.record.proofs.Booleans.{which, and-left, and-right, and-both, or-right, bool-ext, cond-true, cond-false}
 use Rattle.record.proofs.Below.{count-cong, count-low}
 
 -- ---- the group
@@ -199,16 +200,27 @@ within-or n a b =
 pub within-three : (n a b c : ℕ) → within n (bitOr a (bitOr b c)) ≡ (within n a && (within n b && within n c))
 within-three n a b c = within-or n a (bitOr b c) ∙ ap (λ (x : Bool). within n a && x) (within-or n b c)
 
--- the tests of a program: 32 members or more hold every word, and `m >> n == 0`
-pub within-wide : (n m : ℕ) → 32 ≤ n → m < 2 ^ 32 → within n m ≡ true
-unfolding within
-within-wide n m l h = lt-ltb m (2 ^ n) (lt-of-lt-of-le h (pow-mono {i = 32} {j = n} l))
+-- the test of a program: a word is a mask of n members exactly if the largest is not below it
+pub largest-few : (n : ℕ) → n < 32 → largestMask n ≡ 2 ^ n - 1
+unfolding largestMask
+largest-few n l = cond-true _ _ (lt-ltb n 32 l)
 
-pub within-shift : (n m : ℕ) → eqb (m / 2 ^ n) 0 ≡ within n m
+pub largest-wide : (n : ℕ) → 32 ≤ n → largestMask n ≡ 2 ^ 32 - 1
+unfolding largestMask
+largest-wide n l = cond-false _ _ (le-ltb n 32 l)
+
+pub within-largest : (n m : ℕ) → m < 2 ^ 32 → leb m (largestMask n) ≡ within n m
 unfolding within
-within-shift n m = bool-ext
-    (λ e. lt-ltb m (2 ^ n) (lt-of-div-eq-zero (eqb-true (m / 2 ^ n) 0 e)))
-    (λ e. eq-eqb (m / 2 ^ n) 0 (div-eq-of-lt {n = m} {m = 2 ^ n} (ltb-true m (2 ^ n) e)))
+within-largest n m h = ⊎-elim (λ e. few (ltb-true n 32 e)) (λ e. wide (ltb-false n 32 e)) (which (ltb n 32))
   where
-    lt-of-div-eq-zero : m / 2 ^ n ≡ 0 → m < 2 ^ n
-    lt-of-div-eq-zero e = omega (arith, split m n, mod-lt m (pow-pos n), ap (λ (x : ℕ). x * 2 ^ n) e)
+    few : n < 32 → leb m (largestMask n) ≡ within n m
+    few l =
+        rw (largest-few n l)
+        (bool-ext
+        (λ e. lt-ltb m (2 ^ n) (omega (arith, leb-true m (2 ^ n - 1) e, pow-pos n)))
+        (λ e. le-leb m (2 ^ n - 1) (omega (arith, ltb-true m (2 ^ n) e))))
+
+    wide : 32 ≤ n → leb m (largestMask n) ≡ within n m
+    wide l =
+        rw (largest-wide n l)
+        (le-leb m (2 ^ 32 - 1) (omega (arith, h)) ∙ sym (lt-ltb m (2 ^ n) (lt-of-lt-of-le h (pow-mono {i = 32} {j = n} l))))

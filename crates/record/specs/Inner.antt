@@ -2,17 +2,26 @@
 use mathlib.Core.Path.{_≡_}
 use mathlib.Core.Bool.{Bool, cond, _&&_}
 use mathlib.Core.List.{List}
-use Prim.Native.Nat.{ℕ, _-_, _≤_, _<_}
-use lib.Dec.{leb}
+use Prim.Native.Nat.{ℕ, _-_, _^_, _≤_, _<_}
+use lib.Dec.{eqb, leb, ltb}
 use lib.ListN.{length}
 use Rattle.record.specs.Members.{rounds, leader, slots}
 use Rattle.record.specs.Layout.{bodySize, weakSlots, strongOf, weakCountOf}
 use Rattle.record.specs.Questions.{masksOk, strongOk, timeoutsOk, noVotesOk}
 use Rattle.record.specs.declared.questions.Terms.{Terms}
 
+-- the largest mask of n members: of 32 or more every word is one
+unfoldable pub largestMask : ℕ → ℕ
+largestMask n = cond (ltb n 32) (2 ^ n - 1) (2 ^ 32 - 1)
+
 -- what the questions need of n and the round, as `Terms`
 abbrev pub termsOf : ℕ → ℕ → Terms
-termsOf n round = record { n = n; previous = leader n (round - 1); leader = leader n round }
+termsOf n round = record {
+  n = n;
+  previous = leader n (round - 1);
+  leader = leader n round;
+  largest = cond (eqb round 1) 0 (largestMask n);
+}
 
 -- a body of which 4 to 6 are answered yes, with the terms of its round
 pub record Known (terms : Terms) (round source : ℕ) (body : List ℕ) : Type 0 where

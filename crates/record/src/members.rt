@@ -2,6 +2,7 @@
 ghost use mathlib.Core.Path.{_≡_};
 ghost use Prim.Native.Nat.{_<_, _≤_, _^_};
 ghost use Rattle.record.specs.Members.{isRound, legal, faulty, quorum, leader, has, add, within, meets, with};
+ghost use Rattle.record.specs.Inner.{largestMask};
 
 pub const ROUNDS: u32 = 32;
 
@@ -92,14 +93,21 @@ pub fn with_bit(word: u32, p: u32) -> u32
     word | power(p)
 }
 
+// The largest mask of n members. Of 32 or more every word is one.
+pub fn largest_mask(n: u32) -> u32
+    ensures { λ r. ⌜ r ≡ largestMask n ⌝ }
+{
+    if n >= 32 {
+        return u32::MAX;
+    }
+    power(n) - 1
+}
+
 // The mask has no bit at n or above.
 pub fn is_within(n: u32, bits: u32) -> bool
     ensures { λ r. ⌜ r ≡ within n bits ⌝ }
 {
-    if n >= 32 {
-        return true;
-    }
-    bits >> n == 0
+    bits <= largest_mask(n)
 }
 
 impl Members {

@@ -5,7 +5,7 @@ ghost use Prim.Native.Nat.{_<_, _≤_};
 ghost use lib.Dec.{eqb, ltb};
 ghost use lib.ListN.{length};
 ghost use Rattle.record.specs.Below.{all};
-ghost use Rattle.record.specs.Members.{rounds, meets};
+ghost use Rattle.record.specs.Members.{rounds, within, meets};
 ghost use Rattle.record.specs.Refusals.{numberOf};
 ghost use Rattle.record.specs.Layout.{bodySize, weakSlots, weakOf};
 ghost use Rattle.record.specs.Questions.{allWithin, strongOk, lacksLeader, quorumIf, weakIdOk, usedOk, weakOk};
@@ -29,6 +29,7 @@ use super::members::faulty_of;
 use super::members::has_bit;
 use super::members::is_round;
 use super::members::is_within;
+use super::members::largest_mask;
 use super::members::leader_of;
 use super::refusal::Refusal;
 use super::refusal::number;
@@ -41,6 +42,8 @@ pub struct Terms {
     pub n: u32,
     pub previous: u32,
     pub leader: u32,
+    // The largest strong mask: 0 in round 1.
+    pub largest: u32,
 }
 
 pub fn terms_of(n: u32, round: u32) -> Terms
@@ -53,13 +56,16 @@ pub fn terms_of(n: u32, round: u32) -> Terms
             n,
             previous: 0,
             leader,
+            largest: 0,
         };
     }
     let previous = leader_of(n, round - 1);
+    let largest = largest_mask(n);
     Terms {
         n,
         previous,
         leader,
+        largest,
     }
 }
 
@@ -70,14 +76,21 @@ fn masks_ok(n: u32, strong: u32, timeouts: u32, no_votes: u32) -> bool
     is_within(n, strong | (timeouts | no_votes))
 }
 
-// 8
-fn strong_ok(n: u32, round: u32, strong: u32) -> bool
-    ensures { λ r. ⌜ r ≡ strongOk n round strong ⌝ }
+// 8, and 7 of the strong mask.
+fn strong_ok(terms: Terms, round: u32, strong: u32) -> bool
+    requires { ⌜ terms ≡ termsOf (terms .n) round ⌝ }
+    ensures { λ r. ⌜ r ≡ (within (terms .n) strong && strongOk (terms .n) round strong) ⌝ }
 {
-    if round == 1 {
-        return strong == 0;
+    if terms.largest < strong {
+        return false;
     }
-    let members = Members { bits: strong, n };
+    if round == 1 {
+        return true;
+    }
+    let members = Members {
+        bits: strong,
+        n: terms.n,
+    };
     members.meets_quorum()
 }
 
@@ -182,7 +195,7 @@ fn used_slots(body: &[u32]) -> usize
     count
 }
 
-// 11. Most records have no weak id: for them nothing else is asked.
+// 11. Most records have no weak id: for them one test of the slots is enough.
 fn weak_ok(n: u32, round: u32, body: &[u32]) -> bool
     requires { ⌜ (length (now body) ≡ bodySize) × (1 ≤ round) × (round ≤ rounds) ⌝ }
     ensures { λ r. ⌜ r ≡ weakOk n round (now (body .entry)) ⌝ }
@@ -220,7 +233,7 @@ fn masks_admitted(terms: Terms, round: u32, source: u32, body: &[u32]) -> bool
     let strong = body[STRONG];
     let timeouts = body[TIMEOUTS];
     let no_votes = body[NO_VOTES];
-    if !strong_ok(terms.n, round, strong) {
+    if !strong_ok(terms, round, strong) {
         return false;
     }
     if lacks_leader(terms, round, strong) {
@@ -229,10 +242,7 @@ fn masks_admitted(terms: Terms, round: u32, source: u32, body: &[u32]) -> bool
         }
         return certificates_ok(terms, source, timeouts, no_votes);
     }
-    if timeouts | no_votes != 0 {
-        return false;
-    }
-    is_within(terms.n, strong)
+    timeouts | no_votes == 0
 }
 
 // Whether 5 to 11 are all answered yes, of a body of which 4 to 6 are known to be.
@@ -258,7 +268,7 @@ fn check_known(terms: Terms, round: u32, source: u32, body: &[u32]) -> Refusal
     if !masks_ok(n, strong, timeouts, no_votes) {
         return Refusal::MaskBits;
     }
-    if !strong_ok(n, round, strong) {
+    if !strong_ok(terms, round, strong) {
         return Refusal::Strong;
     }
     let lack = lacks_leader(terms, round, strong);

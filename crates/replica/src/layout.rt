@@ -58,7 +58,7 @@ pub fn masks_at(round: u32) -> usize
     requires { ⌜ (1 ≤ round) × (round ≤ rounds) ⌝ }
     ensures { λ r. ⌜ r ≡ masksAt round ⌝ }
 {
-    HEAD_SIZE + KINDS * wide(round - 1)
+    wide(HEAD_SIZE as u32 + KINDS as u32 * (round - 1))
 }
 
 pub fn cell_at(round: u32, member: u32) -> usize

@@ -15,6 +15,7 @@ use super::masks::mask_of;
 use record::layout::STRONG;
 use record::layout::WEAK;
 use record::layout::WEAK_COUNT;
+use record::layout::WEAK_SLOTS;
 use record::layout::wide;
 use record::members::SLOTS;
 use record::members::has_bit;
@@ -27,14 +28,17 @@ fn strong_held(state: &[u32], round: u32, strong: u32) -> bool
     strong & mask_of(state, HELD, round - 1) == strong
 }
 
-// The weak ids that are used are held.
+// The weak ids that are used are held. The loop ends at a known number of slots, so that it costs no more than its tests.
 fn weak_held(state: &[u32], body: &[u32]) -> bool
     requires { ⌜ WeakIn (now state) (now body) ⌝ }
     ensures { λ r. ⌜ r ≡ all (weakCountOf (now (body .entry))) (λ i. heldId (now (state .entry)) (weakOf (now (body .entry)) i)) ⌝ }
 {
     let count = wide(body[WEAK_COUNT]);
     let mut i: usize = 0;
-    while i < count {
+    while i < WEAK_SLOTS {
+        if count <= i {
+            return true;
+        }
         let x = body[WEAK + i];
         if !has_bit(mask_of(state, HELD, x / SLOTS), x % SLOTS) {
             return false;

@@ -1,18 +1,17 @@
-use Rattle.record.proofs.Masks.{within-wide, within-shift}
-use mathlib.Core.Path.{sym}
+use Rattle.record.proofs.Masks.{within-largest}
+use mathlib.Core.Path.{ap, _∙_}
+use lib.Dec.{leb}
 use native.Mathlib.Omega.{arith}
 use borrow.Author.Needs.{needs}
 use Rattle.record.proofs.members.is_within.Statement.{statement}
 use Rattle.record.proofs.members.is_within.Tie as tie
 
 returns : tie.Need-returns
-returns c = sym (within-wide _ _ (omega arith) (omega arith))
-
-returns-2 : tie.Need-returns-2
-returns-2 c = within-shift _ _
+returns c =
+    let s : tie.Start = search in
+    ap (leb (s .args .bits)) (c .largest-mask .ensures) ∙ within-largest _ _ (omega arith)
 
 pub is-within-spec : {M : Type 1} → statement M
 is-within-spec = tie.close (tie.spec
-    returns
-    (λ c. search needs)
-    returns-2)
+    (λ c κs. search needs)
+    returns)

@@ -5,6 +5,7 @@ use Rattle.record.specs.Refusals.{firstNo}
 use Rattle.record.specs.declared.questions.Terms.{Terms}
 use Rattle.record.specs.declared.refusal.Refusal.{Refusal}
 use Rattle.record.proofs.Booleans.{passed, failed}
+use Rattle.record.proofs.Parts.{strong-asked}
 use Rattle.record.proofs.Turn.{next, stop, done, known}
 use mathlib.Core.Path.{_≡_, ap}
 use mathlib.Core.List.{List}
@@ -37,9 +38,12 @@ masks : (c : tie.After-masks-ok) → c .masks-ok .result ≡ masksOk (n (search)
 unfolding masksOk strongOf timeoutsOf noVotesOf
 masks c = c .masks-ok .ensures
 
+-- 7 is answered yes of the strong mask before 8 is asked
 strong : (c : tie.After-strong-ok) → c .strong-ok .result ≡ strongOk (n (search)) (round (search)) (strongOf (body (search)))
 unfolding strongOf
-strong c = c .strong-ok .ensures
+strong c =
+    let e : tie.Else1 = search in
+    strong-asked _ _ _ _ (passed (masks (search)) (e .if1 .left)) (c .strong-ok .ensures)
 
 timeouts : (c : tie.After-quorum-if) → c .quorum-if .result ≡ timeoutsOk (n (search)) (round (search)) (body (search))
 unfolding timeoutsOk strongOf timeoutsOf

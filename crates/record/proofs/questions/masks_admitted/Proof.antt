@@ -6,7 +6,6 @@ use Rattle.record.specs.Inner.{masksAdmitted}
 use Rattle.record.specs.declared.questions.Terms.{Terms}
 use Rattle.record.proofs.Booleans.{passed, failed, and-fails-left}
 use Rattle.record.proofs.Parts.{masks-strong, masks-lacking, masks-full}
-use borrow.Author.Tests.{eq-eqb, ne-eqb}
 use mathlib.Core.Path.{_≡_, sym, ap, _∙_}
 use mathlib.Core.Bool.{true, _&&_}
 use lib.Bits.{bitOr}
@@ -15,13 +14,14 @@ use borrow.Author.Needs.{needs}
 use Rattle.record.proofs.questions.masks_admitted.Statement.{statement}
 use Rattle.record.proofs.questions.masks_admitted.Tie as tie
 
-strong : (c : tie.Else1) → let a = (let s : tie.Start = search in s .args) in strongOk (a .terms .n) (a .round) (strongOf (a .body .now)) ≡ true
+strong : (c : tie.Else1) → let a = (let s : tie.Start = search in s .args) in
+    (within (a .terms .n) (strongOf (a .body .now)) && strongOk (a .terms .n) (a .round) (strongOf (a .body .now))) ≡ true
 unfolding strongOf
 strong c = let a : tie.After-strong-ok = search in passed (a .strong-ok .ensures) (c .if1 .left)
 
 -- the mask has the previous leader
 full : (c : tie.Else2) → let a = (let s : tie.Start = search in s .args) in masksAdmitted (a .terms .n) (a .round) (a .source) (a .body .now)
-    ≡ (eqb (bitOr (timeoutsOf (a .body .now)) (noVotesOf (a .body .now))) 0 && within (a .terms .n) (strongOf (a .body .now)))
+    ≡ eqb (bitOr (timeoutsOf (a .body .now)) (noVotesOf (a .body .now))) 0
 unfolding strongOf
 full c = masks-full _ _ _ _ (strong (search)) (cc)
 
@@ -52,11 +52,7 @@ returns-3 c =
 
 returns-4 : tie.Need-returns-4
 unfolding strongOf timeoutsOf noVotesOf
-returns-4 c = sym (full (search) ∙ and-fails-left _ (ne-eqb _ _ (c .if4 .taken)))
-
-returns-5 : tie.Need-returns-5
-unfolding strongOf timeoutsOf noVotesOf
-returns-5 c = let e : tie.Else4 = search in sym (full (search) ∙ rw (eq-eqb _ _ (e .if4 .left)) (sym (c .is-within .ensures)))
+returns-4 c = sym (full (search))
 
 pub masks-admitted-spec : {M : Type 1} → statement M
 masks-admitted-spec =
@@ -72,6 +68,4 @@ masks-admitted-spec =
     returns-2
     (λ c κs. search needs)
     returns-3
-    returns-4
-    (λ c κs. search needs)
-    returns-5)
+    returns-4)

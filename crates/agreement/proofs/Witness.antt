@@ -1,24 +1,25 @@
 -- The witness: the models by the dry run, and the premises by tests over their records. Assumes nothing.
 use mathlib.Core.Path.{_≡_, refl, sym, ap, ap₂, _∙_}
-use mathlib.Core.Bool.{Bool, true, false, not, _&&_, _||_, false≢true}
+use mathlib.Core.Bool.{Bool, true, false, not, _&&_}
 use mathlib.Core.Logic.{_⊎_, inl, inr, ⊎-elim}
 use mathlib.Core.List.{List, [], _∷_, _++_, Memᴰ·append-left, Memᴰ·append-right, List·Memᴰ·cases-cons, List·Memᴰ·not-nil}
 use Prim.Native.Nat.{ℕ, _-_}
 use lib.Count.{ones}
 use lib.Dec.{eqb, lit≤}
-use borrow.Author.Tests.{eqb-true, eq-eqb, not-true}
+use borrow.Author.Tests.{eq-eqb, not-true}
 use Rattle.record.specs.Below.{all, count}
 use Rattle.record.specs.Members.{legal, leader, has, within, meets, isRound}
 use Rattle.record.specs.Refusals.{firstNo}
 use Rattle.record.specs.Layout.{roundOf, sourceOf, bodyOf, strongOf, timeoutsOf, noVotesOf, weakCountOf, weakOf}
 use Rattle.record.specs.Questions.{masksOk, strongOk, lacksLeader, quorumIf, timeoutsOk, noVotesOk, weakIdOk, rises, slotOk, weakOk}
 use Rattle.record.specs.Questions.{signerQuestions, recordQuestions}
-use Rattle.record.proofs.Booleans.{which, never, and-left, and-right, and-both}
+use Rattle.record.proofs.Booleans.{which, never, and-left, and-right, and-both, imp, imp-elim}
 use Rattle.protocol.specs.Dag.{Records, recordsOf, present, votes}
 use Rattle.protocol.specs.Chain.{leaders}
 use Rattle.protocol.specs.Journal.{journal}
 use Rattle.protocol.specs.Witness.{early, late, vertexOf, firstOf, witnessDag, honest}
 use Rattle.protocol.proofs.Laws.{records-ext}
+use Rattle.protocol.proofs.Lists.{same, same-eq}
 use Rattle.protocol.proofs.Witness as protocol
 use Rattle.replica.specs.Opening.{opened, openState}
 use Rattle.replica.proofs.Opened.{opened-size}
@@ -34,31 +35,6 @@ use Rattle.agreement.proofs.Claim.{opened-follows, follow-more, agreeme
 use Rattle.agreement.proofs.Dry.{parentsIn, taken, allTaken, dry, all-allowed, dry-follow}
 
 -- ---- tests over lists of records
-
--- the second where the first
-imp : Bool → Bool → Bool
-imp a b = not a || b
-
--- applied
-imp-elim : (a b : Bool) → imp a b ≡ true → a ≡ true → b ≡ true
-unfolding imp
-imp-elim true b e h = e
-imp-elim false b e h = absurd (false≢true h)
-
--- the same words
-same : List ℕ → List ℕ → Bool
-same [] [] = true
-same [] (y ∷ m) = false
-same (x ∷ l) [] = false
-same (x ∷ l) (y ∷ m) = eqb x y && same l m
-
--- then the lists are equal
-same-eq : (l m : List ℕ) → same l m ≡ true → l ≡ m
-unfolding same
-same-eq [] [] e = refl
-same-eq [] (y ∷ m) e = absurd (false≢true e)
-same-eq (x ∷ l) [] e = absurd (false≢true e)
-same-eq (x ∷ l) (y ∷ m) e = ap₂ (λ (z : ℕ) (k : List ℕ). z ∷ k) (eqb-true x y (and-left _ _ e)) (same-eq l m (and-right (eqb x y) _ e))
 
 -- every record of the list passes
 every : (List ℕ → Bool) → List (List ℕ) → Bool
@@ -168,11 +144,11 @@ both x y = eqb (roundOf x) (roundOf y) && (honest (sourceOf x) && (votes 4 (roun
 
 -- they are met
 vertices-one : pairs oneVertex allVertices allVertices ≡ true
-unfolding allVertices made dry callsOf vertexOf firstOf early late pairs every oneVertex twin imp same
+unfolding allVertices made dry callsOf vertexOf firstOf early late pairs every oneVertex twin same
 vertices-one = refl
 
 records-one : pairs oneRecord allFirsts allVertices ≡ true
-unfolding allVertices allFirsts made dry callsOf vertexOf firstOf early late pairs every oneRecord twin imp same
+unfolding allVertices allFirsts made dry callsOf vertexOf firstOf early late pairs every oneRecord twin same
 records-one = refl
 
 never-both : pairs (λ x y. not (both x y)) (allVertices ++ allFirsts) allVertices ≡ true

@@ -21,8 +21,9 @@ use Rattle.replica.specs.State.{memberCount, vertices, orderedId}
 use Rattle.commits.specs.Commit.{enter, enterAll, orderLeader}
 use Rattle.commits.specs.Standing.{Standing, Room, orderId, orderRound}
 use Rattle.commits.proofs.Walking.{select-none}
-use Rattle.commits.proofs.Steps.{select-zero, select-in, select-out, enter-none, enter-more, order-out, order-old, order-new, room-for}
-use Rattle.commits.proofs.Frame.{Alike, alike-self, alike-then, alike-enter, entered-ordered, room-kept}
+use Rattle.commits.proofs.Steps.{select-zero, select-in, select-out, enter-none, enter-more, order-out, order-old, order-new}
+use Rattle.commits.proofs.Frame.{Alike, alike-self, alike-then, alike-enter}
+use Rattle.commits.proofs.Growing.{enter-ordered, enter-fits, enter-room}
 use Rattle.record.proofs.Rounds.{id-same, id-member}
 
 -- a state of the right length, with room
@@ -37,8 +38,8 @@ order-keeps l mask y low high h = go (which (has mask (idMember y))) (which (ord
     go (inr a) b = subst Roomy (order-out l mask y a) h
     go (inl a) (inl b) = subst Roomy (order-old l mask y b) h
     go (inl a) (inr b) =
-        let space = room-for l y (h .1) low high b in
-        subst Roomy (order-new l mask y a b) (alike-enter l y low high space .size ∙ h .0, room-kept l y (h .0) low high space b (h .1))
+        let space = enter-fits l y (h .0) (omega arith) (omega arith) (h .1) b in
+        subst Roomy (order-new l mask y a b) (alike-enter l y low high space .size ∙ h .0, enter-room l y (h .0) (omega arith) (omega arith) (h .1) b)
 
 -- and so does ordering a round's ids
 round-keeps : (l : List ℕ) (mask r k : ℕ) → 1 ≤ r → r ≤ rounds → k ≤ slots → Roomy l → Roomy (orderRound l mask r k)
@@ -91,14 +92,14 @@ module _ (n : ℕ) (l : List ℕ) (S : Standing l) (R : Room l) (e : n ≡ membe
       let b = wanted-range y h in
       let fresh : orderedId (soFar y) y ≡ false = E .later y (omega arith) ∙ not-true _ (and-left (not (orderedId l y)) _ h) in
       let size : length (soFar y) ≡ stateSize = E .alike .size ∙ S .size in
-      let space = room-for (soFar y) y (E .room) (b .0) (b .1) fresh in
+      let space = enter-fits (soFar y) y size (omega (arith, b .0)) (omega (arith, b .1)) (E .room) fresh in
       let kept : (z : ℕ) → y + 1 ≤ z → orderedId (enter (soFar y) y) z ≡ orderedId l z =
-      λ z k. entered-ordered (soFar y) y size (b .0) (b .1) space z
+      λ z k. enter-ordered (soFar y) y size (omega (arith, b .0)) (omega (arith, b .1)) z
       ∙ rw (ne-eqb y z (λ d. omega arith)) (or-false (orderedId (soFar y) z) ∙ E .later z (omega arith))
       in
       record {
         alike = subst (λ (x : List ℕ). Alike l x) (so-far-in y h) (alike-then (E .alike) (alike-enter (soFar y) y (b .0) (b .1) space));
-        room = subst Room (so-far-in y h) (room-kept (soFar y) y size (b .0) (b .1) space fresh (E .room));
+        room = subst Room (so-far-in y h) (enter-room (soFar y) y size (omega (arith, b .0)) (omega (arith, b .1)) (E .room) fresh);
         later = λ z k. ap (λ (x : List ℕ). orderedId x z) (sym (so-far-in y h)) ∙ kept z k;
       }
 

@@ -1,30 +1,24 @@
 -- What a change of the lists, the counts or the ordered masks leaves as it was: the vertices, the first messages, and what the commits rely on.
 -- Assumes nothing.
 use mathlib.Core.Path.{_≡_, refl, sym, ap, ap₂, _∙_}
-use mathlib.Core.Bool.{Bool, true, false, cond, _||_, or-false}
+use mathlib.Core.Bool.{Bool, true, false, cond}
 use mathlib.Core.Logic.{_⊎_, inl, inr}
 use mathlib.Core.List.{List, []}
-use Prim.Native.Nat.{ℕ, zero, suc, _+_, _-_, _≤_, _<_}
-use native.Mathlib.Nat.{eq-or-lt-of-le, le-of-suc-le-suc}
+use Prim.Native.Nat.{ℕ, _+_, _-_, _≤_, _<_}
 use native.Mathlib.Omega.{arith}
-use lib.Dec.{eqb}
 use lib.ListN.{getD, set, take, drop, length, length-set, length-drop}
-use lib.Seq.{getD-set-same, getD-set-other, getD-drop, ext-getD}
-use borrow.Author.Tests.{eqb-true, eqb-false, eq-eqb, ne-eqb}
-use Rattle.record.specs.Below.{count}
+use lib.Seq.{getD-set-other, getD-drop, ext-getD}
 use Rattle.record.specs.Members.{has, add, idRound, idMember, isRound, rounds, slots, idLimit}
-use Rattle.record.proofs.Booleans.{which, never, and-cong, bool-ext}
-use Rattle.record.proofs.Below.{count-cong}
-use Rattle.record.proofs.Masks.{has-add}
-use Rattle.record.proofs.Rounds.{round-in, round-range}
+use Rattle.record.proofs.Booleans.{which, and-cong}
+use Rattle.record.proofs.Rounds.{round-range}
 use Rattle.protocol.proofs.Laws.{records-ext}
 use Rattle.record.specs.Layout.{bodySize}
 use Rattle.replica.specs.Layout.{headSize, journalCountAt, timeoutsKind, memberCountAt}
-use Rattle.replica.specs.Layout.{masksAt, cellAt, orderedAt, stateSize, leadersAt, journalAt, journalSize, cellsAt}
+use Rattle.replica.specs.Layout.{masksAt, cellAt, orderedAt, leadersAt, journalAt, journalSize, cellsAt}
 use Rattle.replica.specs.State.{memberCount, journalCount, heldMask, heardMask, votesMask, orderedMask, vertices, addMember}
-use Rattle.replica.specs.State.{firsts, orderedId}
+use Rattle.replica.specs.State.{firsts}
 use Rattle.commits.specs.Commit.{enter}
-use Rattle.commits.specs.Standing.{Standing, Room}
+use Rattle.commits.specs.Standing.{Standing}
 
 -- ---- states alike in members, cells and the three masks of what was taken
 
@@ -128,79 +122,3 @@ alike-enter l y low high h =
     alike-then (alike-set l (orderedAt (idRound y)) (add (orderedMask l (idRound y)) (idMember y)) (loose-ordered (idRound y) (omega arith) (omega arith)))
     (alike-then (alike-set a (journalAt + journalCount l) y (loose-list _ (omega arith) (omega arith)))
     (alike-set b journalCountAt (journalCount l + 1) (loose-head journalCountAt (omega arith) (omega arith))))
-
-module _ (l : List ℕ) (y : ℕ) (size : length l ≡ stateSize) (low : slots ≤ y) (high : y < idLimit) (room : journalCount l < journalSize) where
-  marked : List ℕ
-  marked = set l (orderedAt (idRound y)) (add (orderedMask l (idRound y)) (idMember y))
-
-  -- the ordered masks after y is entered
-  entered-mask : (r : ℕ) → 1 ≤ r → r ≤ rounds → orderedMask (enter l y) r ≡ orderedMask marked r
-  unfolding enter addMember marked
-  entered-mask r a b =
-      getD-set-other (set marked (journalAt + journalCount l) y) journalCountAt (orderedAt r) (journalCount l + 1) 0 (λ e. omega arith)
-      ∙ getD-set-other marked (journalAt + journalCount l) (orderedAt r) y 0 (λ e. omega arith)
-
-  marked-same : orderedMask marked (idRound y) ≡ add (orderedMask l (idRound y)) (idMember y)
-  unfolding marked
-  marked-same = getD-set-same l (orderedAt (idRound y)) (add (orderedMask l (idRound y)) (idMember y)) 0 (omega arith)
-
-  marked-other : (r : ℕ) → 1 ≤ r → r ≤ rounds → (r ≡ idRound y → ⊥) → orderedMask marked r ≡ orderedMask l r
-  unfolding marked
-  marked-other r a b d = getD-set-other l (orderedAt (idRound y)) (orderedAt r) (add (orderedMask l (idRound y)) (idMember y)) 0 (λ e. d (omega arith))
-
-  round-y : isRound (idRound y) ≡ true
-  round-y = round-in (idRound y) (omega arith) (omega arith)
-
-  same-member : (z : ℕ) → idRound z ≡ idRound y → eqb (idMember y) (idMember z) ≡ eqb y z
-  same-member z s = bool-ext
-      (λ e. eq-eqb y z (omega (arith, s, eqb-true (idMember y) (idMember z) e)))
-      (λ e. eq-eqb (idMember y) (idMember z) (ap idMember (eqb-true y z e)))
-
-  -- y is ordered then, and every other id as before
-  pub entered-ordered : (z : ℕ) → orderedId (enter l y) z ≡ (orderedId l z || eqb y z)
-  entered-ordered z = go (which (isRound (idRound z))) (which (eqb (idRound z) (idRound y)))
-    where
-      go : (isRound (idRound z) ≡ true) ⊎ (isRound (idRound z) ≡ false) → (eqb (idRound z) (idRound y) ≡ true) ⊎ (eqb (idRound z) (idRound y) ≡ false)
-          → orderedId (enter l y) z ≡ (orderedId l z || eqb y z)
-      go (inr e) d = rw e (sym (ne-eqb y z (λ s. never round-y (ap (λ (x : ℕ). isRound (idRound x)) s ∙ e))))
-      go (inl e) (inl d) =
-          let h = round-range (idRound z) e in
-          let s : idRound z ≡ idRound y = eqb-true _ _ d in
-          rw (e, entered-mask (idRound z) (h .0) (h .1), s, marked-same, has-add (orderedMask l (idRound y)) (idMember y) (idMember z), same-member z s)
-      go (inl e) (inr d) =
-          let h = round-range (idRound z) e in
-          let s : idRound z ≡ idRound y → ⊥ = eqb-false _ _ d in
-          rw (e, entered-mask (idRound z) (h .0) (h .1), marked-other (idRound z) (h .0) (h .1) s, ne-eqb y z (λ q. s (ap idRound (sym q)))) (sym (or-false _))
-
-  pub entered-count : journalCount (enter l y) ≡ journalCount l + 1
-  unfolding enter addMember marked
-  entered-count =
-      getD-set-same (set marked (journalAt + journalCount l) y) journalCountAt (journalCount l + 1) 0
-      (omega (arith, length-set marked (journalAt + journalCount l) y, length-set l (orderedAt (idRound y)) (add (orderedMask l (idRound y)) (idMember y))))
-
--- one more number counted
-count-grow : (k : ℕ) (s t : ℕ → Bool) (y : ℕ) → y < k → s y ≡ false → ((z : ℕ) → t z ≡ (s z || eqb y z)) → count k t ≡ count k s + 1
-unfolding count
-count-grow zero s t y l e h = absurd (omega arith)
-count-grow (suc k) s t y l e h = go (eq-or-lt-of-le (le-of-suc-le-suc l)) (λ m. count-grow k s t y m e h)
-  where
-    go : (y ≡ k) ⊎ (y < k) → (y < k → count k t ≡ count k s + 1) → count (suc k) t ≡ count (suc k) s + 1
-    go (inl q) ih =
-        let a : t k ≡ true = h k ∙ rw (ap s (sym q) ∙ e, eq-eqb y k q) in
-        let b : s k ≡ false = ap s (sym q) ∙ e in
-        rw (a, b) (omega (arith, count-cong k t s (λ i m. h i ∙ rw (ne-eqb y i (λ d. omega arith)) (or-false (s i)))))
-    go (inr m) ih =
-        let a : t k ≡ s k = h k ∙ rw (ne-eqb y k (λ d. omega arith)) (or-false (s k)) in
-        rw a (omega (arith, ih m))
-
--- entering an id that is not ordered leaves room for the rest
-pub room-kept : (l : List ℕ) (y : ℕ) → length l ≡ stateSize → slots ≤ y → y < idLimit → journalCount l < journalSize → orderedId l y ≡ false → Room l
-    → Room (enter l y)
-room-kept l y size low high room e R =
-    omega (
-      arith,
-      R,
-      entered-count l y size low high room,
-      count-grow idLimit (orderedId l) (orderedId (enter l y)) y high e
-          (entered-ordered l y size low high room),
-    )

@@ -118,10 +118,10 @@ append-all l (r ∷ rs) size h =
 -- ---- one journal entry
 
 -- a larger set counts more
-count-more : (s t : ℕ → Bool) (y k : ℕ) → ((i : ℕ) → s i ≡ true → t i ≡ true) → s y ≡ false → t y ≡ true → y < k → count k s + 1 ≤ count k t
+count-larger : (s t : ℕ → Bool) (y k : ℕ) → ((i : ℕ) → s i ≡ true → t i ≡ true) → s y ≡ false → t y ≡ true → y < k → count k s + 1 ≤ count k t
 unfolding count
-count-more s t y zero f a b h = absurd (omega arith)
-count-more s t y (suc k) f a b h = go (which (eqb y k)) (count-more s t y k f a b)
+count-larger s t y zero f a b h = absurd (omega arith)
+count-larger s t y (suc k) f a b h = go (which (eqb y k)) (count-larger s t y k f a b)
   where
     go : (eqb y k ≡ true) ⊎ (eqb y k ≡ false) → (y < k → count k s + 1 ≤ count k t) → count (suc k) s + 1 ≤ count (suc k) t
     go (inl q) ih = rw (ap s (sym (eqb-true y k q)) ∙ a, ap t (sym (eqb-true y k q)) ∙ b) (omega (arith, count-mono k s t f))
@@ -203,7 +203,7 @@ module _ (l : List ℕ) (y : ℕ) (size : length l ≡ stateSize) (low : 1 ≤ i
   -- where y is not ordered yet, there is room for it, and room again afterwards
   module _ (R : Room l) (new : orderedId l y ≡ false) where
     more : count idLimit (orderedId l) + 1 ≤ count idLimit (orderedId (enter l y))
-    more = count-more (orderedId l) (orderedId (enter l y)) y idLimit (λ i e. enter-ordered i ∙ or-left _ e) new
+    more = count-larger (orderedId l) (orderedId (enter l y)) y idLimit (λ i e. enter-ordered i ∙ or-left _ e) new
         (enter-ordered y ∙ or-right (orderedId l y) (eq-eqb y y refl)) (omega arith)
 
     -- the journal is not full

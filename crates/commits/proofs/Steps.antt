@@ -4,7 +4,7 @@ use mathlib.Core.Bool.{Bool, true, false, not, or-false}
 use mathlib.Core.Logic.{_⊎_, inl, inr}
 use mathlib.Core.List.{List, [], _∷_, _++_, append-nil}
 use Prim.Native.Nat.{ℕ, zero, suc, _+_, _-_, _≤_, _<_}
-use native.Mathlib.Nat.{add-zero, add-suc, eq-or-lt-of-le, le-of-suc-le-suc}
+use native.Mathlib.Nat.{add-zero, add-suc}
 use native.Mathlib.Numerals.{add-one, sub-one}
 use native.Mathlib.Omega.{arith}
 use lib.Dec.{leb}
@@ -12,25 +12,25 @@ use lib.ListN.{getD, set, take, drop, length, length-append, length-set, length-
 use lib.Seq.{getD-set-same, getD-set-other}
 use borrow.Author.Tests.{lt-ltb, le-ltb, le-leb, eq-eqb}
 use Rattle.record.specs.Below.{count, select}
-use Rattle.record.specs.Members.{quorum, leader, has, add, with, meets, idOf, idMember, isRound, rounds, slots, votedRounds, idLimit}
+use Rattle.record.specs.Members.{quorum, leader, has, add, with, meets, idOf, idMember, isRound, rounds, slots, votedRounds}
 use Rattle.record.specs.declared.members.Members.{Members}
 use Rattle.record.specs.Layout.{strongOf, bodySize, strongPlace}
 use Rattle.record.proofs.Booleans.{which, never, and-both, and-fails-left, and-fails-right, or-right, cond-true, cond-false}
-use Rattle.record.proofs.Below.{count-cong, count-le, count-more, count-same}
+use Rattle.record.proofs.Below.{count-cong, count-more, count-same}
 use Rattle.record.proofs.Below as below
 use Rattle.record.proofs.Masks.{has-zero, has-one, meets-count}
 use Rattle.protocol.specs.Dag.{Dag, present, held, votes, enough, committed}
 use Rattle.protocol.specs.Masks.{voters}
 use Rattle.protocol.specs.Chain.{leaderId}
 use Rattle.protocol.proofs.Voters.{voters-in, voters-out, voters-claim}
-use Rattle.replica.specs.Layout.{cellAt, stateSize, leadersAt, leadersSize, journalSize, leaderCountAt, memberCountAt}
-use Rattle.replica.specs.State.{memberCount, committedRound, leaderCount, journalCount, heldMask, heardMask, votesMask, orderedMask, cell, vertices}
+use Rattle.replica.specs.Layout.{cellAt, stateSize, leadersAt, leadersSize, leaderCountAt, memberCountAt}
+use Rattle.replica.specs.State.{memberCount, committedRound, leaderCount, heldMask, heardMask, votesMask, orderedMask, cell, vertices}
 use Rattle.replica.specs.State.{firsts, dag, orderedId}
 use Rattle.replica.specs.WellFormed.{subset}
 use Rattle.replica.proofs.Laws.{subset-has}
-use Rattle.record.proofs.Rounds.{round-in, id-low, id-round, id-member}
+use Rattle.record.proofs.Rounds.{round-in, id-round, id-member}
 use Rattle.commits.specs.Commit.{appendLeader, appendLeaders, enter, enterAll, committable}
-use Rattle.commits.specs.Standing.{Standing, Room, LeaderRoom, orderId, orderRound}
+use Rattle.commits.specs.Standing.{Standing, LeaderRoom, orderId, orderRound}
 use Rattle.commits.proofs.Laws.{Cell}
 
 -- a cell that lies within the state is a record's body
@@ -185,42 +185,6 @@ pub enter-more : (l ys : List ℕ) (y : ℕ) → enter (enterAll l ys) y ≡ ent
 unfolding enterAll
 enter-more l [] y = refl
 enter-more l (x ∷ ys) y = enter-more (enter l x) ys y
-
--- an id that is not ordered finds room in the journal
-count-but : (k : ℕ) (t : ℕ → Bool) (y : ℕ) → y < k → t y ≡ false → count k t < k
-unfolding count
-count-but zero t y l e = absurd (omega arith)
-count-but (suc k) t y l e = go (which (t k)) (eq-or-lt-of-le (le-of-suc-le-suc l)) (λ m. count-but k t y m e)
-  where
-    go : (t k ≡ true) ⊎ (t k ≡ false) → (y ≡ k) ⊎ (y < k) → (y < k → count k t < k) → count (suc k) t < suc k
-    go (inl d) (inl q) ih = never d (ap t (sym q) ∙ e)
-    go (inl d) (inr m) ih = rw d (omega (arith, ih m))
-    go (inr d) q ih = rw d (omega (arith, count-le k t))
-
--- ids below 16 have round 0, so none is ordered
-low-out : (l : List ℕ) (y : ℕ) → y < slots → orderedId l y ≡ false
-low-out l y h = and-fails-left _ (id-low y h)
-
-count-add : (j k : ℕ) (t : ℕ → Bool) → count (j + k) t ≡ count j t + count k (λ i. t (j + i))
-unfolding count
-count-add j zero t = rw (add-zero j) (sym (add-zero (count j t)))
-count-add j (suc k) t = rw (add-suc j k) (omega (arith, count-add j k t))
-
-count-none : (k : ℕ) (t : ℕ → Bool) → ((y : ℕ) → y < k → t y ≡ false) → count k t ≡ 0
-unfolding count
-count-none zero t h = refl
-count-none (suc k) t h = rw (count-none k t (λ y m. h y (omega arith)), h k (omega arith))
-
-pub room-for : (l : List ℕ) (y : ℕ) → Room l → slots ≤ y → y < idLimit → orderedId l y ≡ false → journalCount l < journalSize
-room-for l y R low high e =
-    let d : slots + (y - slots) ≡ y = omega arith in
-    omega (
-      arith,
-      R,
-      count-add slots journalSize (orderedId l),
-      count-none slots (orderedId l) (low-out l),
-      count-but journalSize (λ i. orderedId l (slots + i)) (y - slots) (omega arith) (ap (orderedId l) d ∙ e),
-    )
 
 -- ---- votes
 

@@ -1,5 +1,5 @@
 -- The witness: its premises by tests over the lists of records, and the rest by computation.
-use mathlib.Core.Path.{_≡_, refl, sym, ap, ap₂, _∙_}
+use mathlib.Core.Path.{_≡_, refl, sym, ap, _∙_}
 use mathlib.Core.Bool.{Bool, true, false, not, _&&_, _||_, false≢true}
 use mathlib.Core.Logic.{_⊎_, inl, inr, ⊎-elim}
 use mathlib.Core.List.{List, [], _∷_, _++_}
@@ -13,7 +13,7 @@ use Rattle.record.specs.Below.{all, any, count, select}
 use Rattle.record.specs.Members.{legal, has, leader, idRound, idMember, rounds}
 use Rattle.record.specs.Layout.{roundOf, sourceOf, bodyOf, strongOf, timeoutsOf, noVotesOf, weakCountOf, weakOf, bodySize}
 use Rattle.record.specs.Admitted.{Admitted}
-use Rattle.record.proofs.Booleans.{which, never, and-left, and-right, and-both, or-left, or-right}
+use Rattle.record.proofs.Booleans.{which, never, and-left, and-right, and-both, or-left, or-right, imp, imp-elim}
 use Rattle.record.proofs.Below.{all-elim}
 use Rattle.record.proofs.Masks.{has-bound}
 use Rattle.protocol.specs.Dag.{recordsOf, present, held, votes, committed, lastUpTo, last}
@@ -25,29 +25,9 @@ use Rattle.protocol.specs.Masks.{join, joinWeak, joinParents, joinRound,
 use Rattle.protocol.specs.Witness.{early, late, firstOf, vertexOf, witnessDag, honest, DagWitness}
 use Rattle.protocol.proofs.Paths.{parent-present, no-vote-present, weak-present}
 use Rattle.protocol.proofs.Laws.{fresh-masks}
+use Rattle.protocol.proofs.Lists.{same, same-eq}
 
 -- ---- tests
-
-imp : Bool → Bool → Bool
-imp a b = not a || b
-
-imp-elim : (a b : Bool) → imp a b ≡ true → a ≡ true → b ≡ true
-unfolding imp
-imp-elim true b e h = e
-imp-elim false b e h = absurd (false≢true h)
-
-same : List ℕ → List ℕ → Bool
-same [] [] = true
-same [] (y ∷ m) = false
-same (x ∷ l) [] = false
-same (x ∷ l) (y ∷ m) = eqb x y && same l m
-
-same-eq : (l m : List ℕ) → same l m ≡ true → l ≡ m
-unfolding same
-same-eq [] [] e = refl
-same-eq [] (y ∷ m) e = absurd (false≢true e)
-same-eq (x ∷ l) [] e = absurd (false≢true e)
-same-eq (x ∷ l) (y ∷ m) e = ap₂ (λ (z : ℕ) (k : List ℕ). z ∷ k) (eqb-true x y (and-left _ _ e)) (same-eq l m (and-right (eqb x y) _ e))
 
 -- every record of the list passes the test of its round, source and body
 every : (ℕ → ℕ → List ℕ → Bool) → List (List ℕ) → Bool
@@ -185,7 +165,7 @@ module _ (l : List (List ℕ)) where
       rest r p h = and-right (both (fits r p (recordsOf l r p))) _ (every-found kept l e r p h)
 
 formed : (i : Bool) → ValidVertices 4 (witnessDag i .vertex)
-unfolding witnessDag recordsOf early late vertexOf every kept both fits quorumIn lacks imp leader has count all strongOf timeoutsOf noVotesOf weakCountOf weakOf
+unfolding witnessDag recordsOf early late vertexOf every kept both fits quorumIn lacks leader has count all strongOf timeoutsOf noVotesOf weakCountOf weakOf
 formed true = kept-formed (vertexOf true) refl
 formed false = kept-formed (vertexOf false) refl
 
@@ -202,7 +182,7 @@ told : Bool → ℕ → ℕ → List ℕ → Bool
 told j r p b = imp (honest p) (imp (held (witnessDag j .vertex) r p) (same b (witnessDag j .vertex r p)))
 
 all-told : (i j : Bool) → every (told j) (firstOf i) ≡ true
-unfolding witnessDag recordsOf early late firstOf vertexOf every told imp same
+unfolding witnessDag recordsOf early late firstOf vertexOf every told same
 all-told true true = refl
 all-told true false = refl
 all-told false true = refl
@@ -223,7 +203,7 @@ apart : Bool → ℕ → ℕ → List ℕ → Bool
 apart i r p b = all 4 (λ q. imp (has (noVotesOf b) q) (imp (honest q) (silent i r q)))
 
 all-apart : (i j : Bool) → every (apart i) (vertexOf j) ≡ true
-unfolding witnessDag recordsOf early late firstOf vertexOf every apart silent imp all has leader strongOf noVotesOf
+unfolding witnessDag recordsOf early late firstOf vertexOf every apart silent all has leader strongOf noVotesOf
 all-apart true true = refl
 all-apart true false = refl
 all-apart false true = refl

@@ -101,10 +101,6 @@ pub digit-mono : (a b : Bool) → (a ≡ true → b ≡ true) → cond a 1 0 ≤
 digit-mono true b h = rw (h refl) (omega arith)
 digit-mono false b h = omega arith
 
-pub count-none : (t : ℕ → Bool) → count 0 t ≡ 0
-unfolding count
-count-none t = refl
-
 -- a turn of a rising loop
 pub count-more : (i : ℕ) (t : ℕ → Bool) → t i ≡ true → count (i + 1) t ≡ count i t + 1
 unfolding count

@@ -81,7 +81,10 @@ passed {b} e h = sym e ∙ not-false b h
 pub failed : {b t : Bool} → b ≡ t → not b ≡ true → t ≡ false
 failed {b} e h = sym e ∙ not-true b h
 
--- a test that is met where it is wanted
-pub imp-elim : (a b : Bool) → (not a || b) ≡ true → a ≡ true → b ≡ true
+-- the second test is met where the first is
+abbrev pub imp : Bool → Bool → Bool
+imp a b = not a || b
+
+pub imp-elim : (a b : Bool) → imp a b ≡ true → a ≡ true → b ≡ true
 imp-elim true b e h = e
 imp-elim false b e h = never h refl

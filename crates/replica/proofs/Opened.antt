@@ -17,9 +17,8 @@ use Rattle.protocol.proofs.Lists.{among-none, once, once-none}
 use Rattle.replica.specs.Layout.{committedRoundAt, leaderCountAt, journalCountAt, heldKind, heardKind, votesKind, timeoutsKind, noVotesKind}
 use Rattle.replica.specs.Layout.{stateSize, masksAt, cellAt, leadersAt, journalAt, zerosAt, orderedKind, memberCountAt, currentRoundAt, votesAt}
 use Rattle.replica.specs.State.{memberCount, currentRound, leaderList, journalList, vertices, firsts}
-use Rattle.replica.specs.WellFormed.{wellFormed}
 use Rattle.replica.specs.Opening.{opened}
-use Rattle.replica.proofs.Formed.{WellFormed, Led, well-formed}
+use Rattle.replica.proofs.Formed.{WellFormed, Led}
 
 -- every word of a run of zeros, and beyond it
 blank : (k j : ℕ) → _≡_ {A = ℕ} (getD (replicate k 0) j 0) 0
@@ -128,7 +127,3 @@ module _ (n : ℕ) where
     where
       small : (r i : ℕ) → getD (opened n) (masksAt r + i) 0 < 2 ^ memberCount (opened n)
       small r i = rw (opened-word (masksAt r + i) (omega arith)) (pow-pos (memberCount (opened n)))
-
-  -- so it is well formed
-  pub opened-well-formed : legal n ≡ true → wellFormed (opened n) ≡ true
-  opened-well-formed g = well-formed (opened n) (opened-formed g)

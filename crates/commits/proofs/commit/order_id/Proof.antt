@@ -1,9 +1,11 @@
 -- An id that is not ordered finds room in the journal.
-use Rattle.commits.proofs.Steps.{order-out, order-old, order-new, room-for}
+use Rattle.commits.proofs.Steps.{order-out, order-old, order-new}
+use Rattle.commits.proofs.Growing.{enter-fits}
 use Rattle.record.proofs.Booleans.{passed, failed}
 use Rattle.replica.specs.State.{orderedId}
 use mathlib.Core.Path.{_≡_, sym, _∙_}
 use mathlib.Core.Bool.{false}
+use native.Mathlib.Omega.{arith}
 use borrow.Author.Needs.{needs}
 use Rattle.commits.proofs.commit.order_id.Statement.{statement}
 use Rattle.commits.proofs.commit.order_id.Tie as tie
@@ -14,7 +16,7 @@ fresh c = let o : tie.After-is-marked = search in sym (o .is-marked .ensures) �
 enter-id-requires : tie.Need-enter-id-requires
 enter-id-requires c κs =
     let s : tie.Start = search in
-    let space = room-for (s .args .state .now) (s .args .id) (s .pre .3) (s .pre .1) (s .pre .2) (fresh (search)) in
+    let space = enter-fits (s .args .state .now) (s .args .id) (s .pre .0) (omega arith) (omega arith) (s .pre .3) (fresh (search)) in
     search needs
 
 returns-3 : tie.Need-returns-3

@@ -200,7 +200,7 @@ within-or n a b =
 pub within-three : (n a b c : ℕ) → within n (bitOr a (bitOr b c)) ≡ (within n a && (within n b && within n c))
 within-three n a b c = within-or n a (bitOr b c) ∙ ap (λ (x : Bool). within n a && x) (within-or n b c)
 
--- the test of a program: a word is a mask of n members exactly if the largest is not below it
+-- the largest mask of few members, and of so many that every word is one
 pub largest-few : (n : ℕ) → n < 32 → largestMask n ≡ 2 ^ n - 1
 unfolding largestMask
 largest-few n l = cond-true _ _ (lt-ltb n 32 l)
@@ -209,6 +209,7 @@ pub largest-wide : (n : ℕ) → 32 ≤ n → largestMask n ≡ 2 ^ 32 - 1
 unfolding largestMask
 largest-wide n l = cond-false _ _ (le-ltb n 32 l)
 
+-- the test of a program: a word is a mask of n members exactly if the largest is not below it
 pub within-largest : (n m : ℕ) → m < 2 ^ 32 → leb m (largestMask n) ≡ within n m
 unfolding within
 within-largest n m h = ⊎-elim (λ e. few (ltb-true n 32 e)) (λ e. wide (ltb-false n 32 e)) (which (ltb n 32))

@@ -28,7 +28,7 @@ fn strong_held(state: &[u32], round: u32, strong: u32) -> bool
     strong & mask_of(state, HELD, round - 1) == strong
 }
 
-// The weak ids that are used are held. The loop ends at a known number of slots, so that it costs no more than its tests.
+// The weak ids that are used are held. The number of slots bounds the loop, so that a compiler can write out its turns.
 fn weak_held(state: &[u32], body: &[u32]) -> bool
     requires { ⌜ WeakIn (now state) (now body) ⌝ }
     ensures { λ r. ⌜ r ≡ all (weakCountOf (now (body .entry))) (λ i. heldId (now (state .entry)) (weakOf (now (body .entry)) i)) ⌝ }

@@ -120,7 +120,7 @@ pub quiet-then : {l m o : List ℕ} → Quiet l m → Quiet m o → Quiet l o
 quiet-then a b =
     record { alike = alike-then (a .alike) (b .alike); ordered = λ r x y. b .ordered r x y ∙ a .ordered r x y; journal = b .journal ∙ a .journal }
 
--- a word of the head but the journal's count, or one from 200 on
+-- a word of the head but the journal's count, or one from the leader list on
 pub quiet-head : (l : List ℕ) (j x : ℕ) → 0 < j → j < journalCountAt → Quiet l (set l j x)
 quiet-head l j x a b = record {
   alike = alike-set l j x (loose-head j a (omega arith));

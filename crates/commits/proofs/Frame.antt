@@ -13,7 +13,7 @@ use Rattle.record.proofs.Booleans.{which, and-cong}
 use Rattle.record.proofs.Rounds.{round-range}
 use Rattle.protocol.proofs.Laws.{records-ext}
 use Rattle.record.specs.Layout.{bodySize}
-use Rattle.replica.specs.Layout.{headSize, journalCountAt, timeoutsKind, memberCountAt}
+use Rattle.replica.specs.Layout.{headSize, journalCountAt, heldKind, heardKind, votesKind, timeoutsKind, memberCountAt}
 use Rattle.replica.specs.Layout.{masksAt, cellAt, orderedAt, leadersAt, journalAt, journalSize, cellsAt}
 use Rattle.replica.specs.State.{memberCount, journalCount, heldMask, heardMask, votesMask, orderedMask, vertices, addMember}
 use Rattle.replica.specs.State.{firsts}
@@ -71,13 +71,13 @@ module _ {l m : List ℕ} (A : Alike l m) where
       (λ i b. getD-drop k m i 0 ∙ A .cells (k + i) (omega arith) ∙ sym (getD-drop k l i 0))
 
   held-same : (r : ℕ) → isRound r ≡ true → heldMask m r ≡ heldMask l r
-  held-same r e = let h = round-range r e in A .masks r 0 (h .0) (h .1) (omega arith)
+  held-same r e = let h = round-range r e in A .masks r heldKind (h .0) (h .1) (omega arith)
 
   heard-same : (r : ℕ) → isRound r ≡ true → heardMask m r ≡ heardMask l r
-  heard-same r e = let h = round-range r e in A .masks r 1 (h .0) (h .1) (omega arith)
+  heard-same r e = let h = round-range r e in A .masks r heardKind (h .0) (h .1) (omega arith)
 
   votes-same : (r : ℕ) → isRound r ≡ true → votesMask m r ≡ votesMask l r
-  votes-same r e = let h = round-range r e in A .masks r 2 (h .0) (h .1) (omega arith)
+  votes-same r e = let h = round-range r e in A .masks r votesKind (h .0) (h .1) (omega arith)
 
   vertex-same : (r p : ℕ) → vertices m r p ≡ vertices l r p
   unfolding vertices
@@ -107,9 +107,9 @@ module _ {l m : List ℕ} (A : Alike l m) where
     high = rw (A .members) (S .high);
     valid = rw (A .members, vertices-same) (S .valid);
     words = λ r p i a b h k. ap (λ (x : List ℕ). getD x i 0) (vertex-same r p) ∙ S .words r p i a b h k ∙ sym (A .cells (cellAt r p + i) (omega arith));
-    held-low = λ r a b. rw (A .masks r 0 a b (omega arith), A .members) (S .held-low r a b);
-    votes-low = λ r a b. rw (A .masks r 2 a b (omega arith), A .members) (S .votes-low r a b);
-    votes-heard = λ r p a b h. rw (A .masks r 1 a b (omega arith)) (S .votes-heard r p a b (rw (A .masks r 2 a b (omega arith)) at h));
+    held-low = λ r a b. rw (A .masks r heldKind a b (omega arith), A .members) (S .held-low r a b);
+    votes-low = λ r a b. rw (A .masks r votesKind a b (omega arith), A .members) (S .votes-low r a b);
+    votes-heard = λ r p a b h. rw (A .masks r heardKind a b (omega arith)) (S .votes-heard r p a b (rw (A .masks r votesKind a b (omega arith)) at h));
   }
 
 -- ---- one leader, one id

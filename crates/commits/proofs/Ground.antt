@@ -57,7 +57,7 @@ count-from t low (suc k) f h = go (eq-or-lt-of-le h) (λ m. count-from t low k f
     go (inl e) ih = omega (arith, none (suc k) (omega arith))
     go (inr m) ih = ⊎-elim (λ e. rw e (omega (arith, ih (omega arith)))) (λ e. rw e (omega (arith, ih (omega arith)))) (which (t k))
 
--- no more than 512 ids are ever ordered
+-- no more ids are ever ordered than the journal has words
 pub room-limit : (l : List ℕ) → count idLimit (orderedId l) ≤ journalSize
 room-limit l = omega (arith, count-from (orderedId l) slots idLimit (λ y k. ⊎-elim (λ e. absurd (low y k e)) (λ e. e) (which (orderedId l y))) (omega arith))
   where

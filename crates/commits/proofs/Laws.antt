@@ -78,7 +78,7 @@ pub record Cell (l : List ℕ) (r p at : ℕ) : Type 0 where
 pub cell-known : (l : List ℕ) → Standing l → (r p at : ℕ) → 1 ≤ r → r ≤ rounds → p < slots → at ≡ cellAt r p → Cell l r p at
 unfolding strongOf weakCountOf weakOf
 cell-known l S r p at low high few e = rw e (record {
-  strong = sym (S .words r p 0 low high few (omega arith));
+  strong = sym (S .words r p strongPlace low high few (omega arith));
   weak-count = count-word;
   weak = λ i h.
       let k : i < weakCountOf (vertices l r p) = omega (arith, count-word) in

@@ -7,7 +7,7 @@ use native.Mathlib.Omega.{arith}
 use lib.ListN.{getD}
 use lib.Seq.{getD-drop}
 use Rattle.record.specs.Members.{leader, has, rounds}
-use Rattle.record.specs.Layout.{bodyOf, strongOf}
+use Rattle.record.specs.Layout.{bodyOf, strongOf, bodyPlace, strongPlace}
 use Rattle.record.proofs.Masks.{leader-small, has-zero}
 use Rattle.replica.specs.Layout.{masksAt, heardKind, votesKind}
 use Rattle.replica.specs.State.{memberCount, addMember}
@@ -37,6 +37,6 @@ module _ (l : List ℕ) (r p n strong : ℕ) (e : n ≡ memberCount l) (low : 1 
   }
 
 -- the body of a record is heard as its strong mask is
-pub hear-body : (l : List ℕ) (r p : ℕ) (rec : List ℕ) → hear l r p (getD rec 2 0 ∷ []) ≡ hear l r p (bodyOf rec)
+pub hear-body : (l : List ℕ) (r p : ℕ) (rec : List ℕ) → hear l r p (getD rec (bodyPlace + strongPlace) 0 ∷ []) ≡ hear l r p (bodyOf rec)
 unfolding hear strongOf
-hear-body l r p rec = rw (getD-drop 2 rec 0 0)
+hear-body l r p rec = rw (getD-drop bodyPlace rec strongPlace 0)

@@ -10,7 +10,7 @@ use lib.ListN.{length, take, drop, getD, length-drop}
 use lib.Seq.{take-all, getD-drop}
 use borrow.Author.Tests.{eqb-true}
 use Rattle.record.specs.Refusals.{numberOf, firstNo}
-use Rattle.record.specs.Layout.{roundOf, sourceOf, bodyOf, strongOf, recordSize, bodySize, bodyPlace}
+use Rattle.record.specs.Layout.{roundOf, sourceOf, bodyOf, strongOf, recordSize, bodySize, bodyPlace, strongPlace}
 use Rattle.record.specs.Questions.{bodyRefusal}
 use Rattle.record.specs.Admitted.{Admitted}
 use Rattle.record.specs.declared.refusal.Refusal.{Refusal}
@@ -128,9 +128,9 @@ pub record FirstTaken (l rec : List ℕ) : Type 0 where
   pub formed : WellFormed l
   pub admit : Admitted (memberCount l) (roundOf rec) (sourceOf rec) (bodyOf rec)
   pub long : length rec ≡ recordSize
-  pub strong : roundOf rec ≡ 1 → getD rec 2 0 ≡ 0
-  pub heard : (m : List ℕ) → m ≡ hear l (roundOf rec) (sourceOf rec) (getD rec 2 0 ∷ []) → Ready (memberCount l) m
-  pub done : (m : List ℕ) (o : Outcome) → m ≡ hear l (roundOf rec) (sourceOf rec) (getD rec 2 0 ∷ []) → o ≡ admitted m (commitAll m)
+  pub strong : roundOf rec ≡ 1 → getD rec (bodyPlace + strongPlace) 0 ≡ 0
+  pub heard : (m : List ℕ) → m ≡ hear l (roundOf rec) (sourceOf rec) (getD rec (bodyPlace + strongPlace) 0 ∷ []) → Ready (memberCount l) m
+  pub done : (m : List ℕ) (o : Outcome) → m ≡ hear l (roundOf rec) (sourceOf rec) (getD rec (bodyPlace + strongPlace) 0 ∷ []) → o ≡ admitted m (commitAll m)
       → o ≡ takeFirstMessage l rec
 
 module _ (l rec : List ℕ) (why : Refusal) (e : why ≡ firstNo (firstQuestions l (roundOf rec) (sourceOf rec) (bodyOf rec))) where
@@ -156,7 +156,7 @@ module _ (l rec : List ℕ) (why : Refusal) (e : why ≡ firstNo (firstQuestions
       formed = first-passed .0;
       admit = first-passed .1;
       long = omega (arith, first-passed .1 .size, length-drop bodyPlace rec);
-      strong = λ z. sym (getD-drop 2 rec 0 0) ∙ first-passed .1 .strong-first z;
+      strong = λ z. sym (getD-drop bodyPlace rec strongPlace 0) ∙ first-passed .1 .strong-first z;
       heard = λ m d. rw (d, hear-body l (roundOf rec) (sourceOf rec) rec)
           (ready _ _ (formed-hear l (first-passed .0) (roundOf rec) (sourceOf rec) (bodyOf rec) (first-passed .1)) (calm-count calm-heard));
       done = λ m o d f. f ∙ rw (d, hear-body l (roundOf rec) (sourceOf rec) rec) first-done;

@@ -25,7 +25,7 @@ pub round-above : (r : ℕ) → rounds < r → isRound r ≡ false
 unfolding isRound
 round-above r h = and-fails-right (leb 1 r) (lt-leb r rounds h)
 
--- the ids are the numbers from 16 to 527
+-- the ids are the numbers from `slots` on that are below `idLimit`
 pub id-low : (x : ℕ) → x < slots → isRound (idRound x) ≡ false
 id-low x h = round-below (idRound x) (omega arith)
 

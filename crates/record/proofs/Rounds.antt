@@ -6,7 +6,7 @@ use native.Mathlib.Omega.{arith}
 use lib.Dec.{leb, ltb}
 use borrow.Author.Tests.{leb-true, le-leb, lt-leb, ltb-true, lt-ltb}
 use Rattle.record.specs.Members.{isRound, idRound, rounds, slots, idLimit, idMember, idOf}
-use Rattle.record.proofs.Booleans.{and-left, and-right, and-both, and-fails-left, and-fails-right, bool-ext}
+use Rattle.record.proofs.Booleans.{and-left, and-right, and-both, and-fails-left, bool-ext}
 
 -- exactly the numbers from 1 to 32 are rounds
 pub round-in : (r : ℕ) → 1 ≤ r → r ≤ rounds → isRound r ≡ true
@@ -17,13 +17,9 @@ pub round-range : (r : ℕ) → isRound r ≡ true → (1 ≤ r) × (r ≤ round
 unfolding isRound
 round-range r e = (leb-true _ _ (and-left (leb 1 r) _ e), leb-true _ _ (and-right (leb 1 r) _ e))
 
-pub round-below : (r : ℕ) → r < 1 → isRound r ≡ false
+round-below : (r : ℕ) → r < 1 → isRound r ≡ false
 unfolding isRound
 round-below r h = and-fails-left _ (lt-leb 1 r h)
-
-pub round-above : (r : ℕ) → rounds < r → isRound r ≡ false
-unfolding isRound
-round-above r h = and-fails-right (leb 1 r) (lt-leb r rounds h)
 
 -- the ids are the numbers from `slots` on that are below `idLimit`
 pub id-low : (x : ℕ) → x < slots → isRound (idRound x) ≡ false

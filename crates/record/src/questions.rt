@@ -158,7 +158,7 @@ fn weak_ids_ok(n: u32, round: u32, body: &[u32], count: usize) -> bool
     true
 }
 
-// The slots from so many on are 0. Their words are joined before they are tested, so that no word costs a branch.
+// The slots from so many on are 0. Their words are joined and tested once.
 fn slots_zero(body: &[u32], count: usize) -> bool
     requires { ⌜ length (now body) ≡ bodySize ⌝ }
     ensures { λ r. ⌜ r ≡ all weakSlots (λ i. ltb i count || eqb (weakOf (now (body .entry)) i) 0) ⌝ }

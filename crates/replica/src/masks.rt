@@ -6,9 +6,9 @@ ghost use Rattle.replica.specs.Layout.{stateSize, kinds};
 ghost use Rattle.replica.specs.State.{maskOf, addMember, markedId};
 ghost use Rattle.record.specs.Members.{rounds};
 use super::layout::MEMBER_COUNT;
+use super::layout::is_id;
 use super::layout::masks_at;
 use record::members::Members;
-use record::members::ROUNDS;
 use record::members::SLOTS;
 use record::members::has_bit;
 
@@ -26,14 +26,10 @@ pub fn is_marked(state: &[u32], kind: usize, x: u32) -> bool
     requires { ⌜ (length (now state) ≡ stateSize) × (kind < kinds) ⌝ }
     ensures { λ r. ⌜ r ≡ markedId (now (state .entry)) kind x ⌝ }
 {
-    let round = x / SLOTS;
-    if round < 1 {
+    if !is_id(x) {
         return false;
     }
-    if ROUNDS < round {
-        return false;
-    }
-    has_bit(mask_of(state, kind, round), x % SLOTS)
+    has_bit(mask_of(state, kind, x / SLOTS), x % SLOTS)
 }
 
 // Member p is added to the mask in the word.

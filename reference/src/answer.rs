@@ -1,5 +1,7 @@
 //! What calls answer: the number of the first question with "no", or 0.
 
+use crate::layout::RECORD_WORDS;
+
 /// The call was admitted.
 pub const ADMITTED: u32 = 0;
 /// The state has not its number of words.
@@ -12,7 +14,7 @@ pub const NOT_WELL_FORMED: u32 = 3;
 pub const RECORD_SIZE: u32 = 4;
 /// The round is not 1 to 32.
 pub const ROUND: u32 = 5;
-/// The source or signer is not below n.
+/// The source, signer or own member is not below n.
 pub const MEMBER: u32 = 6;
 /// A mask has a bit at n or above.
 pub const MASK_BITS: u32 = 7;
@@ -32,6 +34,12 @@ pub const CONFLICT: u32 = 13;
 pub const MISSING_PARENT: u32 = 14;
 /// The start of a list lies beyond its count.
 pub const LIST_START: u32 = 15;
+/// The state is a watcher's: it has no own member.
+pub const WATCHER: u32 = 16;
+/// Signing a no-vote is not allowed.
+pub const SIGNING: u32 = 17;
+/// Our record would have fewer strong parents than a quorum.
+pub const FEW_PARENTS: u32 = 18;
 
 /// The answer of a call that may change the state.
 #[derive(Clone, Copy, Debug, Default, PartialEq, Eq)]
@@ -62,6 +70,13 @@ impl Answer {
             ..Answer::default()
         }
     }
+}
+
+/// The answer of making our own vertex, and the record's words: all 0 if refused.
+#[derive(Clone, Copy, Debug, Default, PartialEq, Eq)]
+pub struct Proposal {
+    pub answer: Answer,
+    pub record: [u32; RECORD_WORDS],
 }
 
 /// The answer of the status call (01: the head): words 1 to 4 of the state, or zeros.

@@ -1,4 +1,4 @@
-//! A call as a value: what `sheetlog` reads, the simulation makes and the model is fed.
+//! A call as a value: what the simulation makes and the model is fed, and what `sheetlog` reads.
 
 use crate::answer::Answer;
 use crate::calls;
@@ -7,24 +7,30 @@ use crate::calls;
 /// number of words.
 #[derive(Clone, Debug, PartialEq, Eq)]
 pub enum Call {
-    Open(u32),
+    /// The member count, and the own member plus 1 or 0 for a watcher.
+    Open(u32, u32),
     Vertex(Vec<u32>),
     First(Vec<u32>),
     /// Round and signer.
     Timeout(u32, u32),
     /// Round and signer.
     NoVote(u32, u32),
+    /// Tag.
+    Propose(u32),
+    SignNoVote,
 }
 
 impl Call {
-    /// Makes the call on a state.
+    /// Makes the call on a state. Of making our own vertex this is the answer without the record.
     pub fn apply(&self, state: &mut [u32]) -> Answer {
         match self {
-            Call::Open(n) => calls::open(state, *n),
+            Call::Open(n, own) => calls::open(state, *n, *own),
             Call::Vertex(record) => calls::take_vertex(state, record),
             Call::First(record) => calls::take_first_message(state, record),
             Call::Timeout(round, signer) => calls::take_timeout(state, *round, *signer),
             Call::NoVote(round, signer) => calls::take_no_vote(state, *round, *signer),
+            Call::Propose(tag) => calls::propose(state, *tag).answer,
+            Call::SignNoVote => calls::sign_no_vote(state),
         }
     }
 }

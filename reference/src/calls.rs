@@ -2,24 +2,27 @@
 
 use std::ops::Range;
 
-use crate::answer::{self, Answer, Status};
+use crate::answer::{self, Answer, Proposal, Status};
 use crate::group::Group;
 use crate::layout::{JOURNAL, JOURNAL_COUNT, LEADER_COUNT, LEADER_LIST, STATE_WORDS};
 use crate::record::{first_refusal, is_round, Record};
 use crate::state::{status_words, well_formed_words, ReplicaState, RoundMasks};
 
-/// Opens a state for n members, whatever it held before. Asks 1 and 2.
-pub fn open(state: &mut [u32], n: u32) -> Answer {
+/// Opens a state for n members, whatever it held before. `own` is the own member plus 1, 0 for a
+/// watcher. Asks 1, 2 and 6.
+pub fn open(state: &mut [u32], n: u32, own: u32) -> Answer {
     if state.len() != STATE_WORDS {
         return Answer::refused(answer::STATE_SIZE);
     }
-    match Group::new(n) {
-        None => Answer::refused(answer::GROUP_SIZE),
-        Some(group) => {
-            write(state, &ReplicaState::opened(group));
-            Answer::default()
-        }
+    let Some(group) = Group::new(n) else {
+        return Answer::refused(answer::GROUP_SIZE);
+    };
+    let member = own.checked_sub(1);
+    if member.is_some_and(|member| member >= n) {
+        return Answer::refused(answer::MEMBER);
     }
+    write(state, &ReplicaState::opened(group, member));
+    Answer::default()
 }
 
 /// Takes a vertex that reliable broadcast has delivered. Asks 1 and 3 to 14.
@@ -74,6 +77,21 @@ pub fn take_no_vote(state: &mut [u32], round: u32, signer: u32) -> Answer {
     change(state, |next| {
         take_note(next.group, &mut next.no_votes, round, signer)
     })
+}
+
+/// Makes our own vertex for the current round (02: making). Asks 1, 3, 16, 5, 9, 10, 12 and 18.
+pub fn propose(state: &mut [u32], tag: u32) -> Proposal {
+    let mut proposal = Proposal::default();
+    proposal.answer = change(state, |next| {
+        proposal.record = next.make_record(tag).map_err(Answer::refused)?.words();
+        Ok(())
+    });
+    proposal
+}
+
+/// Signs our no-vote for the round before the current one. Asks 1, 3, 16, 17 and 12.
+pub fn sign_no_vote(state: &mut [u32]) -> Answer {
+    change(state, |next| next.sign_no_vote().map_err(Answer::refused))
 }
 
 /// Reads the status (01: the head). Asks 1 and 3.

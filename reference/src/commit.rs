@@ -60,7 +60,8 @@ impl ReplicaState {
         self.leader_list.extend(&taken);
         let mut ordered = self.ordered();
         for leader in taken {
-            let added: Vec<u32> = self.history(leader).difference(&ordered).copied().collect();
+            let history = self.history([leader]);
+            let added: Vec<u32> = history.difference(&ordered).copied().collect();
             ordered.extend(&added);
             self.journal.extend(added);
         }
@@ -77,18 +78,23 @@ impl ReplicaState {
         has(reached, member_of(to))
     }
 
-    /// A held vertex and all reached from it by strong and weak edges. Edges lead to lower rounds,
+    /// Held vertices and all reached from them by strong and weak edges. Edges lead to lower rounds,
     /// so when a vertex is looked at, from the highest id down, all edges to it have been seen.
-    fn history(&self, id: u32) -> BTreeSet<u32> {
-        let mut reached = vec![false; id as usize + 1];
-        reached[id as usize] = true;
-        for (&at, record) in self.vertices.range(..=id).rev() {
+    pub fn history(&self, ids: impl IntoIterator<Item = u32>) -> BTreeSet<u32> {
+        let mut reached = vec![false; vertex_id(LAST_ROUND + 1, 0) as usize];
+        for id in ids {
+            reached[id as usize] = true;
+        }
+        for (&at, record) in self.vertices.iter().rev() {
             if reached[at as usize] {
                 record
                     .parents()
                     .for_each(|parent| reached[parent as usize] = true);
             }
         }
-        (0..=id).filter(|&at| reached[at as usize]).collect()
+        (0..)
+            .zip(reached)
+            .filter_map(|(id, is_reached)| is_reached.then_some(id))
+            .collect()
     }
 }

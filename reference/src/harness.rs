@@ -1,10 +1,10 @@
 //! The commands of the test program `harness`, and the line that each call must print.
 //!
 //! The program's input is words of 32 bits, low byte first, three for a command: the operation
-//! and two arguments. A line has the operation, the numbers of the answer, and a checksum of all
-//! lent words.
+//! and two arguments. A line has the operation, the numbers of the answer (of making our own vertex
+//! also the words of the record), and a checksum of all lent words.
 
-use crate::answer::Answer;
+use crate::answer::{Answer, Proposal};
 use crate::call::Call;
 use crate::calls;
 
@@ -19,7 +19,8 @@ pub enum Command {
     Lend(u32),
     /// A word of these lent gets a value; no effect beyond them.
     Set(u32, u32),
-    Open(u32),
+    /// Member count and word 5.
+    Open(u32, u32),
     Status,
     AskLeaders(u32),
     AskJournal(u32),
@@ -35,6 +36,9 @@ pub enum Command {
     Record(u32),
     /// A word of the record gets a value; no effect beyond them.
     SetRecord(u32, u32),
+    /// Makes our own vertex with this tag.
+    Propose(u32),
+    SignNoVote,
 }
 
 impl Command {
@@ -44,7 +48,7 @@ impl Command {
             Command::End => [0, 0, 0],
             Command::Lend(count) => [1, count, 0],
             Command::Set(at, word) => [2, at, word],
-            Command::Open(n) => [3, n, 0],
+            Command::Open(n, own) => [3, n, own],
             Command::Status => [4, 0, 0],
             Command::AskLeaders(k) => [5, k, 0],
             Command::AskJournal(k) => [6, k, 0],
@@ -56,17 +60,21 @@ impl Command {
             Command::NoVote(round, signer) => [12, round, signer],
             Command::Record(count) => [13, count, 0],
             Command::SetRecord(at, word) => [14, at, word],
+            Command::Propose(tag) => [15, tag, 0],
+            Command::SignNoVote => [16, 0, 0],
         }
     }
 
     /// The commands that make a call: those for its record's words, and the call itself.
     pub fn of_call(call: &Call) -> Vec<Command> {
         match call {
-            Call::Open(n) => vec![Command::Open(*n)],
+            Call::Open(n, own) => vec![Command::Open(*n, *own)],
             Call::Vertex(record) => with_record(record, Command::Vertex),
             Call::First(record) => with_record(record, Command::First),
             Call::Timeout(round, signer) => vec![Command::Timeout(*round, *signer)],
             Call::NoVote(round, signer) => vec![Command::NoVote(*round, *signer)],
+            Call::Propose(tag) => vec![Command::Propose(*tag)],
+            Call::SignNoVote => vec![Command::SignNoVote],
         }
     }
 }
@@ -96,11 +104,13 @@ impl Harness {
             Command::Set(at, word) => set(state, at, word),
             Command::Record(count) => renew(&mut self.record, count.min(MOST_RECORD_WORDS)),
             Command::SetRecord(at, word) => set(&mut self.record, at, word),
-            Command::Open(n) => numbers(calls::open(state, n)),
+            Command::Open(n, own) => numbers(calls::open(state, n, own)),
             Command::Vertex => numbers(calls::take_vertex(state, &self.record)),
             Command::First => numbers(calls::take_first_message(state, &self.record)),
             Command::Timeout(round, signer) => numbers(calls::take_timeout(state, round, signer)),
             Command::NoVote(round, signer) => numbers(calls::take_no_vote(state, round, signer)),
+            Command::Propose(tag) => proposal_numbers(calls::propose(state, tag)),
+            Command::SignNoVote => numbers(calls::sign_no_vote(state)),
             Command::Status => status_numbers(state),
             Command::AskLeaders(k) => Some(vec![calls::ask_leaders(state, k)]),
             Command::AskJournal(k) => Some(vec![calls::ask_journal(state, k)]),
@@ -139,6 +149,13 @@ fn numbers(answer: Answer) -> Option<Vec<u32>> {
         answer.leaders,
         answer.journal,
     ])
+}
+
+/// The answer's numbers and the record's words.
+fn proposal_numbers(proposal: Proposal) -> Option<Vec<u32>> {
+    let mut line = numbers(proposal.answer)?;
+    line.extend(proposal.record);
+    Some(line)
 }
 
 fn status_numbers(state: &[u32]) -> Option<Vec<u32>> {

@@ -1,4 +1,4 @@
-//! Layout of the state and of a record, in words of 32 bits. Each number of 01 is named once.
+//! Layout of the state and of a record, in words of 32 bits. Each number of 01 and 02 is named once.
 
 use std::ops::Range;
 
@@ -25,8 +25,12 @@ pub const CURRENT_ROUND: usize = 1;
 pub const COMMITTED_ROUND: usize = 2;
 pub const LEADER_COUNT: usize = 3;
 pub const JOURNAL_COUNT: usize = 4;
-/// Words that are always 0.
-pub const RESERVED: Range<usize> = 5..8;
+/// The own member plus 1, 0 for a watcher.
+pub const OWN: usize = 5;
+/// The rounds for which a record was made, and those whose leader we signed a no-vote against: the
+/// bits of `round_bit`.
+pub const MADE_ROUNDS: usize = 6;
+pub const SIGNED_NO_VOTES: usize = 7;
 
 /// The masks of all rounds, and how many each round has.
 pub const MASKS: Range<usize> = 8..200;
@@ -49,6 +53,11 @@ pub const CELL_WORDS: usize = 10;
 /// Place of a mask of a round from 1 to 32.
 pub fn mask_place(round: u32, mask: usize) -> usize {
     MASKS.start + MASKS_PER_ROUND * (round as usize - 1) + mask
+}
+
+/// The bit of a round from 1 to 32 in a mask by round.
+pub fn round_bit(round: u32) -> u32 {
+    1 << (round - 1)
 }
 
 /// Words of the cell of a round from 1 to 32 and a member from 0 to 15.

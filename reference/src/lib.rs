@@ -1,8 +1,9 @@
 //! Ordering state of a Sailfish group: an independent second implementation.
 //!
-//! This crate was written from document 01 (`01-scope.md`) alone, without sight of the other
-//! implementation it is compared with. It favours clarity over speed: a call decodes the words of
-//! the state into maps and lists, computes the next state there, and encodes it back.
+//! This crate was written from documents 01 (`01-scope.md`) and 02 (`02-change-requests.md`)
+//! alone, without sight of the other implementation it is compared with. It favours clarity over
+//! speed: a call decodes the words of the state into maps and lists, computes the next state there,
+//! and encodes it back.
 //!
 //! Identifiers use the field's terms: state (01: sheet), vertex id (01: ref), well formed
 //! (01: sound), committable (01: ready), status (01: head), model (01: plain book).
@@ -19,6 +20,7 @@ pub mod harness;
 pub mod layout;
 pub mod line;
 pub mod model;
+mod own;
 pub mod record;
 pub mod rng;
 pub mod sheetlog;
@@ -27,11 +29,11 @@ mod state;
 pub mod vectors;
 pub mod well_formed;
 
-pub use answer::{Answer, Status};
+pub use answer::{Answer, Proposal, Status};
 pub use call::Call;
 pub use calls::{
-    ask_journal, ask_leaders, hand_journal, hand_leaders, open, status, take_first_message,
-    take_no_vote, take_timeout, take_vertex,
+    ask_journal, ask_leaders, hand_journal, hand_leaders, open, propose, sign_no_vote, status,
+    take_first_message, take_no_vote, take_timeout, take_vertex,
 };
 pub use layout::STATE_WORDS;
 pub use model::Model;

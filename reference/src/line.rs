@@ -8,25 +8,29 @@ use crate::layout::RECORD_WORDS;
 pub const LONGEST_LINE: usize = 1 + RECORD_WORDS * 11;
 
 impl Call {
-    /// The call as a line. A record of other than 12 words gives a line of another form.
+    /// The call as a line. A call that no line stands for gives a line of another form: a record
+    /// of other than 12 words, an opening for a member, making our vertex and signing our no-vote.
     pub fn line(&self) -> String {
         let (letter, words) = match self {
-            Call::Open(n) => ('O', vec![*n]),
+            Call::Open(n, 0) => ('O', vec![*n]),
+            Call::Open(n, own) => ('O', vec![*n, *own]),
             Call::Vertex(record) => ('V', record.clone()),
             Call::First(record) => ('F', record.clone()),
             Call::Timeout(round, signer) => ('T', vec![*round, *signer]),
             Call::NoVote(round, signer) => ('N', vec![*round, *signer]),
+            Call::Propose(tag) => ('P', vec![*tag]),
+            Call::SignNoVote => ('S', vec![]),
         };
         spaced(letter, &words)
     }
 
-    /// The call that a line stands for, if it is of the right form.
+    /// The call that a line stands for, if it is of the right form. Openings are for a watcher.
     pub fn parse(line: &[u8]) -> Option<Call> {
         let mut parts = line.split(|&byte| byte == b' ');
         let letter = parts.next()?;
         let words: Vec<u32> = parts.map(decimal).collect::<Option<_>>()?;
         match (letter, words.as_slice()) {
-            (b"O", &[n]) => Some(Call::Open(n)),
+            (b"O", &[n]) => Some(Call::Open(n, 0)),
             (b"V", record) if record.len() == RECORD_WORDS => Some(Call::Vertex(words)),
             (b"F", record) if record.len() == RECORD_WORDS => Some(Call::First(words)),
             (b"T", &[round, signer]) => Some(Call::Timeout(round, signer)),

@@ -31,7 +31,7 @@ impl Model {
             return;
         }
         match call {
-            Call::Open(n) => {
+            Call::Open(n, _) => {
                 *self = Model {
                     group: Group::new(*n),
                     ..Model::default()
@@ -39,7 +39,7 @@ impl Model {
             }
             Call::Vertex(words) => keep(&mut self.vertices, words),
             Call::First(words) => keep(&mut self.first_messages, words),
-            Call::Timeout(..) | Call::NoVote(..) => {}
+            Call::Timeout(..) | Call::NoVote(..) | Call::Propose(_) | Call::SignNoVote => {}
         }
     }
 

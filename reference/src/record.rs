@@ -75,6 +75,15 @@ impl Record {
         vertex_id(self.round, self.source)
     }
 
+    /// The record with these weak ids; those that it has no room for are left out.
+    pub fn with_weak(mut self, ids: &[u32]) -> Record {
+        let ids = &ids[..ids.len().min(WEAK_SLOTS)];
+        self.weak = [0; WEAK_SLOTS];
+        self.weak[..ids.len()].copy_from_slice(ids);
+        self.weak_count = ids.len() as u32;
+        self
+    }
+
     /// The weak ids in use, and those not in use.
     fn weak_parts(&self) -> (&[u32], &[u32]) {
         self.weak

@@ -15,6 +15,12 @@ pub struct ReplicaState {
     pub group: Group,
     pub current_round: u32,
     pub committed_round: u32,
+    /// Our member; none for a watcher.
+    pub own: Option<u32>,
+    /// The rounds for which we made a record.
+    pub made_rounds: BTreeSet<u32>,
+    /// The rounds whose leader we signed a no-vote against.
+    pub signed_no_votes: BTreeSet<u32>,
     pub heard: RoundMasks,
     pub votes: RoundMasks,
     pub timeouts: RoundMasks,
@@ -63,12 +69,15 @@ impl RoundMasks {
 }
 
 impl ReplicaState {
-    /// The state that opening leaves.
-    pub fn opened(group: Group) -> ReplicaState {
+    /// The state that opening leaves, for a member or a watcher.
+    pub fn opened(group: Group, own: Option<u32>) -> ReplicaState {
         ReplicaState {
             group,
             current_round: 1,
             committed_round: 0,
+            own,
+            made_rounds: BTreeSet::new(),
+            signed_no_votes: BTreeSet::new(),
             heard: RoundMasks::default(),
             votes: RoundMasks::default(),
             timeouts: RoundMasks::default(),
@@ -93,6 +102,9 @@ impl ReplicaState {
         Ok(ReplicaState {
             current_round: state[CURRENT_ROUND],
             committed_round: state[COMMITTED_ROUND],
+            own: state[OWN].checked_sub(1),
+            made_rounds: rounds_of(state[MADE_ROUNDS]),
+            signed_no_votes: rounds_of(state[SIGNED_NO_VOTES]),
             heard: RoundMasks::decode(state, HEARD),
             votes: RoundMasks::decode(state, VOTES),
             timeouts: RoundMasks::decode(state, TIMEOUTS),
@@ -112,6 +124,9 @@ impl ReplicaState {
         state[COMMITTED_ROUND] = self.committed_round;
         state[LEADER_COUNT] = self.leader_list.len() as u32;
         state[JOURNAL_COUNT] = self.journal.len() as u32;
+        state[OWN] = self.own.map_or(0, |member| member + 1);
+        state[MADE_ROUNDS] = mask_of(&self.made_rounds);
+        state[SIGNED_NO_VOTES] = mask_of(&self.signed_no_votes);
         self.held().encode(&mut state, HELD);
         self.heard.encode(&mut state, HEARD);
         self.votes.encode(&mut state, VOTES);
@@ -142,6 +157,17 @@ impl ReplicaState {
     pub fn ordered(&self) -> BTreeSet<u32> {
         self.journal.iter().copied().collect()
     }
+}
+
+/// The rounds of a mask by round.
+fn rounds_of(mask: u32) -> BTreeSet<u32> {
+    (1..=LAST_ROUND)
+        .filter(|&round| mask & round_bit(round) != 0)
+        .collect()
+}
+
+fn mask_of(rounds: &BTreeSet<u32>) -> u32 {
+    rounds.iter().map(|&round| round_bit(round)).sum()
 }
 
 fn decode_vertices(state: &[u32]) -> BTreeMap<u32, Record> {

@@ -1,4 +1,5 @@
-//! Whether a state is well formed (01: sound), clause by clause in the paper's order.
+//! Whether a state is well formed (01: sound), clause by clause in the order of 01,
+//! whose words 5 to 7 are as 02's request A1 has them.
 //!
 //! Readings chosen where the text is open:
 //! - a state of another length than 5,864 words is not well formed;
@@ -25,13 +26,21 @@ pub fn is_well_formed(state: &[u32]) -> bool {
     };
     (1..=LAST_CURRENT_ROUND).contains(&words[CURRENT_ROUND])
         && words[COMMITTED_ROUND] <= LAST_COMMITTABLE_ROUND
-        && words[RESERVED].iter().all(|&word| word == 0)
+        && own_words_fit(words, group)
         && words[MASKS].iter().all(|&mask| group.contains(mask))
         && votes_are_heard(words)
         && ordered_are_held(words)
         && cells_fit(words, group)
         && leader_list_fits(words, group)
         && journal_fits(words)
+}
+
+/// Word 5 is at most n; words 6 and 7 are any, and both 0 for a watcher.
+fn own_words_fit(words: &Words, group: Group) -> bool {
+    match words[OWN] {
+        0 => words[MADE_ROUNDS] == 0 && words[SIGNED_NO_VOTES] == 0,
+        own => own <= group.n(),
+    }
 }
 
 fn rounds() -> impl Iterator<Item = u32> {

@@ -101,7 +101,7 @@ fn calls_before_an_opening() {
     assert_eq!(answers(input), expected);
 }
 
-const OTHER_FORMS: [&[u8]; 34] = [
+const OTHER_FORMS: [&[u8]; 37] = [
     b"",
     b" ",
     b"O",
@@ -136,6 +136,9 @@ const OTHER_FORMS: [&[u8]; 34] = [
     b"X 1",
     b"\xff\xfe",
     b"? 1 0",
+    b"O 7 1",
+    b"P 1",
+    b"S",
 ];
 
 #[test]
@@ -203,7 +206,11 @@ fn lines_cut_at_the_longest_call() {
 #[test]
 fn simulated_runs_as_lines() {
     for n in [4, 16] {
-        for calls in simulate(5, n, &Options::wild()).replicas {
+        let watchers = Options {
+            members: 0,
+            ..Options::wild()
+        };
+        for calls in simulate(5, n, &watchers).replicas {
             let mut state = vec![0; STATE_WORDS];
             let mut expected = Vec::new();
             for call in &calls {

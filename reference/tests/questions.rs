@@ -1,4 +1,4 @@
-//! Every number that each call can answer, their order, and the state after a refusal.
+//! Every number that each call of 01 can answer, their order, and the state after a refusal.
 
 mod common;
 
@@ -126,12 +126,15 @@ fn sizes_come_first() {
     for length in [0, 1, STATE_WORDS - 1, STATE_WORDS + 1] {
         let state = vec![4; length];
         for call in [
-            Call::Open(4),
-            Call::Open(5),
+            Call::Open(4, 0),
+            Call::Open(5, 0),
+            Call::Open(4, 5),
             v(bad),
             f(bad),
             Call::Timeout(0, 9),
             Call::NoVote(0, 9),
+            Call::Propose(0),
+            Call::SignNoVote,
         ] {
             expect(&state, call, 1);
         }
@@ -158,11 +161,13 @@ fn state_comes_before_record() {
         Call::First(vec![]),
         Call::Timeout(0, 9),
         Call::NoVote(0, 9),
+        Call::Propose(0),
+        Call::SignNoVote,
     ] {
         expect(&zero, call, 3);
     }
-    expect(&zero, Call::Open(5), 2);
-    expect(&zero, Call::Open(7), 0);
+    expect(&zero, Call::Open(5, 0), 2);
+    expect(&zero, Call::Open(7, 0), 0);
 }
 
 #[test]
@@ -181,12 +186,8 @@ fn openings() {
         } else {
             2
         };
-        expect(&rich_state(), Call::Open(n), number);
+        expect(&rich_state(), Call::Open(n, 0), number);
     }
-    let mut again = rich_state();
-    assert_eq!(open(&mut again, 7), Answer::default());
-    let expected: State = [7, 1].into_iter().chain([0; STATE_WORDS - 2]).collect();
-    assert_eq!(again, expected);
 }
 
 #[test]

@@ -3,7 +3,7 @@
 use std::collections::{BTreeMap, BTreeSet};
 
 use reference::harness::{Command, Harness};
-use reference::simulate::{simulate, Options};
+use reference::simulate::{simulate, simulate_proposing, Options};
 use reference::vectors::commands;
 use reference::STATE_WORDS;
 
@@ -26,7 +26,7 @@ fn every_number_of_every_call_is_seen() {
     let notes = [0, 1, 3, 5, 6, 12];
     let lists = [0, 1, 3, 15];
     for (operation, numbers) in [
-        (3, &[0, 1, 2][..]),
+        (3, &[0, 1, 2, 6][..]),
         (4, &[0, 1, 3]),
         (5, &lists),
         (6, &lists),
@@ -34,6 +34,8 @@ fn every_number_of_every_call_is_seen() {
         (10, &[0, 1, 3, 4, 5, 6, 7, 8, 9, 10, 11, 12]),
         (11, &notes),
         (12, &notes),
+        (15, &[0, 1, 3, 5, 9, 10, 12, 16, 18]),
+        (16, &[0, 1, 3, 12, 16, 17]),
     ] {
         let numbers = numbers.iter().copied().collect();
         assert_eq!(seen[&operation], numbers, "operation {operation}");
@@ -58,7 +60,11 @@ fn the_commands_are_the_same_every_time() {
 
 #[test]
 fn a_call_s_commands_make_it() {
-    let calls = simulate(1, 4, &Options::rough()).replicas.remove(0);
+    let mut runs = [
+        simulate(1, 4, &Options::rough()),
+        simulate_proposing(1, 4, &Options::typical()),
+    ];
+    let calls = runs.each_mut().map(|run| run.replicas.remove(0)).concat();
     let mut harness = Harness::default();
     let mut state = vec![0; STATE_WORDS];
     assert_eq!(harness.perform(Command::Lend(STATE_WORDS as u32)), None);
@@ -82,5 +88,5 @@ fn checksum_stands_for_every_word() {
     assert_eq!(line(Command::Set(2, 5)), None);
     assert_eq!(line(Command::Set(3, 5)), None);
     let sum = 7 * 31 * 31 + 5;
-    assert_eq!(line(Command::Open(4)), Some(vec![3, 1, 0, 0, 0, sum]));
+    assert_eq!(line(Command::Open(4, 0)), Some(vec![3, 1, 0, 0, 0, sum]));
 }

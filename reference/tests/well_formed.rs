@@ -17,6 +17,8 @@ fn breaks(state: &State, changes: &[(usize, u32)]) {
         Call::First(record),
         Call::Timeout(1, 0),
         Call::NoVote(1, 0),
+        Call::Propose(0),
+        Call::SignNoVote,
     ] {
         assert_eq!(
             call.apply(&mut damaged),
@@ -85,8 +87,28 @@ fn head_words() {
     for round in [0, 1, 3, 32, u32::MAX] {
         breaks(&state, &[(2, round)]);
     }
-    for at in 5..8 {
-        breaks(&state, &[(at, 1)]);
+}
+
+#[test]
+fn own_words() {
+    let state = rich_state();
+    for own in 0..=4 {
+        keeps(&state, &[(5, own)]);
+    }
+    for own in [5, 6, 17, 1 << 31, u32::MAX] {
+        breaks(&state, &[(5, own)]);
+    }
+    for marks in [1, 2, 1 << 31, u32::MAX] {
+        breaks(&state, &[(6, marks)]);
+        breaks(&state, &[(7, marks)]);
+        keeps(&state, &[(5, 1), (6, marks)]);
+        keeps(&state, &[(5, 4), (7, marks)]);
+        keeps(&state, &[(5, 2), (6, marks), (7, u32::MAX)]);
+        breaks(&state, &[(5, 5), (6, marks), (7, marks)]);
+    }
+    for n in [4, 7, 10, 13, 16] {
+        keeps(&opened(n), &[(5, n), (6, u32::MAX), (7, u32::MAX)]);
+        breaks(&opened(n), &[(5, n + 1)]);
     }
 }
 

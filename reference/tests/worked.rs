@@ -16,7 +16,7 @@ fn committed(state: &State) -> u32 {
 fn open_with_legal_and_illegal_sizes() {
     for (n, number) in [(4, 0), (16, 0), (5, 2), (19, 2)] {
         assert_eq!(
-            open(&mut vec![0; STATE_WORDS], n),
+            open(&mut vec![0; STATE_WORDS], n, 0),
             Answer {
                 number,
                 ..Answer::default()

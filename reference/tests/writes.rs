@@ -5,14 +5,6 @@ mod common;
 use common::*;
 use reference::*;
 
-/// The words that differ, with their new values.
-fn changes(before: &State, after: &State) -> Vec<(usize, u32)> {
-    (0..STATE_WORDS)
-        .filter(|&at| before[at] != after[at])
-        .map(|at| (at, after[at]))
-        .collect()
-}
-
 /// Makes an admitted call and returns the words it changed.
 fn changed_by(state: &mut State, call: Call) -> Vec<(usize, u32)> {
     let before = state.clone();

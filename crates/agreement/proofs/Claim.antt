@@ -14,8 +14,8 @@ use Rattle.record.proofs.Booleans.{and-left, and-right}
 use Rattle.protocol.specs.Dag.{recordsOf, present, votes, committed}
 use Rattle.protocol.proofs.Commit.{committed-cong}
 use Rattle.protocol.proofs.Agreement.{agreement}
-use Rattle.replica.specs.Layout.{masksAt, timeoutsKind, noVotesKind, orderedKind}
-use Rattle.replica.specs.State.{committedRound, leaderList, journalList, vertices, firsts, dag, addMember}
+use Rattle.replica.specs.Layout.{committedRoundAt, madeAt, masksAt, timeoutsKind, noVotesKind, orderedKind}
+use Rattle.replica.specs.State.{currentRound, committedRound, leaderList, journalList, vertices, firsts, dag, addMember}
 use Rattle.replica.specs.Outcome.{outcome}
 use Rattle.replica.specs.Opening.{opened, openState}
 use Rattle.replica.proofs.Formed.{well-formed}
@@ -27,16 +27,21 @@ use Rattle.ordering.specs.Calls.{putVertex, hear, vertexQuestions, firstQuestio
 use Rattle.commits.proofs.Steps.{not-led}
 use Rattle.ordering.proofs.Marks.{formed-raise}
 use Rattle.ordering.proofs.Kept.{formed-noted}
-use Rattle.agreement.specs.Call.{Call, opening, vertex, firstMessage, timeout, noVote, status, askLeaderList, askJournalList, handLeaderList}
-use Rattle.agreement.specs.Call.{handJournalList, outcomeOf, run, allowed, allAllowed}
+use Rattle.ordering.proofs.Turns.{outcome-words, note-passed}
+use Rattle.ordering.proofs.Writing.{raise-calm, raise-alike, note-calm, note-alike}
+use Rattle.proposing.specs.Own.{markRound}
+use Rattle.proposing.specs.Making.{proposeRefusal, proposeVertex}
+use Rattle.proposing.specs.Signing.{signingRound, signRefusal, putOwnNoVote, signNoVote}
+use Rattle.proposing.proofs.Kept.{mark-calm, mark-alike, signed-calm, signed-alike, signing-passed, signing-round, formed-making, formed-signing}
+use Rattle.runs.specs.Call.{Call, opening, vertex, firstMessage, timeout, noVote, status, askLeaderList, askJournalList, handLeaderList}
+use Rattle.runs.specs.Call.{handJournalList, making, signing, outcomeOf, run, allowed, allAllowed}
+use Rattle.runs.proofs.Asked.{number-yes, words-yes, number-no, words-no, decided, open-yes, open-no}
 use Rattle.agreement.specs.Model.{Model, empty, admit, follow, modelOf, dagOf}
 use Rattle.agreement.specs.Claim.{Premises, Matches, Agreed, AgreementClaim}
 use Rattle.agreement.proofs.Records.{records-none}
 use Rattle.agreement.proofs.Family.{Inside, inside-self, inside-then, Either, either-before, Part, partDag, family}
 use Rattle.agreement.proofs.Tracking.{at-open, at-leaders, at-journal}
-use Rattle.ordering.proofs.Turns.{note-passed}
-use Rattle.agreement.proofs.Asked.{number-yes, words-yes, number-no, words-no, decided, open-yes, open-no, hand-leaders, hand-journal}
-use Rattle.ordering.proofs.Writing.{raise-calm, raise-alike, note-calm, note-alike}
+use Rattle.agreement.proofs.Handing.{hand-leaders, hand-journal}
 use Rattle.agreement.proofs.Following.{Follows, alike, at-cast, formed, follows-alike, vertex-follows, first-follows}
 
 -- ---- refused records
@@ -59,7 +64,7 @@ admit-more (vertex rec) zero m = record { members = refl; vertices = λ x h. Lis
 admit-more (vertex rec) (suc number) m = inside-self m
 admit-more (firstMessage rec) zero m = record { members = refl; vertices = λ x h. h; firsts = λ x h. List·Memᴰ·tail h }
 admit-more (firstMessage rec) (suc number) m = inside-self m
-admit-more (opening n) number m = inside-self m
+admit-more (opening n own) number m = inside-self m
 admit-more (timeout r p) number m = inside-self m
 admit-more (noVote r p) number m = inside-self m
 admit-more status number m = inside-self m
@@ -67,6 +72,8 @@ admit-more (askLeaderList k) number m = inside-self m
 admit-more (askJournalList k) number m = inside-self m
 admit-more (handLeaderList k) number m = inside-self m
 admit-more (handJournalList k) number m = inside-self m
+admit-more (making tag) number m = inside-self m
+admit-more signing number m = inside-self m
 
 -- by a list of calls
 pub follow-more : (calls : List Call) (m : Model) (l : List ℕ) → Inside m (follow m l calls)
@@ -78,21 +85,22 @@ follow-more (c ∷ calls) m l = inside-then (admit-more c (outcomeOf c l .number
 -- ---- a state just opened
 
 -- it follows the empty model
-pub opened-follows : (n : ℕ) → legal n ≡ true → Follows n (opened n) (empty n)
-opened-follows n g =
-    let S = opened-formed n g in
-    let same : (r p : ℕ) → vertices (opened n) r p ≡ recordsOf [] r p = λ r p. opened-vertices n r p ∙ sym (records-none r p) in
-    let none : (r p : ℕ) → firsts (opened n) r p ≡ recordsOf [] r p = λ r p. opened-firsts n r p ∙ sym (records-none r p) in
+pub opened-follows : (n own : ℕ) → legal n ≡ true → own ≤ n → Follows n (opened n own) (empty n)
+opened-follows n own g few =
+    let S = opened-formed n own g few in
+    let same : (r p : ℕ) → vertices (opened n own) r p ≡ recordsOf [] r p = λ r p. opened-vertices n own r p ∙ sym (records-none r p) in
+    let none : (r p : ℕ) → firsts (opened n own) r p ≡ recordsOf [] r p = λ r p. opened-firsts n own r p ∙ sym (records-none r p) in
     record {
       holds = record {
         formed = S;
-        members = opened-members n;
+        members = opened-members n own;
         vertex = same;
         first = λ r p. ap present (none r p);
         vote = λ r p. ap (votes n (r - 1)) (none r p);
-        lists = at-cast (opened-word n 2 (omega arith)) (opened-leaders n) (opened-journal n) (at-open n (dagOf (empty n)));
+        lists = at-cast (opened-word n own committedRoundAt (omega arith) (λ e. omega arith)) (opened-leaders n own) (opened-journal n own)
+            (at-open n (dagOf (empty n)));
       };
-      over = λ q x y. sym (not-led n (dag (opened n)) q (ap present (opened-vertices n q (leader n q))));
+      over = λ q x y. sym (not-led n (dag (opened n own)) q (ap present (opened-vertices n own q (leader n q))));
     }
 
 -- ---- a call, and all calls
@@ -110,15 +118,27 @@ module _ (n : ℕ) (a b : Model) (honest : ℕ → Bool) (g : legal n ≡ true) 
   raise-follows : (l : List ℕ) (m : Model) → Follows n l m → Follows n (raiseRound l) m
   raise-follows l m f = follows-alike n l (raiseRound l) m (raise-calm l) (formed-raise l (f .holds .formed)) (raise-alike l) f
 
+  -- a record that was made
+  making-follows : (l : List ℕ) (m : Model) → Follows n l m → numberOf (proposeRefusal l) ≡ 0 → Follows n (markRound l madeAt (currentRound l)) m
+  making-follows l m f e = follows-alike n l (markRound l madeAt (currentRound l)) m (mark-calm l madeAt (currentRound l) (omega arith) (omega arith))
+      (formed-making l e) (mark-alike l madeAt (currentRound l) (omega arith) (omega arith)) f
+
+  -- a no-vote that was signed
+  signing-follows : (l : List ℕ) (m : Model) → Follows n l m → numberOf (signRefusal l) ≡ 0 → Follows n (putOwnNoVote l (signingRound l)) m
+  signing-follows l m f e =
+      let w = signing-round l (signing-passed l e) in
+      follows-alike n l (putOwnNoVote l (signingRound l)) m (signed-calm l (signingRound l) (w .0) (w .1)) (formed-signing l e)
+      (signed-alike l (signingRound l) (w .0) (w .1)) f
+
   -- the model does not change
   noted : (why : Refusal) (l after : List ℕ) (m : Model) → Follows n l m → (numberOf why ≡ 0 → Follows n after m) → Follows n (outcome why l after .words) m
-  noted why l after m f h = ⊎-elim (λ e. rw (words-yes why l after e) (h e)) (λ d. rw (words-no why l after d) f) (decided why)
+  noted why l after m f h = outcome-words (λ k. Follows n k m) why l after f h
 
   -- one call
   pub step : (c : Call) (l : List ℕ) (m : Model) → allowed c ≡ true → Follows n l m → Either a b m → Either a b (admit c (outcomeOf c l .number) m)
       → Follows n (outcomeOf c l .words) (admit c (outcomeOf c l .number) m)
-  unfolding takeBody takeFirstBody takeTimeout takeNoVote
-  step (opening k) l m ok f i j = rw (open-no l k (not-true _ ok)) f
+  unfolding takeBody takeFirstBody takeTimeout takeNoVote proposeVertex signNoVote
+  step (opening k own) l m ok f i j = rw (open-no l k own (not-true _ ok)) f
   step (vertex rec) l m ok f i j = go (decided why) j
     where
       why : Refusal
@@ -152,6 +172,8 @@ module _ (n : ℕ) (a b : Model) (honest : ℕ → Bool) (g : legal n ≡ true) 
   step (askJournalList k) l m ok f i j = f
   step (handLeaderList k) l m ok f i j = f
   step (handJournalList k) l m ok f i j = f
+  step (making tag) l m ok f i j = noted _ l _ m f (making-follows l m f)
+  step signing l m ok f i j = noted _ l _ m f (signing-follows l m f)
 
   -- where the model of all calls lies within a or b, so does every one on the way
   follows : (calls : List Call) (l : List ℕ) (m : Model) → allAllowed calls ≡ true → Follows n l m → Either a b (follow m l calls)
@@ -219,12 +241,14 @@ module _ (n : ℕ) (a b : Model) (honest : ℕ → Bool) (g : legal n ≡ true) 
 
 -- THE CLAIM
 pub agreement-claim : AgreementClaim
-agreement-claim n u w eu ew calls others ok fine honest P =
-    let g = open-yes u n eu .0 in
-    let l = openState u n .words in
-    let k = openState w n .words in
-    let f : Follows n l (empty n) = rw (open-yes u n eu .1) (opened-follows n g) in
-    let h : Follows n k (empty n) = rw (open-yes w n ew .1) (opened-follows n g) in
+agreement-claim n own other u w eu ew calls others ok fine honest P =
+    let a = open-yes u n own eu in
+    let b = open-yes w n other ew in
+    let g = a .0 in
+    let l = openState u n own .words in
+    let k = openState w n other .words in
+    let f : Follows n l (empty n) = rw (a .2) (opened-follows n own g (a .1)) in
+    let h : Follows n k (empty n) = rw (b .2) (opened-follows n other g (b .1)) in
     agreed n (modelOf n l calls) (modelOf n k others) honest g P (run l calls) (run k others)
     (follow-more calls (empty n) l .members) (follow-more others (empty n) k .members)
     (follows n (modelOf n l calls) (modelOf n k others) honest g P calls l (empty n) ok f (inl (inside-self _)))

@@ -5,9 +5,8 @@ use mathlib.Core.Logic.{⊎-elim}
 use mathlib.Core.List.{List, [], _∷_, _++_}
 use Prim.Native.Nat.{ℕ, _-_, _<_}
 use native.Mathlib.Omega.{arith}
-use lib.Dec.{eqb, ltb}
-use lib.ListN.{length}
-use borrow.Author.Tests.{eqb-true, eq-eqb, lt-ltb, not-true}
+use lib.Dec.{eqb, leb, ltb}
+use borrow.Author.Tests.{eqb-true, lt-ltb, not-true}
 use Rattle.record.specs.Below.{all}
 use Rattle.record.specs.Members.{legal, has, idRound, idMember, isRound, slots}
 use Rattle.record.specs.Refusals.{numberOf, Question, firstNo}
@@ -21,18 +20,16 @@ use Rattle.protocol.specs.Dag.{Records, recordsOf, present, held}
 use Rattle.replica.specs.State.{memberCount, heldMask, heardMask, vertices, firsts}
 use Rattle.replica.specs.Parents.{isParent, parentsHeld}
 use Rattle.replica.specs.Status.{stateQuestions}
-use Rattle.replica.proofs.Formed.{WellFormed, well-formed}
 use Rattle.replica.proofs.Dags.{held-vertex, held-id}
 use Rattle.replica.proofs.ParentLaws.{parent-cases, parents-intro, weak-five}
 use Rattle.record.proofs.Rounds.{round-in}
-use Rattle.replica.specs.Layout.{stateSize}
 use Rattle.ordering.specs.Calls.{sameBody, vertexQuestions, firstQuestions, takeBody, takeFirstBody}
-use Rattle.agreement.specs.Call.{Call, opening, vertex, firstMessage, timeout, noVote, status, askLeaderList, askJournalList, handLeaderList}
-use Rattle.agreement.specs.Call.{handJournalList, outcomeOf, allowed, allAllowed}
+use Rattle.runs.specs.Call.{Call, opening, vertex, firstMessage, timeout, noVote, status, askLeaderList, askJournalList, handLeaderList}
+use Rattle.runs.specs.Call.{handJournalList, making, signing, outcomeOf, allowed, allAllowed}
+use Rattle.runs.proofs.Asked.{number-yes, past-state}
 use Rattle.agreement.specs.Model.{Model, admit, follow}
 use Rattle.agreement.specs.Claim.{Premises}
 use Rattle.agreement.proofs.Family.{Inside, inside-self, inside-then, Either, either-before}
-use Rattle.agreement.proofs.Asked.{number-yes}
 use Rattle.agreement.proofs.Following.{Holds, Follows}
 use Rattle.agreement.proofs.Claim.{admit-more, step}
 
@@ -51,7 +48,7 @@ taken n m (vertex rec) =
     && (not (held (recordsOf (m .vertices)) (roundOf rec) (sourceOf rec)) && parentsIn (recordsOf (m .vertices)) (roundOf rec) (bodyOf rec))
 taken n m (firstMessage rec) =
     eqb (numberOf (bodyRefusal n (roundOf rec) (sourceOf rec) (bodyOf rec))) 0 && not (present (recordsOf (m .firsts) (roundOf rec) (sourceOf rec)))
-taken n m (opening k) = not (legal k)
+taken n m (opening k own) = not (legal k && leb own k)
 taken n m (timeout r p) = true
 taken n m (noVote r p) = true
 taken n m status = true
@@ -59,6 +56,8 @@ taken n m (askLeaderList k) = true
 taken n m (askJournalList k) = true
 taken n m (handLeaderList k) = true
 taken n m (handJournalList k) = true
+taken n m (making tag) = true
+taken n m signing = true
 
 -- so for each of a list, after those before it
 unfoldable pub allTaken : ℕ → Model → List Call → Bool
@@ -76,10 +75,6 @@ dry m (c ∷ calls) = dry (admit c 0 m) calls
 heard-there : (l : List ℕ) (r p : ℕ) → (isRound r && has (heardMask l r) p) ≡ true → present (firsts l r p) ≡ true
 unfolding firsts
 heard-there l r p e = ap present (cond-true _ _ e)
-
--- the questions of a formed state are passed over
-pub past-state : (l : List ℕ) (rest : List Question) → WellFormed l → firstNo rest ≡ firstNo (stateQuestions l ++ rest)
-past-state l rest S = next _ _ (eq-eqb (length l) stateSize (S .size)) (next _ _ (well-formed l S) refl)
 
 module _ (n : ℕ) (l : List ℕ) (m : Model) (h : Holds n l m) (r p : ℕ) (body : List ℕ) (ok : numberOf (bodyRefusal n r p body) ≡ 0) where
   -- the vertices
@@ -149,7 +144,7 @@ module _ (n : ℕ) (l : List ℕ) (m : Model) (h : Holds n l m) where
       let ok : numberOf (bodyRefusal n (roundOf rec) (sourceOf rec) (bodyOf rec)) ≡ 0 = eqb-true _ 0 (and-left _ _ e) in
       ap (λ (k : ℕ). admit (firstMessage rec) k m) (number-yes _ l _ (first-passes n l m h (roundOf rec) (sourceOf rec) (bodyOf rec) ok
       (not-true _ (and-right (eqb (numberOf (bodyRefusal n (roundOf rec) (sourceOf rec) (bodyOf rec))) 0) _ e))))
-  admit-taken (opening k) e = refl
+  admit-taken (opening k own) e = refl
   admit-taken (timeout r p) e = refl
   admit-taken (noVote r p) e = refl
   admit-taken status e = refl
@@ -157,13 +152,15 @@ module _ (n : ℕ) (l : List ℕ) (m : Model) (h : Holds n l m) where
   admit-taken (askJournalList k) e = refl
   admit-taken (handLeaderList k) e = refl
   admit-taken (handJournalList k) e = refl
+  admit-taken (making tag) e = refl
+  admit-taken signing e = refl
 
 -- such a call is no opening that succeeds
 taken-allowed : (n : ℕ) (m : Model) (c : Call) → taken n m c ≡ true → allowed c ≡ true
 unfolding taken
 taken-allowed n m (vertex rec) e = refl
 taken-allowed n m (firstMessage rec) e = refl
-taken-allowed n m (opening k) e = e
+taken-allowed n m (opening k own) e = e
 taken-allowed n m (timeout r p) e = refl
 taken-allowed n m (noVote r p) e = refl
 taken-allowed n m status e = refl
@@ -171,6 +168,8 @@ taken-allowed n m (askLeaderList k) e = refl
 taken-allowed n m (askJournalList k) e = refl
 taken-allowed n m (handLeaderList k) e = refl
 taken-allowed n m (handJournalList k) e = refl
+taken-allowed n m (making tag) e = refl
+taken-allowed n m signing e = refl
 
 -- so for a list
 pub all-allowed : (n : ℕ) (calls : List Call) (m : Model) → allTaken n m calls ≡ true → allAllowed calls ≡ true

@@ -33,12 +33,12 @@ use Rattle.commits.proofs.Frames.{lists-members}
 use Rattle.commits.proofs.Growing.{grown, commit-vertices, commit-firsts, commit-round, commit-leaders, commit-journal}
 use Rattle.ordering.proofs.Marks.{formed-raise, formed-put, formed-hear}
 use Rattle.ordering.proofs.Kept.{formed-commit, committable-round}
+use Rattle.runs.proofs.Asked.{vertex-yes, first-yes}
 use Rattle.agreement.specs.Model.{Model, dagOf}
 use Rattle.agreement.specs.Claim.{Premises}
 use Rattle.agreement.proofs.Records.{records-here, records-there, by-record, records-more}
 use Rattle.agreement.proofs.Family.{Either, Part, partDag, family}
 use Rattle.agreement.proofs.Tracking.{At, at-grow, at-commit}
-use Rattle.agreement.proofs.Asked.{vertex-yes, first-yes}
 use Rattle.ordering.proofs.Writing.{Calm, calm-members, calm-committed, calm-leaders, calm-journal, raise-calm, raise-alike, hear-calm, hear-vertices}
 use Rattle.ordering.proofs.Writing.{hear-other, hear-here, hear-vote, put-calm, put-firsts, put-here, put-other}
 

@@ -1,7 +1,7 @@
 pub mod Records
 pub mod Family
 pub mod Tracking
-pub mod Asked
+pub mod Handing
 pub mod Following
 pub mod Claim
 pub mod Dry

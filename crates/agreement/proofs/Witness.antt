@@ -4,6 +4,7 @@ use mathlib.Core.Bool.{Bool, true, false, not, _&&_}
 use mathlib.Core.Logic.{_⊎_, inl, inr, ⊎-elim}
 use mathlib.Core.List.{List, [], _∷_, _++_, Memᴰ·append-left, Memᴰ·append-right, List·Memᴰ·cases-cons, List·Memᴰ·not-nil}
 use Prim.Native.Nat.{ℕ, _-_}
+use native.Mathlib.Omega.{arith}
 use lib.Count.{ones}
 use lib.Dec.{eqb, lit≤}
 use borrow.Author.Tests.{eq-eqb, not-true}
@@ -21,15 +22,16 @@ use Rattle.protocol.specs.Witness.{early, late, vertexOf, firstOf, witnessDag, 
 use Rattle.protocol.proofs.Laws.{records-ext}
 use Rattle.protocol.proofs.Lists.{same, same-eq}
 use Rattle.protocol.proofs.Witness as protocol
+use Rattle.replica.specs.Layout.{watcher}
 use Rattle.replica.specs.Opening.{opened, openState}
 use Rattle.replica.proofs.Opened.{opened-size}
-use Rattle.agreement.specs.Call.{run}
+use Rattle.runs.specs.Call.{run}
+use Rattle.runs.proofs.Asked.{four, open-yes, open-taken}
 use Rattle.agreement.specs.Model.{Model, empty, dagOf}
 use Rattle.agreement.specs.Claim.{In, Twins, Vertex, First, Premises, Agreed}
 use Rattle.agreement.specs.Witness.{start, callsOf, modelFor, Witness}
 use Rattle.agreement.proofs.Records.{Found, find-in}
 use Rattle.agreement.proofs.Family.{inside-self}
-use Rattle.agreement.proofs.Asked.{open-yes, open-taken}
 use Rattle.agreement.proofs.Following.{Follows}
 use Rattle.agreement.proofs.Claim.{opened-follows, follow-more, agreement-claim}
 use Rattle.agreement.proofs.Dry.{parentsIn, taken, allTaken, dry, all-allowed, dry-follow}
@@ -179,18 +181,13 @@ made-premises = record {
 
 -- ---- the calls
 
--- four members
-four : legal 4 ≡ true
-unfolding legal
-four = refl
-
 -- a state is opened with 4
-opening-four : openState (opened 4) 4 .number ≡ 0
-opening-four = open-taken (opened 4) 4 (opened-size 4) four
+opening-four : openState (opened 4 watcher) 4 watcher .number ≡ 0
+opening-four = open-taken (opened 4 watcher) 4 watcher (opened-size 4 watcher) four (omega arith)
 
 -- it follows the empty model
 start-follows : Follows 4 start (empty 4)
-start-follows = rw (open-yes (opened 4) 4 opening-four .1) (opened-follows 4 four)
+start-follows = rw (open-yes (opened 4 watcher) 4 watcher opening-four .2) (opened-follows 4 watcher four (omega arith))
 
 -- the calls make these models
 model-made : (i : Bool) → modelFor i ≡ made i
@@ -214,7 +211,7 @@ counted : (i : Bool) → modelFor i .n ≡ 4
 counted i = follow-more (callsOf i) (empty 4) start .members
 
 agreed : Agreed (run start (callsOf true)) (run start (callsOf false)) (modelFor true) (modelFor false)
-agreed = agreement-claim 4 (opened 4) (opened 4) opening-four opening-four (callsOf true) (callsOf false)
+agreed = agreement-claim 4 watcher watcher (opened 4 watcher) (opened 4 watcher) opening-four opening-four (callsOf true) (callsOf false)
     (all-allowed 4 (callsOf true) (empty 4) (all-taken true)) (all-allowed 4 (callsOf false) (empty 4) (all-taken false)) honest premises
 
 -- The witness.

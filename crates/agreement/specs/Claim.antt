@@ -14,7 +14,7 @@ use Rattle.protocol.specs.Claims.{Prefix}
 use Rattle.replica.specs.Opening.{openState}
 use Rattle.replica.specs.Place.{wordsIn}
 use Rattle.replica.specs.Lists.{handLeaders, handJournal}
-use Rattle.agreement.specs.Call.{Call, run, allAllowed}
+use Rattle.runs.specs.Call.{Call, run, allAllowed}
 use Rattle.agreement.specs.Model.{Model, modelOf, dagOf}
 
 -- the record stands in the list
@@ -69,10 +69,10 @@ pub record Agreed (l k : List ℕ) (a b : Model) : Type 0 where
   pub second : Matches k b
   pub ordered : Behind l k ⊎ Behind k l
 
--- THE CLAIM. Two states are opened with answer 0 and the same n, each on any words; then any two lists of calls follow.
+-- THE CLAIM. Two states are opened with answer 0 and the same n, each on any words and for any own member; then any two lists of calls follow.
 abbrev pub AgreementClaim : Type 0
-AgreementClaim = (n : ℕ) (u w : List ℕ) → openState u n .number ≡ 0 → openState w n .number ≡ 0
+AgreementClaim = (n own other : ℕ) (u w : List ℕ) → openState u n own .number ≡ 0 → openState w n other .number ≡ 0
     → (calls others : List Call) → allAllowed calls ≡ true → allAllowed others ≡ true
-    → let l = openState u n .words in let k = openState w n .words in
+    → let l = openState u n own .words in let k = openState w n other .words in
     (honest : ℕ → Bool) → Premises n (modelOf n l calls) (modelOf n k others) honest
     → Agreed (run l calls) (run k others) (modelOf n l calls) (modelOf n k others)

@@ -2,8 +2,8 @@
 use mathlib.Core.List.{List, [], _∷_}
 use Prim.Native.Nat.{ℕ, zero, suc}
 use Rattle.protocol.specs.Dag.{Dag, recordsOf}
-use Rattle.agreement.specs.Call.{Call, opening, vertex, firstMessage, timeout, noVote}
-use Rattle.agreement.specs.Call.{status, askLeaderList, askJournalList, handLeaderList, handJournalList, outcomeOf}
+use Rattle.runs.specs.Call.{Call, opening, vertex, firstMessage, timeout, noVote}
+use Rattle.runs.specs.Call.{status, askLeaderList, askJournalList, handLeaderList, handJournalList, making, signing, outcomeOf}
 
 pub record Model : Type 0 where
   pub n : ℕ
@@ -20,7 +20,7 @@ admit (vertex rec) zero m = record { n = m .n; vertices = rec ∷ m .vertices; f
 admit (vertex rec) (suc number) m = m
 admit (firstMessage rec) zero m = record { n = m .n; vertices = m .vertices; firsts = rec ∷ m .firsts }
 admit (firstMessage rec) (suc number) m = m
-admit (opening n) number m = m
+admit (opening n own) number m = m
 admit (timeout r p) number m = m
 admit (noVote r p) number m = m
 admit status number m = m
@@ -28,6 +28,8 @@ admit (askLeaderList k) number m = m
 admit (askJournalList k) number m = m
 admit (handLeaderList k) number m = m
 admit (handJournalList k) number m = m
+admit (making tag) number m = m
+admit signing number m = m
 
 -- the model of the calls on the words l, fed each call's number and arguments
 unfoldable pub follow : Model → List ℕ → List Call → Model

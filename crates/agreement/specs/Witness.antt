@@ -4,19 +4,20 @@ use mathlib.Core.Bool.{Bool, true, false}
 use mathlib.Core.List.{List, [], _∷_, _++_, map}
 use Prim.Native.Nat.{ℕ}
 use Rattle.protocol.specs.Witness.{vertexOf, firstOf, witnessDag, honest}
+use Rattle.replica.specs.Layout.{watcher}
 use Rattle.replica.specs.Opening.{opened, openState}
-use Rattle.agreement.specs.Call.{Call, opening, vertex, firstMessage, timeout, noVote, status, askLeaderList, handJournalList, run, allAllowed}
+use Rattle.runs.specs.Call.{Call, opening, vertex, firstMessage, timeout, noVote, status, askLeaderList, handJournalList, run, allAllowed}
 use Rattle.agreement.specs.Model.{Model, modelOf, dagOf}
 use Rattle.agreement.specs.Claim.{Premises, leadersIn, journalIn, Agreed}
 
--- both states: opened with 4
+-- both states: opened with 4, for a watcher
 abbrev pub start : List ℕ
-start = openState (opened 4) 4 .words
+start = openState (opened 4 watcher) 4 watcher .words
 
 -- all vertices, then the first messages, with calls between them that admit no record
 unfoldable pub callsOf : Bool → List Call
 callsOf i =
-    (opening 5 ∷ status ∷ timeout 1 3 ∷ [])
+    (opening 5 watcher ∷ status ∷ timeout 1 3 ∷ [])
     ++ (map vertex (vertexOf i)
     ++ ((noVote 2 0 ∷ askLeaderList 0 ∷ [])
     ++ (map firstMessage (firstOf i) ++ (handJournalList 0 ∷ []))))
@@ -26,7 +27,7 @@ modelFor i = modelOf 4 start (callsOf i)
 
 pub record Witness : Type 0 where
   -- what the claim asks
-  pub opens : openState (opened 4) 4 .number ≡ 0
+  pub opens : openState (opened 4 watcher) 4 watcher .number ≡ 0
   pub allowed-calls : (i : Bool) → allAllowed (callsOf i) ≡ true
   pub premises : Premises 4 (modelFor true) (modelFor false) honest
   -- All records were admitted: the models hold what the protocol's witness does. There the leaders of rounds 1 and 2 are skipped, the latter with a

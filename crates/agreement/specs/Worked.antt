@@ -5,12 +5,12 @@ use mathlib.Core.List.{List, [], _∷_, _++_, List·Memᴰ}
 use Prim.Native.Nat.{ℕ}
 use lib.Dec.{eqb}
 use lib.ListN.{replicate}
-use Rattle.replica.specs.Layout.{stateSize, journalAt}
+use Rattle.replica.specs.Layout.{stateSize, journalAt, watcher}
 use Rattle.replica.specs.State.{currentRound, committedRound}
 use Rattle.replica.specs.Outcome.{Outcome}
 use Rattle.replica.specs.Place.{Span}
-use Rattle.agreement.specs.Call.{Call, opening, vertex, firstMessage, timeout, askJournalList, handJournalList}
-use Rattle.agreement.specs.Call.{outcomeOf, Given, nothing, part, givenOf, run}
+use Rattle.runs.specs.Call.{Call, opening, vertex, firstMessage, timeout, askJournalList, handJournalList}
+use Rattle.runs.specs.Call.{outcomeOf, Given, nothing, part, givenOf, run}
 use Rattle.agreement.specs.Claim.{leadersIn, journalIn}
 use Rattle.record.specs.Layout.{recordWords}
 
@@ -99,20 +99,20 @@ span number start length = record { number = number; start = start; length = len
 
 -- a state opened with 4, and after it S
 abbrev pub fresh : List Call
-fresh = opening 4 ∷ []
+fresh = opening 4 watcher ∷ []
 
 abbrev pub s : List Call
-s = opening 4 ∷ v1 0 10 ∷ v1 1 11 ∷ v1 2 12 ∷ []
+s = opening 4 watcher ∷ v1 0 10 ∷ v1 1 11 ∷ v1 2 12 ∷ []
 
 -- ---- the table
 
 unfoldable pub rows : List Row
 rows =
     -- Open with 4 or 16: 0. With 5 or 19: 2.
-    row [] (opening 4) 0 0 1 0 [] []
-    ∷ row [] (opening 16) 0 0 1 0 [] []
-    ∷ row [] (opening 5) 2 0 0 0 [] []
-    ∷ row [] (opening 19) 2 0 0 0 [] []
+    row [] (opening 4 watcher) 0 0 1 0 [] []
+    ∷ row [] (opening 16 watcher) 0 0 1 0 [] []
+    ∷ row [] (opening 5 watcher) 2 0 0 0 [] []
+    ∷ row [] (opening 19 watcher) 2 0 0 0 [] []
     -- S, vertex 1/0 again: 12. With tag 99: 13.
     ∷ row s (v1 0 10) 12 0 2 0 [] []
     ∷ row s (v1 0 99) 13 0 2 0 [] []

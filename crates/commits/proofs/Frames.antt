@@ -7,7 +7,7 @@ use lib.ListN.{getD}
 use Rattle.record.specs.Members.{legal, has, idRound, rounds}
 use Rattle.protocol.specs.Dag.{Records}
 use Rattle.replica.specs.Layout.{committedRoundAt, heldKind, heardKind, votesKind}
-use Rattle.replica.specs.Layout.{cellsAt, memberCountAt, leaderCountAt, journalCountAt, zerosAt, orderedKind, currentRoundAt, timeoutsKind}
+use Rattle.replica.specs.Layout.{cellsAt, memberCountAt, leaderCountAt, journalCountAt, ownAt, orderedKind, currentRoundAt, timeoutsKind}
 use Rattle.replica.specs.Layout.{masksAt, heldAt, heardAt, votesAt, orderedAt, cellAt, headSize, leadersAt, leadersSize, journalAt, journalSize}
 use Rattle.replica.specs.State.{memberCount, leaderCount, journalCount, vertices, firsts, addMember}
 use Rattle.replica.proofs.Keeping.{Keeps, keeps-trans, keeps-less, keeps-set, vertices-kept, firsts-kept}
@@ -30,7 +30,7 @@ pub record OffLists (j : ℕ) : Type 0 where
   pub off-leaders : OffLeaders j
   pub off-journal : OffJournal j
 
--- words 0 and 1, the zeros, the other masks and the cells are off the lists
+-- words 0 and 1, the own words, the other masks and the cells are off the lists
 pub off-front : (j : ℕ) → j ≤ currentRoundAt → OffLists j
 off-front j a = record {
   not-committed = λ e. omega arith;
@@ -39,8 +39,8 @@ off-front j a = record {
 }
 
 -- words 5 to 7
-pub off-zeros : (j : ℕ) → zerosAt ≤ j → j < headSize → OffLists j
-off-zeros j a b = record {
+pub off-own : (j : ℕ) → ownAt ≤ j → j < headSize → OffLists j
+off-own j a b = record {
   not-committed = λ e. omega arith;
   off-leaders = (λ e. omega arith, λ c d. omega arith);
   off-journal = (λ e. omega arith, λ c d. omega arith, λ r c d e. omega arith);

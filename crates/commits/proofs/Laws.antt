@@ -1,19 +1,19 @@
 -- Each case of the definitions, as a law. Assumes nothing.
-use mathlib.Core.Path.{_≡_, refl, sym, _∙_}
+use mathlib.Core.Path.{_≡_, refl, sym, ap, _∙_}
 use mathlib.Core.Bool.{true, false}
 use mathlib.Core.List.{List}
 use Prim.Native.Nat.{ℕ, zero, suc, _+_, _-_, _^_, _≤_, _<_}
 use native.Mathlib.Nat.{not-suc-le-zero}
 use native.Mathlib.Numerals.{add-one, sub-one}
 use native.Mathlib.Omega.{arith}
-use lib.ListN.{getD, set, length, replicate}
-use lib.Bits.{bitOr}
+use lib.ListN.{getD, set, length, replicate, getD-replicate}
+use lib.Bits.{bitOr, or-zero-l}
 use borrow.Author.Tests.{lt-ltb, le-ltb}
 use Rattle.record.specs.Members.{rounds, slots, leader, has, meets, idOf, idRound, idMember, idLimit}
 use Rattle.record.specs.Layout.{strongOf, weakCountOf, weakOf, weakSlots, weakPlace, weakCountPlace, strongPlace}
 use Rattle.record.proofs.Booleans.{and-fails-left, and-both, or-left, cond-true, cond-false}
 use Rattle.protocol.specs.Dag.{Records}
-use Rattle.protocol.specs.Masks.{parents, join, joinWeak, joinParents, joinRound, joinRoundParents, fill, historyMasks}
+use Rattle.protocol.specs.Masks.{parents, join, joinWeak, joinParents, joinRound, joinRoundParents, fill, reachMasks}
 use Rattle.replica.specs.Layout.{cellAt, currentRoundAt}
 use Rattle.replica.specs.State.{memberCount, currentRound, heldMask, timeoutsMask, vertices}
 use Rattle.commits.specs.Commit.{passable, highestPassable, raiseRound}
@@ -150,7 +150,9 @@ pub join-strong : (v : Records) (h : List ℕ) (r p k s : ℕ) → k ≡ r - 1 -
 unfolding joinParents join
 join-strong v h r p k s e d = rw (e, d)
 
-pub history-start : (n : ℕ) (v : Records) (r p : ℕ) (masks : List ℕ) → p < slots
-    → masks ≡ join (replicate rounds 0) (idRound (idOf r p)) (2 ^ idMember (idOf r p)) → historyMasks n v r p ≡ fill n v masks (r - 1)
-unfolding historyMasks
-history-start n v r p masks few e = rw (e, id-round r p few, id-member r p few)
+pub reach-start : (n : ℕ) (v : Records) (r m k : ℕ) → k ≡ r - 1 → r ≤ rounds → reachMasks n v r m ≡ fill n v (set (replicate rounds 0) k m) (r - 1)
+unfolding reachMasks join
+reach-start n v r m k e few = rw e (ap (λ (x : ℕ). fill n v (set (replicate rounds 0) (r - 1) x) (r - 1)) (ap (λ (x : ℕ). bitOr x m) zero-word ∙ or-zero-l m))
+  where
+    zero-word : _≡_ {A = ℕ} (getD (replicate rounds 0) (r - 1) 0) 0
+    zero-word = getD-replicate {A = ℕ} rounds (r - 1) 0 0 (omega arith)

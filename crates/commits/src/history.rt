@@ -1,7 +1,7 @@
-// A history as 32 masks, one for each round, filled by falling round.
+// Histories as 32 masks, one for each round, filled by falling round.
 ghost use mathlib.Core.Path.{_≡_};
 ghost use Prim.Native.Nat.{_/_, _%_, _^_, _<_, _≤_};
-ghost use Rattle.protocol.specs.Masks.{join, joinWeakParents, joinParents, joinRoundParents, historyMasks};
+ghost use Rattle.protocol.specs.Masks.{join, joinWeakParents, joinParents, joinRoundParents, reachMasks, historyMasks};
 ghost use Rattle.record.specs.Members.{rounds, slots, idLimit, idRound, idMember};
 ghost use Rattle.replica.specs.State.{memberCount, vertices};
 ghost use Rattle.commits.specs.Standing.{Standing};
@@ -13,6 +13,7 @@ use record::members::MASKS;
 use record::members::Members;
 use record::members::SLOTS;
 use record::members::has_bit;
+use record::members::power;
 use replica::layout::cell_at;
 
 // Adds the vertex with the id x.
@@ -66,17 +67,25 @@ fn join_round(state: &[u32], n: u32, masks: &mut [u32; MASKS], round: u32)
     }
 }
 
-// The history of the vertex.
-pub fn history_of(state: &[u32], n: u32, round: u32, member: u32) -> [u32; MASKS]
-    requires { ⌜ Standing (now state) × (n ≡ memberCount (now state)) × (1 ≤ round) × (round ≤ rounds) × (member < slots) ⌝ }
-    ensures { λ r. ⌜ r ≡ historyMasks n (vertices (now (state .entry))) round member ⌝ }
+// The histories of the round's vertices of the members in the mask, together.
+pub fn reach_of(state: &[u32], n: u32, round: u32, mask: u32) -> [u32; MASKS]
+    requires { ⌜ Standing (now state) × (n ≡ memberCount (now state)) × (1 ≤ round) × (round ≤ rounds) ⌝ }
+    ensures { λ r. ⌜ r ≡ reachMasks n (vertices (now (state .entry))) round mask ⌝ }
 {
     let mut masks = [0u32; MASKS];
-    join_id(n, &mut masks, SLOTS * round + member);
+    masks[wide(round - 1)] = mask;
     let mut k: u32 = round - 1;
     while 0 < k {
         join_round(state, n, &mut masks, k + 1);
         k -= 1;
     }
     masks
+}
+
+// The history of the vertex.
+pub fn history_of(state: &[u32], n: u32, round: u32, member: u32) -> [u32; MASKS]
+    requires { ⌜ Standing (now state) × (n ≡ memberCount (now state)) × (1 ≤ round) × (round ≤ rounds) × (member < slots) ⌝ }
+    ensures { λ r. ⌜ r ≡ historyMasks n (vertices (now (state .entry))) round member ⌝ }
+{
+    reach_of(state, n, round, power(member))
 }

@@ -3,10 +3,14 @@ use super::output::checksum;
 use super::output::put;
 use super::output::put_last;
 use super::output::put_list;
+use super::output::put_words;
 use ordering::first::take_first_message;
 use ordering::notes::take_no_vote;
 use ordering::notes::take_timeout;
 use ordering::vertex::take_vertex;
+use proposing::making::Proposal;
+use proposing::making::propose;
+use proposing::signing::sign_no_vote;
 use record::refusal::missing_id;
 use record::refusal::number;
 use replica::answer::Answer;
@@ -25,6 +29,14 @@ fn put_answer(answer: Answer) {
     put(missing_id(why));
     put(answer.leaders);
     put(answer.journal);
+}
+
+// The answer's four numbers, and the words of the record.
+fn put_proposal(proposal: Proposal) {
+    let answer = proposal.answer;
+    put_answer(answer);
+    let words = proposal.words;
+    put_words(&words);
 }
 
 // The number alone: asking has no id, and adds nothing.
@@ -58,11 +70,13 @@ fn read(state: &[u32], op: u32, a: u32) {
 // The calls that may change words, and the others.
 fn change(state: &mut [u32], rec: &[u32], op: u32, a: u32, b: u32) {
     match op {
-        3 => put_answer(open(state, a)),
+        3 => put_answer(open(state, a, b)),
         9 => put_answer(take_vertex(state, rec)),
         10 => put_answer(take_first_message(state, rec)),
         11 => put_answer(take_timeout(state, a, b)),
         12 => put_answer(take_no_vote(state, a, b)),
+        15 => put_proposal(propose(state, a)),
+        16 => put_answer(sign_no_vote(state)),
         _ => read(state, op, a),
     }
 }

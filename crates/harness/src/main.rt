@@ -5,7 +5,7 @@
 //   0      ends the run, as the end of the input does
 //   1 a    a words are lent from now on, all zero
 //   2 a b  word a becomes b, if it is lent
-//   3 a    opens for a members
+//   3 a b  opens for a members, with the own word b
 //   4      status
 //   5 a    asks for the leader list from a on
 //   6 a    asks for the journal from a on
@@ -17,7 +17,10 @@
 //   12 a b takes a no-vote of round a and signer b
 //   13 a   the record has a words from now on, all zero, at most 20
 //   14 a b word a of the record becomes b, if the record has it
-// A call prints a line: the operation, the numbers of the answer (of asking, the number alone), and the checksum.
+//   15 a   makes our own vertex with the tag a
+//   16     signs our own no-vote
+// A call prints a line: the operation, the numbers of the answer (of asking, the number alone; of making, the words of the record too),
+// and the checksum.
 mod calls;
 mod input;
 mod output;

@@ -17,14 +17,19 @@ pub fn put_last(x: u32) {
     io::write_all(STDOUT_FILENO, b"\n");
 }
 
-// How many words there are, and each.
-pub fn put_list(words: &[u32]) {
-    put_wide(words.len() as u64);
+// Every word.
+pub fn put_words(words: &[u32]) {
     let mut i: usize = 0;
     while i < words.len() {
         put(words[i]);
         i += 1;
     }
+}
+
+// How many words there are, and each.
+pub fn put_list(words: &[u32]) {
+    put_wide(words.len() as u64);
+    put_words(words);
 }
 
 // h * 31 + word, modulo 2 to the 32.

@@ -7,7 +7,7 @@ use Prim.Native.Nat.{ℕ, zero, suc, _+_, _-_, _≤_, _<_}
 use native.Mathlib.Omega.{arith}
 use lib.Dec.{eqb, leb, ltb}
 use lib.ListN.{length}
-use borrow.Author.Tests.{eqb-true, eq-eqb, leb-true, ltb-true}
+use borrow.Author.Tests.{eq-eqb, leb-true, ltb-true}
 use Rattle.record.specs.Members.{leader, has, idOf, idRound, idMember, isRound, rounds, slots, votedRounds}
 use Rattle.record.specs.Refusals.{numberOf, firstNo}
 use Rattle.record.specs.declared.refusal.Refusal.{Refusal}
@@ -35,9 +35,9 @@ use Rattle.ordering.specs.Calls.{putVertex, hear, takeBody, takeFirstBod
 use Rattle.ordering.specs.Calls.{firstQuestions, noteRefusal}
 use Rattle.ordering.specs.Kept.{LeavesWellFormed, KeepsWellFormed}
 use Rattle.commits.proofs.Ground.{room-limit}
-use Rattle.commits.proofs.Frames.{OffLists, off-front, off-zeros, off-mask, off-cells}
+use Rattle.commits.proofs.Frames.{OffLists, off-front, off-own, off-mask, off-cells}
 use Rattle.commits.proofs.Growing.{Committed, grown, leaders-fit}
-use Rattle.ordering.proofs.Turns.{record-passed, parents-passed, note-passed}
+use Rattle.ordering.proofs.Turns.{outcome-words, record-passed, parents-passed, note-passed}
 use Rattle.ordering.proofs.Marks.{formed-raise, formed-put, formed-hear, formed-note}
 
 -- ---- the leaders taken
@@ -134,7 +134,7 @@ module _ (l : List ℕ) (S : WellFormed l) (q : ℕ) (above : committedRound l <
   pub formed-commit : WellFormed (commit l q)
   formed-commit = record {
     size = F .size ∙ S .size;
-    front = front-kept OffLists l (commit l q) F off-front off-zeros (S .front);
+    front = front-kept OffLists l (commit l q) F off-front off-own (S .front);
     masks = masks-kept OffLists l (commit l q) F (off-front memberCountAt (omega arith)) off-mask (S .masks);
     cells = cells-kept OffLists l (commit l q) F held-off off-cells (off-front memberCountAt (omega arith)) (S .cells);
     leaders = commit-leaders-formed;
@@ -168,16 +168,11 @@ formed-commits (suc k) l S = go (which (ltb (lowest l) rounds)) (formed-commits 
 -- ---- the calls
 
 -- a call whose words would be formed where it is admitted
-leaves : (why : Refusal) (l after : List ℕ) → WellFormed l → (numberOf why ≡ 0 → WellFormed after) → LeavesWellFormed (outcome why l after)
-unfolding outcome
-leaves why l after S f = go (which (eqb (numberOf why) 0))
+pub leaves : (why : Refusal) (l after : List ℕ) → WellFormed l → (numberOf why ≡ 0 → WellFormed after) → LeavesWellFormed (outcome why l after)
+leaves why l after S f = outcome-words (λ k. (length k ≡ stateSize) × (wellFormed k ≡ true)) why l after (good l S) (λ e. good after (f e))
   where
-    good : (l : List ℕ) → WellFormed l → (length l ≡ stateSize) × (wellFormed l ≡ true)
-    good l S = (S .size, well-formed l S)
-
-    go : (eqb (numberOf why) 0 ≡ true) ⊎ (eqb (numberOf why) 0 ≡ false) → LeavesWellFormed (outcome why l after)
-    go (inl e) = rw e (good after (f (eqb-true _ _ e)))
-    go (inr e) = rw e (good l S)
+    good : (k : List ℕ) → WellFormed k → (length k ≡ stateSize) × (wellFormed k ≡ true)
+    good k S = (S .size, well-formed k S)
 
 module _ (l : List ℕ) (S : WellFormed l) where
   -- after an admitted vertex

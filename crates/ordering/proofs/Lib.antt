@@ -4,6 +4,7 @@ pub mod Turns
 pub mod Writing
 pub mod Marks
 pub mod Kept
+pub mod Own
 pub mod Counts
 pub mod Heard
 pub mod Taking

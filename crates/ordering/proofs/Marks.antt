@@ -20,12 +20,13 @@ use Rattle.record.proofs.Rounds.{round-range}
 use Rattle.protocol.specs.Dag.{votes}
 use Rattle.record.specs.Layout.{bodySize, weakSlots}
 use Rattle.replica.specs.Layout.{votesKind, timeoutsKind, noVotesKind, orderedKind, currentRoundAt}
-use Rattle.replica.specs.Layout.{masksAt, heldAt, heardAt, votesAt, timeoutsAt, noVotesAt, cellAt, kinds, memberCountAt, zerosAt, heardKind}
+use Rattle.replica.specs.Layout.{masksAt, heldAt, heardAt, votesAt, timeoutsAt, noVotesAt, cellAt, kinds, memberCountAt, ownAt, madeAt}
+use Rattle.replica.specs.Layout.{signedAt, heardKind}
 use Rattle.replica.specs.State.{memberCount, currentRound, heldMask, heardMask, votesMask, cell, heldId, addMember}
 use Rattle.replica.specs.Parents.{parentsHeld}
-use Rattle.replica.proofs.Formed.{Masks, Cells, WellFormed}
+use Rattle.replica.proofs.Formed.{Front, Masks, Cells, WellFormed}
 use Rattle.replica.proofs.Keeping.{Keeps, keeps-set, keeps-part, parents-more, front-kept, masks-kept, cells-kept, held-kept, held-id-kept}
-use Rattle.replica.proofs.Keeping.{leaders-kept, journal-kept}
+use Rattle.replica.proofs.Keeping.{leaders-kept, journal-kept, own-same, Spare, formed-word}
 use Rattle.commits.specs.Commit.{passable, highestPassable, raiseRound}
 use Rattle.ordering.specs.Calls.{putVertex, hear}
 use Rattle.ordering.proofs.Copying.{paste-before, paste-after, paste-part}
@@ -42,43 +43,40 @@ highest-high l (suc k) = go (which (passable l (suc k))) (highest-high l k)
     go (inl e) ih = rw e (omega arith)
     go (inr e) ih = rw e (omega arith)
 
+pub round-spare : Spare currentRoundAt
+round-spare = record {
+  head = omega arith;
+  not-members = λ e. omega arith;
+  not-committed = λ e. omega arith;
+  not-leaders = λ e. omega arith;
+  not-journal = λ e. omega arith;
+}
+
 -- any round from 1 to 33
 pub formed-round : (l : List ℕ) (x : ℕ) → 1 ≤ x → x ≤ rounds + 1 → WellFormed l → WellFormed (set l currentRoundAt x)
-formed-round l x a b S = record {
-  size = p .size ∙ S .size;
-  front = record {
-    members = ap legal n ∙ S .front .members;
-    low = rw n (S .front .low);
-    high = rw n (S .front .high);
-    round-low = rw here a;
-    round-high = rw here b;
-    zeros = λ i k. p .same (zerosAt + i) (λ e. omega arith) ∙ S .front .zeros i k;
-  };
-  masks = masks-kept K l l′ p (λ e. omega arith) (λ r i c d k e. omega arith) (S .masks);
-  cells = cells-kept K l l′ p held (λ j c e. omega arith) (λ e. omega arith) (S .cells);
-  leaders = leaders-kept K l l′ p (λ e. omega arith) (λ e. omega arith) (λ e. omega arith) (λ j c d e. omega arith)
-      (λ y e. held-id-kept K l l′ p held y ∙ e) (S .leaders);
-  journal = journal-kept K l l′ p (λ r c d e. omega arith) (λ e. omega arith) (λ e. omega arith) (λ j c d e. omega arith)
-      (λ r q c d e. held-kept K l l′ p held r q c d ∙ e) (S .journal);
-}
+formed-round l x a b S = formed-word l currentRoundAt x round-spare front S
   where
     l′ : List ℕ
     l′ = set l currentRoundAt x
 
-    K : ℕ → Type 0
-    K j = j ≡ 1 → ⊥
-
-    p : Keeps K l l′
-    p = keeps-set K l 1 x (λ j k e. k e)
+    other : (j : ℕ) → (j ≡ currentRoundAt → ⊥) → getD l′ j 0 ≡ getD l j 0
+    other j h = getD-set-other l currentRoundAt j x 0 h
 
     n : memberCount l′ ≡ memberCount l
-    n = p .same memberCountAt (λ e. omega arith)
+    n = other memberCountAt (λ e. omega arith)
 
     here : currentRound l′ ≡ x
-    here = getD-set-same l 1 x 0 (omega (arith, S .size))
+    here = getD-set-same l currentRoundAt x 0 (omega (arith, S .size))
 
-    held : (r : ℕ) → 1 ≤ r → r ≤ rounds → K (heldAt r)
-    held r c d e = omega arith
+    front : Front l′
+    front = record {
+      members = ap legal n ∙ S .front .members;
+      low = rw n (S .front .low);
+      high = rw n (S .front .high);
+      round-low = rw here a;
+      round-high = rw here b;
+      own = own-same l l′ n (other ownAt (λ e. omega arith)) (other madeAt (λ e. omega arith)) (other signedAt (λ e. omega arith)) ∙ S .front .own;
+    }
 
 -- The round rule keeps the state formed.
 pub formed-raise : (l : List ℕ) → WellFormed l → WellFormed (raiseRound l)

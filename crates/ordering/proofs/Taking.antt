@@ -1,20 +1,17 @@
 -- The calls put together: refused with the words as they were, or admitted step by step. Assumes nothing.
 use mathlib.Core.Path.{_≡_, refl, sym, ap, _∙_}
 use mathlib.Core.Bool.{true}
-use mathlib.Core.Logic.{⊎-elim}
 use mathlib.Core.List.{List, [], _∷_}
 use Prim.Native.Nat.{ℕ, _+_, _≤_, _<_}
 use native.Mathlib.Omega.{arith}
 use lib.Dec.{eqb}
 use lib.ListN.{length, take, drop, getD, length-drop}
 use lib.Seq.{take-all, getD-drop}
-use borrow.Author.Tests.{eqb-true}
 use Rattle.record.specs.Refusals.{numberOf, firstNo}
 use Rattle.record.specs.Layout.{roundOf, sourceOf, bodyOf, strongOf, recordSize, bodySize, bodyPlace, strongPlace}
 use Rattle.record.specs.Questions.{bodyRefusal}
 use Rattle.record.specs.Admitted.{Admitted}
 use Rattle.record.specs.declared.refusal.Refusal.{Refusal}
-use Rattle.record.proofs.Booleans.{which}
 use Rattle.record.specs.Members.{rounds, slots}
 use Rattle.replica.specs.Layout.{stateSize, masksAt, timeoutsAt, kinds, leaderCountAt, journalCountAt, timeoutsKind}
 use Rattle.replica.specs.State.{memberCount, addMember}
@@ -25,7 +22,7 @@ use Rattle.replica.proofs.Formed.{WellFormed, well-formed}
 use Rattle.commits.specs.Commit.{raiseRound, commitAll}
 use Rattle.ordering.specs.Calls.{placeQuestions, vertexQuestions, putVertex, takeBody, takeVertex, firstQuestions, hear}
 use Rattle.ordering.specs.Calls.{takeFirstBody, takeFirstMessage, noteRefusal, takeNote, takeTimeout}
-use Rattle.ordering.proofs.Turns.{outcome-refused, outcome-admitted, record-passed, parents-passed, note-passed}
+use Rattle.ordering.proofs.Turns.{outcome-zero, outcome-refused, outcome-admitted, record-passed, parents-passed, note-passed}
 use Rattle.ordering.proofs.Heard.{hear-body}
 use Rattle.ordering.proofs.Counts.{same-growth, no-growth}
 use Rattle.ordering.proofs.Writing.{Calm, calm-then, raise-calm, put-calm, hear-calm, note-calm}
@@ -34,11 +31,6 @@ use Rattle.ordering.proofs.Marks.{formed-put, formed-raise, formed-hear
 -- an answer with a refusal, where the words stay
 told-refused : (l : List ℕ) (a : Answer) (why : Refusal) → a ≡ nothingAdded why → told a l ≡ told (nothingAdded why) l
 told-refused l a why e = ap (λ (x : Answer). told x l) e
-
--- an outcome has the number 0 only where no question stopped the call
-outcome-zero : (why : Refusal) (l after : List ℕ) → outcome why l after .number ≡ 0 → numberOf why ≡ 0
-unfolding outcome
-outcome-zero why l after h = ⊎-elim (λ e. eqb-true (numberOf why) 0 e) (λ e. rw e at h) (which (eqb (numberOf why) 0))
 
 -- the counts after a calm change
 calm-growth : {l m : List ℕ} → Calm l m → (after : List ℕ) → admitted m after ≡ admitted l after

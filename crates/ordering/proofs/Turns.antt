@@ -1,12 +1,14 @@
 -- The questions of a call in turn: what stopped it, and what is known where nothing did. Assumes nothing.
 use mathlib.Core.Path.{_≡_, refl, sym, ap, _∙_}
 use mathlib.Core.Bool.{true, false, not}
+use mathlib.Core.Logic.{_⊎_, inl, inr, ⊎-elim}
 use mathlib.Core.List.{List, [], _∷_, _++_}
 use Prim.Native.Nat.{ℕ, _≤_, _<_}
 use native.Mathlib.Omega.{arith}
+use lib.Dec.{eqb}
 use lib.ListN.{length, take, drop, length-drop}
 use lib.Seq.{take-all}
-use borrow.Author.Tests.{eqb-false, eq-eqb, ne-eqb}
+use borrow.Author.Tests.{eqb-true, eqb-false, eq-eqb, ne-eqb}
 use Rattle.record.specs.Below.{least}
 use Rattle.record.specs.Members.{rounds, slots, legal, has, idLimit}
 use Rattle.record.specs.Refusals.{numberOf, Question, firstNo, numbered}
@@ -14,7 +16,7 @@ use Rattle.record.specs.Layout.{roundOf, sourceOf, bodyOf, recordSize, bodySize
 use Rattle.record.specs.Questions.{signerQuestions, recordQuestions, signerRefusal, bodyRefusal, recordRefusal}
 use Rattle.record.specs.declared.refusal.Refusal.{Refusal}
 use Rattle.record.specs.declared.refusal.Refusal.the-variants.{None, Duplicate, Conflict, MissingParent}
-use Rattle.record.proofs.Booleans.{and-both, and-fails-left, and-fails-right}
+use Rattle.record.proofs.Booleans.{which, and-both, and-fails-left, and-fails-right}
 use Rattle.record.proofs.Below.{any-intro, any-false, least-sat, least-off}
 use Rattle.record.proofs.Masks.{legal-range}
 use Rattle.record.proofs.Turn.{next, stop, done, both-yes, front-no, front-yes, both-fronts, numbered-law, placed}
@@ -177,6 +179,20 @@ outcome-refused why q l after e h = rw (← e, ne-eqb (numberOf why) 0 h)
 pub outcome-admitted : (why q : Refusal) (l after : List ℕ) → why ≡ q → numberOf why ≡ 0 → admitted l after ≡ outcome q l after
 unfolding outcome
 outcome-admitted why q l after e h = rw (← e, eq-eqb (numberOf why) 0 h)
+
+-- what holds of the words before a call, and of the new ones where it is admitted, holds of those that it leaves
+pub outcome-words : (P : List ℕ → Type 0) (why : Refusal) (l after : List ℕ) → P l → (numberOf why ≡ 0 → P after) → P (outcome why l after .words)
+unfolding outcome
+outcome-words P why l after p f = go (which (eqb (numberOf why) 0))
+  where
+    go : (eqb (numberOf why) 0 ≡ true) ⊎ (eqb (numberOf why) 0 ≡ false) → P (outcome why l after .words)
+    go (inl e) = rw e (f (eqb-true _ _ e))
+    go (inr e) = rw e p
+
+-- an outcome has the number 0 only where no question stopped the call
+pub outcome-zero : (why : Refusal) (l after : List ℕ) → outcome why l after .number ≡ 0 → numberOf why ≡ 0
+unfolding outcome
+outcome-zero why l after h = ⊎-elim (λ e. eqb-true (numberOf why) 0 e) (λ e. rw e at h) (which (eqb (numberOf why) 0))
 
 -- ---- what is known of a call that nothing stopped
 

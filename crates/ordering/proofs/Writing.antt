@@ -3,7 +3,7 @@ use mathlib.Core.Path.{_≡_, refl, sym, ap, ap₂, _∙_}
 use mathlib.Core.Bool.{Bool, true, false, cond, _&&_, or-false}
 use mathlib.Core.Logic.{_⊎_, inl, inr, ⊎-elim}
 use mathlib.Core.List.{List, [], _∷_}
-use Prim.Native.Nat.{ℕ, _+_, _-_, _^_, _≤_, _<_}
+use Prim.Native.Nat.{ℕ, zero, suc, _+_, _-_, _^_, _≤_, _<_}
 use native.Mathlib.Omega.{arith}
 use lib.Dec.{eqb, ltb}
 use lib.ListN.{length, getD, set, take, drop, length-set}
@@ -15,22 +15,23 @@ use Rattle.record.proofs.Booleans.{which, never, and-left, and-right, and-both,
 use Rattle.record.proofs.Masks.{has-add, has-add-same, has-zero, has-one, has-bound}
 use Rattle.record.proofs.Rounds.{round-range, round-in}
 use Rattle.protocol.specs.Dag.{present, votes}
-use Rattle.replica.specs.Layout.{journalSize, cellsAt, leaderCountAt, journalCountAt, timeoutsKind}
+use Rattle.replica.specs.Layout.{journalSize, cellsAt, leaderCountAt, journalCountAt, timeoutsKind, currentRoundAt, ownAt}
 use Rattle.replica.specs.Layout.{masksAt, heldAt, heardAt, votesAt, cellAt, stateSize, headSize, kinds, leadersAt, leadersSize, journalAt}
 use Rattle.replica.specs.State.{memberCount, currentRound, committedRound, leaderCount, journalCount, heldMask, heardMask, votesMask, leaderList}
 use Rattle.replica.specs.State.{journalList, cell, vertices, firsts, addMember}
-use Rattle.replica.proofs.Keeping.{Keeps, keeps-part, vertices-kept}
+use Rattle.replica.proofs.Keeping.{Keeps, keeps-part, vertices-kept, Spare}
 use Rattle.commits.specs.Commit.{highestPassable, raiseRound}
 use Rattle.ordering.specs.Calls.{putVertex, hear}
 use Rattle.ordering.proofs.Copying.{paste-before, paste-after, paste-part}
+use Rattle.ordering.proofs.Marks.{round-spare}
 use Rattle.commits.proofs.Frame.{Alike, alike-self, alike-set, loose-head}
 
 -- ---- the lists stay
 
--- all words of the head but the current round, and those of both lists, are the same
+-- the counts, the committed round, and the words of both lists are the same
 pub record Calm (l m : List ℕ) : Type 0 where
   pub size : length m ≡ length l
-  pub head : (j : ℕ) → j < headSize → (j ≡ 1 → ⊥) → getD m j 0 ≡ getD l j 0
+  pub head : (j : ℕ) → j < ownAt → (j ≡ currentRoundAt → ⊥) → getD m j 0 ≡ getD l j 0
   pub lists : (j : ℕ) → leadersAt ≤ j → j < cellsAt → getD m j 0 ≡ getD l j 0
 
 -- nothing changed
@@ -45,13 +46,21 @@ calm-then a b = record {
   lists = λ j x y. b .lists j x y ∙ a .lists j x y;
 }
 
--- the current round
-calm-round : (l : List ℕ) (x : ℕ) → Calm l (set l 1 x)
-calm-round l x = record {
-  size = length-set l 1 x;
-  head = λ j a b. getD-set-other l 1 j x 0 b;
-  lists = λ j a b. getD-set-other l 1 j x 0 (λ e. omega arith);
+-- the current round, or an own word
+pub calm-spare : (l : List ℕ) (i x : ℕ) → Spare i → Calm l (set l i x)
+calm-spare l i x s = record {
+  size = length-set l i x;
+  head = λ j a b. getD-set-other l i j x 0 (λ e. apart j a b (sym e));
+  lists = λ j a b. getD-set-other l i j x 0 (λ e. omega (arith, s .head));
 }
+  where
+    apart : (j : ℕ) → j < ownAt → (j ≡ currentRoundAt → ⊥) → i ≡ j → ⊥
+    apart zero a b e = s .not-members e
+    apart (suc zero) a b e = b refl
+    apart (suc (suc zero)) a b e = s .not-committed e
+    apart (suc (suc (suc zero))) a b e = s .not-leaders e
+    apart (suc (suc (suc (suc zero)))) a b e = s .not-journal e
+    apart (suc (suc (suc (suc (suc j))))) a b e = absurd (omega arith)
 
 -- a word of the masks
 calm-mask : (l : List ℕ) (i x : ℕ) → headSize ≤ i → i < leadersAt → Calm l (set l i x)
@@ -113,7 +122,7 @@ unfolding raiseRound
 raise-calm l = go (which (ltb (currentRound l) (1 + highestPassable l rounds)))
   where
     go : (ltb (currentRound l) (1 + highestPassable l rounds) ≡ true) ⊎ (ltb (currentRound l) (1 + highestPassable l rounds) ≡ false) → Calm l (raiseRound l)
-    go (inl e) = rw e (calm-round l (1 + highestPassable l rounds))
+    go (inl e) = rw e (calm-spare l currentRoundAt (1 + highestPassable l rounds) round-spare)
     go (inr e) = rw e (calm-self l)
 
 -- the records stay
@@ -148,6 +157,10 @@ module _ (l : List ℕ) (r p : ℕ) (body : List ℕ) (size : length l ≡ state
       go : (votes (memberCount l) (r - 1) body ≡ true) ⊎ (votes (memberCount l) (r - 1) body ≡ false) → getD (hear l r p body) j 0 ≡ getD l j 0
       go (inl e) = rw e (getD-set-other (set l (heardAt r) (add (getD l (heardAt r) 0) p)) (votesAt r) j _ 0 b ∙ getD-set-other l (heardAt r) j _ 0 a)
       go (inr e) = rw e (getD-set-other l (heardAt r) j _ 0 a)
+
+  -- the head stays
+  pub hear-head : (j : ℕ) → j < headSize → getD (hear l r p body) j 0 ≡ getD l j 0
+  hear-head j a = heard-word j (λ e. omega arith) (λ e. omega arith)
 
   -- the heard mask
   heard-mask : heardMask (hear l r p body) r ≡ add (heardMask l r) p
@@ -304,11 +317,15 @@ module _ (l : List ℕ) (r p : ℕ) (body : List ℕ) (size : length l ≡ state
       go (inr e) (inl d) = absurd (h (ltb-false j (cellAt r p) e) (ltb-true j (cellAt r p + bodySize) d))
       go (inr e) (inr d) = paste-after marked (cellAt r p) body bodySize fits long j (ltb-false j (cellAt r p + bodySize) d)
 
+  -- the head stays
+  pub put-head : (j : ℕ) → j < headSize → getD (putVertex l r p body) j 0 ≡ getD l j 0
+  put-head j a = put-before j (omega arith) ∙ mark-other j (λ e. omega arith)
+
   -- the lists stay
   pub put-calm : Calm l (putVertex l r p body)
   put-calm = record {
     size = put-size;
-    head = λ j a b. put-before j (omega arith) ∙ mark-other j (λ e. omega arith);
+    head = λ j a b. put-head j (omega arith);
     lists = λ j a b. put-before j b ∙ mark-other j (λ e. omega arith);
   }
 

@@ -1,4 +1,4 @@
--- Histories as masks: what each step of filling them adds, and that the filled masks name exactly the history.
+-- Histories as masks: what each step of filling them adds, and that the filled masks name exactly the histories.
 use mathlib.Core.Path.{_≡_, refl, sym, ap, ap₂, _∙_}
 use mathlib.Core.Bool.{Bool, true, false, _&&_, _||_, or-false}
 use mathlib.Core.Logic.{_⊎_, inl, inr, ⊎-elim}
@@ -11,17 +11,19 @@ use lib.Bits.{bitOr}
 use lib.Dec.{eqb}
 use lib.ListN.{length, getD, take, replicate, length-set, length-take, length-replicate, List·getD-eq-default}
 use lib.Seq.{getD-set-same, getD-set-other, getD-take}
+use lib.Pow.{pow-lt}
 use borrow.Author.Tests.{eqb-true, eqb-false, eq-eqb}
 use Rattle.record.specs.Below.{any}
 use Rattle.record.specs.Members.{legal, has, idOf, idRound, idMember, rounds, slots}
 use Rattle.record.specs.Layout.{strongOf, weakCountOf, weakOf, weakCountPlace, strongPlace}
 use Rattle.record.proofs.Booleans.{which, never, and-left, and-right, and-both, and-fails-right, or-cases, or-left, or-right, bool-ext}
 use Rattle.record.proofs.Below.{any-intro, any-elim, any-false}
-use Rattle.record.proofs.Masks.{legal-range, has-zero, has-one, has-or}
+use Rattle.record.proofs.Masks.{legal-range, has-zero, has-one, has-or, has-bound}
 use Rattle.protocol.specs.Dag.{Records, held}
 use Rattle.protocol.specs.Paths.{path, historyUpTo, history}
 use Rattle.protocol.specs.Premises.{ValidVertices}
-use Rattle.protocol.specs.Masks.{join, joinWeak, joinParents, joinRound, joinRoundParents, fill, historyMasks, HistoryClaim, StrongHistoryClaim}
+use Rattle.protocol.specs.Masks.{join, joinWeak, joinParents, joinRound, joinRoundParents, fill, reachMasks, historyMasks}
+use Rattle.protocol.specs.Masks.{ReachClaim, HistoryClaim, StrongHistoryClaim}
 use Rattle.protocol.proofs.Lists.{or-assoc}
 use Rattle.protocol.proofs.Paths.{parent-held, path-self, path-edge}
 use Rattle.protocol.proofs.Frontier.{first-edge, path-here, path-le}
@@ -232,30 +234,13 @@ module _ (n : ℕ) (v : Records) (high : n ≤ slots) (E : Edges n v) where
           or-right (eqb (r - 1) (idRound (weakOf (v r p) i)) && has (strongOf (v r p)) (idMember (weakOf (v r p) i)))
           (any-intro (weakCountOf (v r p)) _ i l (and-both (eq-eqb (idRound (weakOf (v r p) i)) _ refl) (eq-eqb (idMember (weakOf (v r p) i)) _ refl)))
 
-  -- ---- the masks of a history
+  -- ---- the masks of histories
 
-  module _ (r p : ℕ) (lr : 1 ≤ r) (hr : r ≤ rounds) (lp : p < n) where
-    first-masks : List ℕ
-    first-masks = join (replicate rounds 0) r (2 ^ p)
-
-    first-length : length first-masks ≡ rounds
-    unfolding first-masks
-    first-length = join-length (replicate rounds 0) r (2 ^ p) ∙ length-replicate {A = ℕ} rounds 0
-
-    first-marked : (s q : ℕ) → 1 ≤ s → marked first-masks s q ≡ (eqb r s && eqb p q)
-    unfolding first-masks
-    first-marked s q ls =
-        join-marked (replicate rounds 0) r (2 ^ p) s q (length-replicate {A = ℕ} rounds 0) lr hr ls
-        ∙ ap₂ (λ (a b : Bool). a || (eqb r s && b)) (ap (λ (x : ℕ). has x q) (zeros rounds (s - 1)) ∙ has-zero q) (has-one p q)
-      where
-        zeros : (k i : ℕ) → _≡_ {A = ℕ} (getD (replicate k 0) i 0) 0
-        zeros zero i = refl
-        zeros (suc k) zero = refl
-        zeros (suc k) (suc i) = zeros k i
-
-    history-closed : (t x s q : ℕ) → x < n → history n v r p (idOf t x) ≡ true → parent (v t x) t s q ≡ true → history n v r p (idOf s q) ≡ true
+  module _ (r : ℕ) (lr : 1 ≤ r) (hr : r ≤ rounds) where
+    history-closed : (p t x s q : ℕ) → p < n → x < n → history n v r p (idOf t x) ≡ true → parent (v t x) t s q ≡ true
+        → history n v r p (idOf s q) ≡ true
     unfolding parent weakParent
-    history-closed t x s q lx e d = ⊎-elim
+    history-closed p t x s q lp lx e d = ⊎-elim
         (λ c.
         let a : t - 1 ≡ s = eqb-true (t - 1) s (and-left _ _ c) in
         rw (← a) (history-strong n v high E r p t x q (omega arith) (omega arith) (and-right (eqb (t - 1) s) _ c) e))
@@ -267,29 +252,78 @@ module _ (n : ℕ) (v : Records) (high : n ≤ slots) (E : Edges n v) where
         rw y at (history-weak n v high E r p t x (w .0) (omega arith) (omega arith) (w .1) e))
         (or-cases (eqb (t - 1) s && has (strongOf (v t x)) q) _ d)
 
-    -- the filled masks name exactly the history
-    masks-history : (t q : ℕ) → 1 ≤ t → q < slots → marked (historyMasks n v r p) t q ≡ history n v r p (idOf t q)
-    unfolding historyMasks first-masks
-    masks-history t q lt lq = bool-ext
-        (fill-formed (λ s q. history n v r p (idOf s q)) history-closed (r - 1) first-masks first-length (omega arith) start t q lt)
-        (λ e. rw (id-round t q lq, id-member t q lq)
-        at (closed-history (fill n v first-masks (r - 1)) (fill-closed (r - 1) first-masks first-length (omega arith) top) r r p (idOf t q) hr lp
-        (fill-keeps (r - 1) first-masks first-length (omega arith) r p lr (first-marked r p lr ∙ and-both (eq-eqb r r refl) (eq-eqb p p refl))) e))
-      where
-        start : (s q : ℕ) → 1 ≤ s → marked first-masks s q ≡ true → history n v r p (idOf s q) ≡ true
-        start s q ls e =
-            let d : (eqb r s && eqb p q) ≡ true = sym (first-marked s q ls) ∙ e in
-            rw (← eqb-true r s (and-left _ _ d), ← eqb-true p q (and-right (eqb r s) _ d)) (by-self n v r r p lr)
+    module _ (m : ℕ) (small : m < 2 ^ n) where
+      -- in the history of one of the members in the mask
+      reached : ℕ → Bool
+      reached y = any n (λ p. has m p && history n v r p y)
 
-        top : Closed (suc (r - 1)) first-masks
-        top t x s q l lt lx e d =
-            absurd (omega (arith, eqb-true r t (and-left _ _ (sym (first-marked t x (omega arith)) ∙ e))))
+      first-masks : List ℕ
+      first-masks = join (replicate rounds 0) r m
+
+      first-length : length first-masks ≡ rounds
+      unfolding first-masks
+      first-length = join-length (replicate rounds 0) r m ∙ length-replicate {A = ℕ} rounds 0
+
+      first-marked : (s q : ℕ) → 1 ≤ s → marked first-masks s q ≡ (eqb r s && has m q)
+      unfolding first-masks
+      first-marked s q ls =
+          join-marked (replicate rounds 0) r m s q (length-replicate {A = ℕ} rounds 0) lr hr ls
+          ∙ ap (λ (a : Bool). a || (eqb r s && has m q)) (ap (λ (x : ℕ). has x q) (zeros rounds (s - 1)) ∙ has-zero q)
+        where
+          zeros : (k i : ℕ) → _≡_ {A = ℕ} (getD (replicate k 0) i 0) 0
+          zeros zero i = refl
+          zeros (suc k) zero = refl
+          zeros (suc k) (suc i) = zeros k i
+
+      reached-closed : (t x s q : ℕ) → x < n → reached (idOf t x) ≡ true → parent (v t x) t s q ≡ true → reached (idOf s q) ≡ true
+      unfolding reached
+      reached-closed t x s q lx e d =
+          let w = any-elim n (λ p. has m p && history n v r p (idOf t x)) e in
+          let h : has m (w .0) ≡ true = and-left _ (history n v r (w .0) (idOf t x)) (w .2) in
+          any-intro n _ (w .0) (w .1) (and-both h (history-closed (w .0) t x s q (w .1) lx (and-right (has m (w .0)) _ (w .2)) d))
+
+      -- the filled masks name exactly what is reached
+      masks-reached : (t q : ℕ) → 1 ≤ t → q < slots → marked (reachMasks n v r m) t q ≡ any n (λ p. has m p && history n v r p (idOf t q))
+      unfolding reachMasks first-masks reached
+      masks-reached t q lt lq = bool-ext
+          (fill-formed (λ s q. reached (idOf s q)) reached-closed (r - 1) first-masks first-length (omega arith) start t q lt)
+          (λ e.
+          let w = any-elim n (λ p. has m p && history n v r p (idOf t q)) e in
+          rw (id-round t q lq, id-member t q lq)
+          at (closed-history (fill n v first-masks (r - 1)) (fill-closed (r - 1) first-masks first-length (omega arith) top) r r (w .0) (idOf t q) hr (w .1)
+          (fill-keeps (r - 1) first-masks first-length (omega arith) r (w .0) lr
+          (first-marked r (w .0) lr ∙ and-both (eq-eqb r r refl) (and-left _ (history n v r (w .0) (idOf t q)) (w .2))))
+          (and-right (has m (w .0)) _ (w .2))))
+        where
+          start : (s q : ℕ) → 1 ≤ s → marked first-masks s q ≡ true → reached (idOf s q) ≡ true
+          start s q ls e =
+              let d : (eqb r s && has m q) ≡ true = sym (first-marked s q ls) ∙ e in
+              let h : has m q ≡ true = and-right (eqb r s) _ d in
+              rw (← eqb-true r s (and-left _ _ d)) (any-intro n (λ p. has m p && history n v r p (idOf r q)) q (has-bound n m q small h)
+              (and-both h (by-self n v r r q lr)))
+
+          top : Closed (suc (r - 1)) first-masks
+          top t x s q l lt lx e d =
+              absurd (omega (arith, eqb-true r t (and-left _ _ (sym (first-marked t x (omega arith)) ∙ e))))
+
+    -- those of one vertex name exactly its history
+    masks-history : (p : ℕ) → p < n → (t q : ℕ) → 1 ≤ t → q < slots → marked (historyMasks n v r p) t q ≡ history n v r p (idOf t q)
+    masks-history p lp t q lt lq = masks-reached (2 ^ p) (pow-lt lp) t q lt lq ∙ bool-ext
+        (λ e.
+        let w = any-elim n (λ x. has (2 ^ p) x && history n v r x (idOf t q)) e in
+        let same : p ≡ w .0 = eqb-true p (w .0) (sym (has-one p (w .0)) ∙ and-left _ _ (w .2)) in
+        rw same (and-right (has (2 ^ p) (w .0)) _ (w .2)))
+        (λ e. any-intro n (λ x. has (2 ^ p) x && history n v r x (idOf t q)) p lp (and-both (has-one p p ∙ eq-eqb p p refl) e))
 
 -- the claim for all edges
+pub reach-claim : (n : ℕ) → ReachClaim n
+reach-claim n v g W r m lr hr small t q lt ht lq = masks-reached n v (legal-range n g .high) (edges n v g W) r lr hr m small t q lt lq
+
+-- and for one vertex
 pub history-claim : (n : ℕ) → HistoryClaim n
 history-claim n v g W r p h t q lt ht lq =
     let a = W .admitted r p h in
-    masks-history n v (legal-range n g .high) (edges n v g W) r p (a .round-low) (a .round-high) (a .source-low) t q lt lq
+    masks-history n v (legal-range n g .high) (edges n v g W) r (a .round-low) (a .round-high) p (a .source-low) t q lt lq
 
 -- ---- bodies cut off before their weak ids
 
@@ -347,5 +381,5 @@ pub strong-history-claim : (n : ℕ) → StrongHistoryClaim n
 strong-history-claim n v g W r p h t q lt ht lq =
     let a = W .admitted r p h in
     let k = legal-range n g .high in
-    masks-history n (cut n v g W) k (cut-edges n v g W) r p (a .round-low) (a .round-high) (a .source-low) t q lt lq
+    masks-history n (cut n v g W) k (cut-edges n v g W) r (a .round-low) (a .round-high) p (a .source-low) t q lt lq
     ∙ cut-history n v g W r p t q (omega (arith, a .source-low)) lq h

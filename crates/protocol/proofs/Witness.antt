@@ -21,7 +21,7 @@ use Rattle.protocol.specs.Paths.{path}
 use Rattle.protocol.specs.Chain.{walk, chain}
 use Rattle.protocol.specs.Journal.{among, fresh, extend}
 use Rattle.protocol.specs.Premises.{ValidVertices, Voter}
-use Rattle.protocol.specs.Masks.{join, joinWeak, joinParents, joinRound, fill, historyMasks}
+use Rattle.protocol.specs.Masks.{join, joinWeak, joinParents, joinRound, fill, reachMasks}
 use Rattle.protocol.specs.Witness.{early, late, firstOf, vertexOf, witnessDag, honest, DagWitness}
 use Rattle.protocol.proofs.Paths.{parent-present, no-vote-present, weak-present}
 use Rattle.protocol.proofs.Laws.{fresh-masks}
@@ -231,13 +231,13 @@ unfolding witnessDag recordsOf early late firstOf vertexOf lastUpTo committed le
 chain-second = refl
 
 fresh-three : (i : Bool) → fresh 4 (witnessDag i .vertex) [] 3 ≡ 16 ∷ 17 ∷ 18 ∷ 19 ∷ 32 ∷ 34 ∷ 35 ∷ 50 ∷ []
-unfolding witnessDag recordsOf early late vertexOf leader legal has strongOf weakCountOf weakOf among select historyMasks fill joinRound joinParents
+unfolding witnessDag recordsOf early late vertexOf leader legal has strongOf weakCountOf weakOf among select reachMasks fill joinRound joinParents
     joinWeak join
 fresh-three true = fresh-masks 4 (witnessDag true .vertex) refl (formed true) [] 3 refl
 fresh-three false = fresh-masks 4 (witnessDag false .vertex) refl (formed false) [] 3 refl
 
 fresh-four : fresh 4 (witnessDag true .vertex) (16 ∷ 17 ∷ 18 ∷ 19 ∷ 32 ∷ 34 ∷ 35 ∷ 50 ∷ []) 4 ≡ 33 ∷ 48 ∷ 49 ∷ 51 ∷ 67 ∷ []
-unfolding witnessDag recordsOf early late vertexOf leader legal has strongOf weakCountOf weakOf among select historyMasks fill joinRound joinParents
+unfolding witnessDag recordsOf early late vertexOf leader legal has strongOf weakCountOf weakOf among select reachMasks fill joinRound joinParents
     joinWeak join
 fresh-four = fresh-masks 4 (witnessDag true .vertex) refl (formed true) (16 ∷ 17 ∷ 18 ∷ 19 ∷ 32 ∷ 34 ∷ 35 ∷ 50 ∷ []) 4 refl
 

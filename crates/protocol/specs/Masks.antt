@@ -1,10 +1,11 @@
--- The same sets as masks, for programs: the voters, what strong paths reach one round further down, and a history as 32 masks filled by falling round.
+-- The same sets as masks, for programs: the voters, what strong paths reach one round further down, and histories as 32 masks filled by falling round.
 use mathlib.Core.Path.{_≡_}
-use mathlib.Core.Bool.{true, cond}
+use mathlib.Core.Bool.{true, cond, _&&_}
 use mathlib.Core.List.{List}
 use Prim.Native.Nat.{ℕ, zero, suc, _-_, _^_, _≤_, _<_}
 use lib.Bits.{bitOr}
 use lib.ListN.{getD, set, take, replicate}
+use Rattle.record.specs.Below.{any}
 use Rattle.record.specs.Members.{legal, has, add, meets, idOf, idRound, idMember, rounds, slots}
 use Rattle.record.specs.Layout.{strongOf, weakCountOf, weakOf, weakCountPlace}
 use Rattle.protocol.specs.Dag.{Records, held, votes, enough}
@@ -53,9 +54,13 @@ module _ (n : ℕ) where
   fill v h zero = h
   fill v h (suc k) = fill v (joinRoundParents v h (suc (suc k)) n) k
 
+  -- the histories of round r's vertices of the members in the mask m, together, as masks
+  unfoldable pub reachMasks : Records → ℕ → ℕ → List ℕ
+  reachMasks v r m = fill v (join (replicate rounds 0) r m) (r - 1)
+
   -- the history of the vertex of round r and member p, as masks
-  unfoldable pub historyMasks : Records → ℕ → ℕ → List ℕ
-  historyMasks v r p = fill v (join (replicate rounds 0) r (2 ^ p)) (r - 1)
+  abbrev pub historyMasks : Records → ℕ → ℕ → List ℕ
+  historyMasks v r p = reachMasks v r (2 ^ p)
 
   -- the mask of the voters meets the quorum exactly if enough members vote
   abbrev pub VotersClaim : Type 0
@@ -66,7 +71,13 @@ module _ (n : ℕ) where
   ParentsClaim = (v : Records) → ValidVertices n v → (r p t m : ℕ) → p < n → 1 ≤ t → t < r
       → ((q : ℕ) → q < n → has m q ≡ path n v r p (suc t) q) → (q : ℕ) → q < n → has (parents v (suc t) m n) q ≡ path n v r p t q
 
-  -- the masks name exactly the history
+  -- the masks name exactly what is in some of the histories
+  abbrev pub ReachClaim : Type 0
+  ReachClaim = (v : Records) → legal n ≡ true → ValidVertices n v → (r m : ℕ) → 1 ≤ r → r ≤ rounds → m < 2 ^ n
+      → (t q : ℕ) → 1 ≤ t → t ≤ rounds → q < slots
+      → has (getD (reachMasks v r m) (t - 1) 0) q ≡ any n (λ p. has m p && history n v r p (idOf t q))
+
+  -- so those of one vertex name exactly its history
   abbrev pub HistoryClaim : Type 0
   HistoryClaim = (v : Records) → legal n ≡ true → ValidVertices n v → (r p : ℕ) → held v r p ≡ true
       → (t q : ℕ) → 1 ≤ t → t ≤ rounds → q < slots → has (getD (historyMasks v r p) (t - 1) 0) q ≡ history n v r p (idOf t q)

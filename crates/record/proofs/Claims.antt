@@ -4,12 +4,15 @@ use mathlib.Core.Bool.{Bool, true, not}
 use Prim.Native.Nat.{ℕ, _+_, _*_, _≤_, _<_}
 use Rattle.record.specs.Below.{count}
 use Rattle.record.specs.Members.{faulty}
-use Rattle.record.specs.Claims.{WithLaw, CountLaw, MeetLaw}
+use Rattle.record.specs.Claims.{WithLaw, WithoutLaw, CountLaw, MeetLaw}
 use Rattle.record.proofs.Below.{meet}
-use Rattle.record.proofs.Masks.{has-add-same, has-add-other, ones-count}
+use Rattle.record.proofs.Masks.{has-add-same, has-add-other, has-remove-same, has-remove-other, ones-count}
 
 pub with-law : WithLaw
 with-law m p = (has-add-same (m .bits) p, λ q h. has-add-other (m .bits) p q h)
+
+pub without-law : WithoutLaw
+without-law m p = (has-remove-same (m .bits) p, λ q h. has-remove-other (m .bits) p q h)
 
 pub count-law : CountLaw
 count-law n m l = ones-count n m l

@@ -5,4 +5,5 @@ pub mod Rounds
 pub mod Turn
 pub mod Parts
 pub mod Weak
+pub mod Composed
 pub mod Claims

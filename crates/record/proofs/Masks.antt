@@ -1,20 +1,20 @@
 -- Laws of masks of members, with `|`, `&`, `1 << p` and `count_ones`. Assumes nothing.
 use mathlib.Core.Path.{_≡_, refl, sym, ap, ap₂, _∙_}
-use mathlib.Core.Bool.{Bool, true, false, cond, _&&_, _||_, true≢false, or-false}
+use mathlib.Core.Bool.{Bool, true, false, cond, not, _&&_, _||_, true≢false, or-false, and-true}
 use mathlib.Core.Logic.{⊎-elim}
 use Prim.Native.Nat.{ℕ, zero, suc, _+_, _-_, _*_, _/_, _%_, _^_, _≤_, _<_}
 use native.Mathlib.Nat.{pow-suc, mul-comm, one-mul, lt-of-lt-of-le, mod-lt, mod-le, zero-mod, zero-div, div-eq-of-lt, div-div-eq-div-mul}
 use native.Mathlib.Omega.{arith}
 use lib.Arith.{lt-one}
-use lib.Bits.{bitOr, bitAnd, or-shr, or-mod, or-lt, or-add-and, and-le-l, and-le-r, and-shr, and-mod}
+use lib.Bits.{bitOr, bitAnd, bitXor, xor-shr, xor-mod, xor-lt, or-shr, or-mod, or-lt, or-add-and, and-le-l, and-le-r, and-shr, and-mod}
 use lib.Count.{ones, ones-step}
 use lib.Dec.{eqb, leb, ltb, eqb·zero-suc, eqb·suc-zero, eqb·suc-suc, lit<}
 use lib.Pow.{pow-mono, pow-lt, pow-pos, shl-exact}
 use borrow.Author.Tests.{leb-true, leb-false, le-leb, lt-ltb, le-ltb, ltb-true, ltb-false, eqb-true, eq-eqb, ne-eqb}
 use Rattle.record.specs.Below.{count}
-use Rattle.record.specs.Members.{legal, faulty, quorum, leader, has, add, within, meets, rounds, slots}
+use Rattle.record.specs.Members.{legal, faulty, quorum, leader, has, add, remove, within, meets, rounds, slots}
 use Rattle.record.specs.Inner.{largestMask}
-use Rattle.record.proofs.Booleans.{which, and-left, and-right, and-both, or-right, bool-ext, cond-true, cond-false}
+use Rattle.record.proofs.Booleans.{which, and-left, and-right, and-both, and-fails-right, or-right, bool-ext, cond-true, cond-false}
 use Rattle.record.proofs.Below.{count-cong, count-low}
 
 -- ---- the group
@@ -141,6 +141,49 @@ has-add-other m q p h = has-add m q p ∙ rw (ne-eqb q p h) (or-false (has m p))
 -- the added mask stays below 2 ^ k
 pub add-lt : (k m p : ℕ) → m < 2 ^ k → p < k → add m p < 2 ^ k
 add-lt k m p l h = or-lt k m (2 ^ p) l (pow-lt h)
+
+-- the bits of one mask that are not those of the other
+xor-digit : (x y : ℕ) → x < 2 → y < 2 → eqb (bitXor x y) 1 ≡ cond (eqb y 1) (not (eqb x 1)) (eqb x 1)
+xor-digit zero zero p q = refl
+xor-digit zero (suc zero) p q = refl
+xor-digit (suc zero) zero p q = refl
+xor-digit (suc zero) (suc zero) p q = refl
+xor-digit zero (suc (suc y)) p q = absurd (omega arith)
+xor-digit (suc zero) (suc (suc y)) p q = absurd (omega arith)
+xor-digit (suc (suc x)) y p q = absurd (omega arith)
+
+has-xor : (a b p : ℕ) → has (bitXor a b) p ≡ cond (has b p) (not (has a p)) (has a p)
+unfolding has
+has-xor a b p =
+    ap (λ (x : ℕ). eqb (x % 2) 1) (xor-shr a b p) ∙ ap (λ (x : ℕ). eqb x 1) (xor-mod (a / 2 ^ p) (b / 2 ^ p) 1)
+    ∙ xor-digit (a / 2 ^ p % 2) (b / 2 ^ p % 2) (omega arith) (omega arith)
+
+-- the member taken out, and the others
+pub has-remove : (m q p : ℕ) → has (remove m q) p ≡ (has m p && not (eqb q p))
+has-remove m q p =
+    has-xor m (bitAnd m (2 ^ q)) p
+    ∙ ap (λ (b : Bool). cond b (not (has m p)) (has m p)) (has-and m (2 ^ q) p ∙ ap (λ (b : Bool). has m p && b) (has-one q p))
+    ∙ table (has m p) (eqb q p)
+  where
+    table : (a b : Bool) → cond (a && b) (not a) a ≡ (a && not b)
+    table true true = refl
+    table true false = refl
+    table false true = refl
+    table false false = refl
+
+pub has-remove-same : (m p : ℕ) → has (remove m p) p ≡ false
+has-remove-same m p = has-remove m p p ∙ and-fails-right (has m p) (ap not (eq-eqb p p refl))
+
+pub has-remove-other : (m q p : ℕ) → (q ≡ p → ⊥) → has (remove m q) p ≡ has m p
+has-remove-other m q p h = has-remove m q p ∙ rw (ne-eqb q p h) (and-true (has m p))
+
+-- who is left was in
+pub has-removed : (m q p : ℕ) → has (remove m q) p ≡ true → has m p ≡ true
+has-removed m q p e = and-left (has m p) _ (sym (has-remove m q p) ∙ e)
+
+-- the mask stays below 2 ^ k
+pub remove-lt : (k m p : ℕ) → m < 2 ^ k → remove m p < 2 ^ k
+remove-lt k m p l = xor-lt k m (bitAnd m (2 ^ p)) l (omega (arith, and-le-l m (2 ^ p)))
 
 -- masks of k members with the same members are the same
 pub mask-ext : (k a b : ℕ) → a < 2 ^ k → b < 2 ^ k → ((p : ℕ) → p < k → has a p ≡ has b p) → a ≡ b

@@ -1,14 +1,16 @@
 -- What crates above know of the questions 4 to 11. They never open them, but for `Worked` and `Witness` of `agreement`, which compute concrete records.
 use mathlib.Core.Path.{_≡_}
-use mathlib.Core.Bool.{true, false}
+use mathlib.Core.Bool.{true, false, _&&_}
 use mathlib.Core.List.{List}
 use Prim.Native.Nat.{ℕ, _+_, _-_, _^_, _≤_, _<_}
-use lib.ListN.{length}
+use lib.Dec.{eqb}
+use lib.ListN.{length, getD}
 use Rattle.record.specs.Below.{count}
 use Rattle.record.specs.Members.{rounds, faulty, quorum, leader, has, idRound, idMember}
 use Rattle.record.specs.Refusals.{numberOf, numbered}
-use Rattle.record.specs.Layout.{bodySize, strongOf, timeoutsOf, noVotesOf, weakCountOf, weakOf, weakSlots}
-use Rattle.record.specs.Questions.{signerQuestions, recordQuestions, signerRefusal, bodyRefusal}
+use Rattle.record.specs.Layout.{bodySize, strongOf, timeoutsOf, noVotesOf, weakCountOf, weakOf, weakSlots, recordWords}
+use Rattle.record.specs.Questions.{signerQuestions, recordQuestions, signerRefusal, bodyRefusal, recordRefusal}
+use Rattle.record.specs.Questions.{strongOk, lacksLeader, quorumIf}
 
 -- a round, and a member of the group
 pub record Placed (n round member : ℕ) : Type 0 where
@@ -39,12 +41,33 @@ pub record Admitted (n round source : ℕ) (body : List ℕ) : Type 0 where
   pub weak-high : (i : ℕ) → i < weakSlots → i < weakCountOf body → idRound (weakOf body i) + 2 ≤ round
   pub weak-rising : (i : ℕ) → i + 1 < weakSlots → i + 1 < weakCountOf body → weakOf body i < weakOf body (i + 1)
 
+-- what a record is composed of so that it is admitted: what 5 to 11 ask of each value
+pub record Composed (n round source strong timeouts noVotes : ℕ) (weak : List ℕ) : Type 0 where
+  pub placed : Placed n round source
+  pub strong-low : strong < 2 ^ n
+  pub timeouts-low : timeouts < 2 ^ n
+  pub no-votes-low : noVotes < 2 ^ n
+  pub strong-enough : strongOk n round strong ≡ true
+  pub timeouts-wanted : quorumIf n (lacksLeader n round strong) timeouts ≡ true
+  pub no-votes-wanted : quorumIf n (lacksLeader n round strong && eqb source (leader n round)) noVotes ≡ true
+  pub weak-few : length weak ≤ faulty n
+  pub weak-fit : length weak ≤ weakSlots
+  pub weak-member : (i : ℕ) → i < length weak → idMember (getD weak i 0) < n
+  pub weak-low : (i : ℕ) → i < length weak → 1 ≤ idRound (getD weak i 0)
+  pub weak-high : (i : ℕ) → i < length weak → idRound (getD weak i 0) + 2 ≤ round
+  pub weak-rising : (i : ℕ) → i + 1 < length weak → getD weak i 0 < getD weak (i + 1) 0
+
 -- every round and signer with the number 0 is so, and every record
 abbrev pub SignerLaw : Type 0
 SignerLaw = (n round signer : ℕ) → numberOf (signerRefusal n round signer) ≡ 0 → Placed n round signer
 
 abbrev pub AdmittedLaw : Type 0
 AdmittedLaw = (n round source : ℕ) (body : List ℕ) → numberOf (bodyRefusal n round source body) ≡ 0 → Admitted n round source body
+
+-- and every record composed so has the number 0, whatever its tag
+abbrev pub ComposedLaw : Type 0
+ComposedLaw = (n round source strong timeouts noVotes tag : ℕ) (weak : List ℕ) → Composed n round source strong timeouts noVotes weak
+    → numberOf (recordRefusal n (recordWords round source strong timeouts noVotes tag weak)) ≡ 0
 
 -- the number 0 is no question's
 abbrev pub NumberedLaw : Type 0

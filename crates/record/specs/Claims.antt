@@ -1,15 +1,20 @@
 -- The laws of masks and quorums, as claims. `proofs/` has a term of each.
 use mathlib.Core.Path.{_≡_}
-use mathlib.Core.Bool.{Bool, true, not}
+use mathlib.Core.Bool.{Bool, true, false, not}
 use Prim.Native.Nat.{ℕ, _+_, _*_, _^_, _≤_, _<_}
 use lib.Count.{ones}
 use Rattle.record.specs.Below.{count}
-use Rattle.record.specs.Members.{faulty, quorum, has, with}
+use Rattle.record.specs.Members.{faulty, quorum, has, with, without}
 use Rattle.record.specs.declared.members.Members.{Members}
 
 -- with a member added, that member is in, and every other one is in as before
 abbrev pub WithLaw : Type 0
 WithLaw = (m : Members) (p : ℕ) → (has ((with m p) .bits) p ≡ true) × ((q : ℕ) → (p ≡ q → ⊥) → has ((with m p) .bits) q ≡ has (m .bits) q)
+
+-- with a member taken out, that member is out, and every other one is in as before
+abbrev pub WithoutLaw : Type 0
+WithoutLaw = (m : Members) (p : ℕ)
+    → (has ((without m p) .bits) p ≡ false) × ((q : ℕ) → (p ≡ q → ⊥) → has ((without m p) .bits) q ≡ has (m .bits) q)
 
 -- the count of a mask's bits is the number of members that it has
 abbrev pub CountLaw : Type 0

@@ -1,7 +1,7 @@
 -- The group: its rounds, its n members, quorums, leaders, masks of members, and the ids of vertices.
 use mathlib.Core.Bool.{Bool, _&&_}
 use Prim.Native.Nat.{ℕ, _+_, _-_, _*_, _/_, _%_, _^_}
-use lib.Bits.{bitOr}
+use lib.Bits.{bitOr, bitAnd, bitXor}
 use lib.Count.{ones}
 use lib.Dec.{eqb, leb, ltb}
 use Rattle.record.specs.declared.members.Members.{Members}
@@ -45,6 +45,10 @@ has m p = eqb (m / 2 ^ p % 2) 1
 abbrev pub add : ℕ → ℕ → ℕ
 add m p = bitOr m (2 ^ p)
 
+-- the mask m without member p
+abbrev pub remove : ℕ → ℕ → ℕ
+remove m p = bitXor m (bitAnd m (2 ^ p))
+
 -- the mask m has no bit at n or above
 unfoldable pub within : ℕ → ℕ → Bool
 within n m = ltb m (2 ^ n)
@@ -56,6 +60,10 @@ meets n m = leb (quorum n) (ones m)
 -- the members m with member p added
 abbrev pub with : Members → ℕ → Members
 with m p = record { bits = add (m .bits) p; n = m .n }
+
+-- the members m without member p
+abbrev pub without : Members → ℕ → Members
+without m p = record { bits = remove (m .bits) p; n = m .n }
 
 -- the id (01: ref) of the vertex of round r and member p, and its round and member
 abbrev pub idOf : ℕ → ℕ → ℕ

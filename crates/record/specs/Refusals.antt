@@ -6,6 +6,7 @@ use lib.Dec.{eqb}
 use Rattle.record.specs.declared.refusal.Refusal.{Refusal}
 use Rattle.record.specs.declared.refusal.Refusal.the-variants.{None, StateSize, MemberCount, Malformed, RecordSize, Round, Source, MaskBits}
 use Rattle.record.specs.declared.refusal.Refusal.the-variants.{Strong, Timeouts, NoVotes, Weak, Duplicate, Conflict, MissingParent, PastEnd}
+use Rattle.record.specs.declared.refusal.Refusal.the-variants.{Watcher, Signing, FewParents}
 
 -- the paper's number
 abbrev pub numberOf : Refusal → ℕ
@@ -25,6 +26,9 @@ numberOf Duplicate = 12
 numberOf Conflict = 13
 numberOf (MissingParent x) = 14
 numberOf PastEnd = 15
+numberOf Watcher = 16
+numberOf Signing = 17
+numberOf FewParents = 18
 
 -- the id that goes with the number: with 14 the missing parent's, and else 0
 abbrev pub idIn : Refusal → ℕ
@@ -44,6 +48,9 @@ idIn Duplicate = 0
 idIn Conflict = 0
 idIn (MissingParent x) = x
 idIn PastEnd = 0
+idIn Watcher = 0
+idIn Signing = 0
+idIn FewParents = 0
 
 -- a question: its answer, and the refusal if that is no
 abbrev pub Question : Type 0

@@ -19,6 +19,8 @@ pub const TIMEOUTS: usize = 1;
 
 pub const NO_VOTES: usize = 2;
 
+pub const TAG: usize = 3;
+
 pub const WEAK_COUNT: usize = 4;
 
 pub const WEAK: usize = 5;

@@ -1,7 +1,7 @@
 // Rounds, masks of members, quorums and leaders.
 ghost use mathlib.Core.Path.{_≡_};
 ghost use Prim.Native.Nat.{_<_, _≤_, _^_};
-ghost use Rattle.record.specs.Members.{isRound, legal, faulty, quorum, leader, has, add, within, meets, with};
+ghost use Rattle.record.specs.Members.{isRound, legal, faulty, quorum, leader, has, add, remove, within, meets, with, without};
 ghost use Rattle.record.specs.Inner.{largestMask};
 
 pub const ROUNDS: u32 = 32;
@@ -93,6 +93,14 @@ pub fn with_bit(word: u32, p: u32) -> u32
     word | power(p)
 }
 
+// The word with bit p cleared.
+pub fn without_bit(word: u32, p: u32) -> u32
+    requires { ⌜ p < 32 ⌝ }
+    ensures { λ r. ⌜ r ≡ remove word p ⌝ }
+{
+    word ^ (word & power(p))
+}
+
 // The largest mask of n members. Of 32 or more every word is one.
 pub fn largest_mask(n: u32) -> u32
     ensures { λ r. ⌜ r ≡ largestMask n ⌝ }
@@ -117,6 +125,16 @@ impl Members {
     {
         Members {
             bits: with_bit(self.bits, p),
+            n: self.n,
+        }
+    }
+
+    pub fn without(self, p: u32) -> Members
+        requires { ⌜ p < 32 ⌝ }
+        ensures { λ r. ⌜ r ≡ without self p ⌝ }
+    {
+        Members {
+            bits: without_bit(self.bits, p),
             n: self.n,
         }
     }

@@ -95,7 +95,7 @@ fn strong_ok(terms: Terms, round: u32, strong: u32) -> bool
 }
 
 // The strong mask lacks the previous leader.
-fn lacks_leader(terms: Terms, round: u32, strong: u32) -> bool
+pub fn lacks_leader(terms: Terms, round: u32, strong: u32) -> bool
     requires { ⌜ (terms ≡ termsOf (terms .n) round) × (round ≤ rounds) ⌝ }
     ensures { λ r. ⌜ r ≡ lacksLeader (terms .n) round strong ⌝ }
 {
@@ -106,7 +106,7 @@ fn lacks_leader(terms: Terms, round: u32, strong: u32) -> bool
 }
 
 // The mask is a quorum where it is wanted, and 0 where not: 9, of the timeout mask.
-fn quorum_if(n: u32, wanted: bool, mask: u32) -> bool
+pub fn quorum_if(n: u32, wanted: bool, mask: u32) -> bool
     ensures { λ r. ⌜ r ≡ quorumIf n wanted mask ⌝ }
 {
     if wanted {

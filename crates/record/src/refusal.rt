@@ -19,6 +19,9 @@ pub enum Refusal {
     Conflict,
     MissingParent(u32),
     PastEnd,
+    Watcher,
+    Signing,
+    FewParents,
 }
 
 // The paper's number.
@@ -42,6 +45,9 @@ pub fn number(why: Refusal) -> u32
         Refusal::Conflict => 13,
         Refusal::MissingParent(_) => 14,
         Refusal::PastEnd => 15,
+        Refusal::Watcher => 16,
+        Refusal::Signing => 17,
+        Refusal::FewParents => 18,
     }
 }
 
@@ -66,5 +72,8 @@ pub fn missing_id(why: Refusal) -> u32
         Refusal::Conflict => 0,
         Refusal::MissingParent(id) => id,
         Refusal::PastEnd => 0,
+        Refusal::Watcher => 0,
+        Refusal::Signing => 0,
+        Refusal::FewParents => 0,
     }
 }

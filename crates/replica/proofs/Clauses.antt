@@ -5,6 +5,7 @@ use mathlib.Core.List.{List, [], _∷_}
 use mathlib.Core.Logic.{⊎-elim}
 use Prim.Native.Nat.{ℕ, zero, suc, _+_, _-_, _≤_, _<_}
 use native.Mathlib.Omega.{arith}
+use lib.Bits.{bitOr}
 use lib.Dec.{eqb, leb, ltb}
 use lib.ListN.{length, getD, take, drop}
 use borrow.Author.Tests.{leb-true, le-leb, lt-leb, le-ltb, ltb-false, eq-eqb, ne-eqb}
@@ -12,9 +13,11 @@ use Rattle.record.specs.Below.{all}
 use Rattle.record.specs.Members.{legal, rounds, slots, votedRounds}
 use Rattle.record.proofs.Booleans.{which, and-left, and-right, and-fails-left, and-fails-right, or-left, or-right, or-cases, never, bool-ext, passed, failed}
 use Rattle.record.proofs.Below.{all-intro, all-elim}
-use Rattle.replica.specs.Layout.{stateSize, headSize, leadersAt, leadersSize, journalAt, journalSize, cellsAt, zerosAt, zerosSize}
+use Rattle.record.proofs.Masks.{or-zero}
+use Rattle.replica.specs.Layout.{stateSize, leadersAt, leadersSize, journalAt, journalSize, cellsAt}
 use Rattle.replica.specs.State.{memberCount, currentRound, committedRound, leaderCount, journalCount, heldMask, heardMask, votesMask, orderedMask}
-use Rattle.replica.specs.WellFormed.{eachRound, subset, masksWithin, cellOk, leadersOk, journalOk, restZero, every, clauses, wellFormed}
+use Rattle.replica.specs.State.{ownWord, madeRounds, signedRounds}
+use Rattle.replica.specs.WellFormed.{ownOk, eachRound, subset, masksWithin, cellOk, leadersOk, journalOk, restZero, every, clauses, wellFormed}
 use Rattle.replica.proofs.Laws.{blank, part-zero}
 
 -- ---- the five parts of the test
@@ -84,6 +87,21 @@ rest-decides l a b c d r ea ha eb hb ec hc ed hd e =
 
 -- ---- the clauses of the first two parts
 
+-- words 5 to 7
+module _ (l : List ℕ) where
+  pub own-high : memberCount l < ownWord l → false ≡ ownOk l
+  unfolding ownOk
+  own-high h = sym (and-fails-left _ (lt-leb _ _ h))
+
+  module _ (few : ownWord l ≤ memberCount l) where
+    pub own-member : (ownWord l ≡ 0 → ⊥) → true ≡ ownOk l
+    unfolding ownOk
+    own-member h = simp (le-leb _ _ few, ne-eqb _ _ h)
+
+    pub own-watcher : ownWord l ≡ 0 → eqb (bitOr (madeRounds l) (signedRounds l)) 0 ≡ ownOk l
+    unfolding ownOk
+    own-watcher h = or-zero (madeRounds l) (signedRounds l) ∙ simp (le-leb _ _ few, eq-eqb _ _ h)
+
 -- words 0 to 7
 module _ (l : List ℕ) (a : Bool) (ea : a ≡ legal (memberCount l)) where
   pub group-no : not a ≡ true → false ≡ headPart l
@@ -101,9 +119,8 @@ module _ (l : List ℕ) (a : Bool) (ea : a ≡ legal (memberCount l)) where
         pub committed-high : votedRounds < committedRound l → false ≡ headPart l
         committed-high h = simp (passed ea pa, le-leb _ _ low, le-leb _ _ high, lt-leb _ _ h)
 
-        pub zeros-decide : committedRound l ≤ votedRounds → length l ≡ stateSize → (z : Bool) → z ≡ blank l zerosAt headSize → z ≡ headPart l
-        zeros-decide h size z e =
-            simp (passed ea pa, le-leb _ _ low, le-leb _ _ high, le-leb _ _ h, and-true) (e ∙ part-zero l zerosAt zerosSize (omega arith))
+        pub own-decides : committedRound l ≤ votedRounds → (z : Bool) → z ≡ ownOk l → z ≡ headPart l
+        own-decides h z e = simp (passed ea pa, le-leb _ _ low, le-leb _ _ high, le-leb _ _ h, and-true) e
 
 -- the masks and the cells
 module _ (l : List ℕ) (a : Bool) (ea : a ≡ eachRound (masksWithin l)) where

@@ -22,12 +22,12 @@ use Rattle.record.proofs.Rounds.{round-range}
 use Rattle.protocol.specs.Journal.{among}
 use Rattle.protocol.proofs.Lists.{among-none, among-append, among-one, once, once-append, once-none}
 use Rattle.record.specs.Layout.{bodySize}
-use Rattle.replica.specs.Layout.{stateSize, cellAt, leadersAt, leadersSize, journalAt, journalSize, zerosAt, zerosSize}
+use Rattle.replica.specs.Layout.{stateSize, cellAt, leadersAt, leadersSize, journalAt, journalSize}
 use Rattle.replica.specs.State.{memberCount, currentRound, committedRound, leaderCount, journalCount, heldMask, heardMask, votesMask}
 use Rattle.replica.specs.State.{timeoutsMask, noVotesMask, orderedMask, leaderWord, journalWord, leaderList, journalList, cell, heldId}
 use Rattle.replica.specs.State.{orderedId}
 use Rattle.replica.specs.Parents.{parentsHeld}
-use Rattle.replica.specs.WellFormed.{subset, masksWithin, cellOk, leaderOk, lastLeaderRound, leadersOk, entryOk, journalOk}
+use Rattle.replica.specs.WellFormed.{ownOk, subset, masksWithin, cellOk, leaderOk, lastLeaderRound, leadersOk, entryOk, journalOk}
 use Rattle.replica.specs.WellFormed.{restZero, wellFormed}
 
 -- ---- the facts
@@ -39,7 +39,7 @@ pub record Front (l : List ℕ) : Type 0 where
   pub high : memberCount l ≤ slots
   pub round-low : 1 ≤ currentRound l
   pub round-high : currentRound l ≤ rounds + 1
-  pub zeros : (i : ℕ) → i < zerosSize → getD l (zerosAt + i) 0 ≡ 0
+  pub own : ownOk l ≡ true
 
 -- the masks but for the ordered ones
 pub record Masks (l : List ℕ) : Type 0 where
@@ -297,7 +297,7 @@ formed l size e =
     let e1 = and-right (legal n) _ e in
     let e2 = and-right (leb 1 (currentRound l) && leb (currentRound l) (rounds + 1)) _ e1 in
     let e3 = and-right (leb (committedRound l) votedRounds) _ e2 in
-    let e4 = and-right (all zerosSize (λ i. eqb (getD l (zerosAt + i) 0) 0)) _ e3 in
+    let e4 = and-right (ownOk l) _ e3 in
     let e5 = and-right (all rounds (λ i. masksWithin l (i + 1))) _ e4 in
     let e6 = and-right (all rounds (λ i. subset (votesMask l (i + 1)) (heardMask l (i + 1))) && eqb (votesMask l 1) 0) _ e5 in
     let e7 = and-right (all rounds (λ i. subset (orderedMask l (i + 1)) (heldMask l (i + 1)))) _ e6 in
@@ -326,7 +326,7 @@ formed l size e =
         high = g .high;
         round-low = leb-true _ _ (and-left _ _ round);
         round-high = leb-true _ _ (and-right (leb 1 (currentRound l)) _ round);
-        zeros = λ i k. eqb-true _ _ (all-elim zerosSize (λ i. eqb (getD l (zerosAt + i) 0) 0) (and-left _ _ e3) i k);
+        own = and-left (ownOk l) _ e3;
       };
       masks = record {
         held-low = λ r a b. bounds l size r (masks r a b) .0;
@@ -374,7 +374,7 @@ well-formed l S =
     and-both (S .front .members)
     (and-both (and-both (le-leb _ _ (S .front .round-low)) (le-leb _ _ (S .front .round-high)))
     (and-both (le-leb _ _ (S .leaders .committed-high))
-    (and-both (all-intro zerosSize _ (λ i k. eq-eqb _ _ (S .front .zeros i k)))
+    (and-both (S .front .own)
     (and-both (every-round l size (masksWithin l) (λ r a b.
     and-both (bounded l size _ (M .held-low r a b))
     (and-both (bounded l size _ (M .heard-low r a b))

@@ -19,11 +19,14 @@ use Rattle.protocol.proofs.Lists.{once}
 use Rattle.protocol.proofs.Laws.{records-ext}
 use Rattle.record.specs.Layout.{bodySize}
 use Rattle.replica.specs.Layout.{orderedKind, heldKind, heardKind, votesKind, timeoutsKind, noVotesKind, currentRoundAt}
-use Rattle.replica.specs.Layout.{journalAt, journalSize, cellsAt, memberCountAt, committedRoundAt, leaderCountAt, journalCountAt, zerosAt}
+use Rattle.replica.specs.Layout.{journalAt, journalSize, cellsAt, memberCountAt, committedRoundAt, leaderCountAt, journalCountAt, ownAt}
+use Rattle.replica.specs.Layout.{madeAt, signedAt}
 use Rattle.replica.specs.Layout.{masksAt, heldAt, heardAt, votesAt, timeoutsAt, noVotesAt, orderedAt, cellAt, headSize, leadersAt, leadersSize}
+use Rattle.replica.specs.State.{memberCount, ownWord, madeRounds, signedRounds}
+use Rattle.replica.specs.WellFormed.{ownOk}
 use Rattle.replica.specs.State.{leaderCount, journalCount, heldMask, orderedMask, leaderList, journalList, cell, vertices, firsts, heldId, orderedId}
 use Rattle.replica.specs.Parents.{isParent, missing, parentsHeld}
-use Rattle.replica.proofs.Formed.{Front, Masks, Cells, Leaders, Journal, led-more}
+use Rattle.replica.proofs.Formed.{Front, Masks, Cells, Leaders, Journal, WellFormed, led-more}
 
 -- l′ is as long as l, and has the same words where K holds
 pub record Keeps (K : ℕ → Type 0) (l l′ : List ℕ) : Type 0 where
@@ -73,11 +76,19 @@ parents-more l l′ f r body e =
     go y (inl p) d = and-fails-right (isParent r body y) (ap not (f y (not-false (heldId l y) (rw p at d))))
     go y (inr p) d = and-fails-left _ p
 
+-- ---- the own words
+
+-- what is asked of them depends on words 0 and 5 to 7
+pub own-same : (l l′ : List ℕ) → memberCount l′ ≡ memberCount l → ownWord l′ ≡ ownWord l → madeRounds l′ ≡ madeRounds l → signedRounds l′ ≡ signedRounds l
+    → ownOk l′ ≡ ownOk l
+unfolding ownOk
+own-same l l′ n p m s = rw (n, p, m, s)
+
 -- ---- the parts of a state
 
 module _ (K : ℕ → Type 0) (l l′ : List ℕ) (p : Keeps K l l′) where
   -- words 0, 1 and 5 to 7
-  pub front-kept : ((j : ℕ) → j ≤ currentRoundAt → K j) → ((j : ℕ) → zerosAt ≤ j → j < headSize → K j) → Front l → Front l′
+  pub front-kept : ((j : ℕ) → j ≤ currentRoundAt → K j) → ((j : ℕ) → ownAt ≤ j → j < headSize → K j) → Front l → Front l′
   front-kept f g F =
       let n = p .same memberCountAt (f memberCountAt (omega arith)) in
       let r = p .same currentRoundAt (f currentRoundAt (omega arith)) in
@@ -87,7 +98,8 @@ module _ (K : ℕ → Type 0) (l l′ : List ℕ) (p : Keeps K l l′) where
         high = rw n (F .high);
         round-low = rw r (F .round-low);
         round-high = rw r (F .round-high);
-        zeros = λ i h. p .same (zerosAt + i) (g (zerosAt + i) (omega arith) (omega arith)) ∙ F .zeros i h;
+        own = own-same l l′ n (p .same ownAt (g ownAt (omega arith) (omega arith))) (p .same madeAt (g madeAt (omega arith) (omega arith)))
+            (p .same signedAt (g signedAt (omega arith) (omega arith))) ∙ F .own;
       }
 
   -- the masks but for the ordered ones
@@ -185,3 +197,38 @@ module _ (K : ℕ → Type 0) (l l′ : List ℕ) (p : Keeps K l l′) where
           names = λ y. ap (λ (j : List ℕ). among j y) e ∙ J .names y ∙ sym (ordered-id-kept y);
           rest = λ i a b. p .same (journalAt + i) (f (journalAt + i) (omega arith) (omega arith)) ∙ J .rest i (omega arith) b;
         }
+
+-- ---- a word of the head
+
+-- a word that neither the masks, the cells nor the lists depend on: the current round, and the own words
+pub record Spare (i : ℕ) : Type 0 where
+  pub head : i < headSize
+  pub not-members : i ≡ memberCountAt → ⊥
+  pub not-committed : i ≡ committedRoundAt → ⊥
+  pub not-leaders : i ≡ leaderCountAt → ⊥
+  pub not-journal : i ≡ journalCountAt → ⊥
+
+-- changed, it leaves a state formed where the front is
+pub formed-word : (l : List ℕ) (i x : ℕ) → Spare i → Front (set l i x) → WellFormed l → WellFormed (set l i x)
+formed-word l i x s F S = record {
+  size = p .size ∙ S .size;
+  front = F;
+  masks = masks-kept K l l′ p (λ e. s .not-members (sym e)) (λ r k c d h e. omega (arith, s .head)) (S .masks);
+  cells = cells-kept K l l′ p held (λ j c e. omega (arith, s .head)) (λ e. s .not-members (sym e)) (S .cells);
+  leaders = leaders-kept K l l′ p (λ e. s .not-members (sym e)) (λ e. s .not-committed (sym e)) (λ e. s .not-leaders (sym e))
+      (λ j c d e. omega (arith, s .head)) (λ y e. held-id-kept K l l′ p held y ∙ e) (S .leaders);
+  journal = journal-kept K l l′ p (λ r c d e. omega (arith, s .head)) (λ e. s .not-members (sym e)) (λ e. s .not-journal (sym e))
+      (λ j c d e. omega (arith, s .head)) (λ r q c d e. held-kept K l l′ p held r q c d ∙ e) (S .journal);
+}
+  where
+    l′ : List ℕ
+    l′ = set l i x
+
+    K : ℕ → Type 0
+    K j = j ≡ i → ⊥
+
+    p : Keeps K l l′
+    p = keeps-set K l i x (λ j k e. k e)
+
+    held : (r : ℕ) → 1 ≤ r → r ≤ rounds → K (heldAt r)
+    held r c d e = omega (arith, s .head)

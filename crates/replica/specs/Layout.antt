@@ -22,11 +22,19 @@ leaderCountAt = 3
 abbrev pub journalCountAt : ℕ
 journalCountAt = 4
 
-abbrev pub zerosAt : ℕ
-zerosAt = 5
+-- the own member plus 1, or a watcher's word
+abbrev pub ownAt : ℕ
+ownAt = 5
 
-abbrev pub zerosSize : ℕ
-zerosSize = 3
+abbrev pub watcher : ℕ
+watcher = 0
+
+-- the rounds for which a record was made, and those for which a no-vote was signed: bit r - 1 for round r
+abbrev pub madeAt : ℕ
+madeAt = 6
+
+abbrev pub signedAt : ℕ
+signedAt = 7
 
 abbrev pub headSize : ℕ
 headSize = 8

@@ -7,6 +7,7 @@ use Rattle.record.specs.Members.{leader, has, add, idRound, idMember, isRound}
 use Rattle.record.specs.Layout.{bodySize}
 use Rattle.protocol.specs.Dag.{Records, Dag}
 use Rattle.replica.specs.Layout.{memberCountAt, currentRoundAt, committedRoundAt, leaderCountAt, journalCountAt, heldKind, heardKind}
+use Rattle.replica.specs.Layout.{ownAt, madeAt, signedAt}
 use Rattle.replica.specs.Layout.{votesKind, timeoutsKind, noVotesKind, orderedKind, maskAt, leadersAt, journalAt, cellAt}
 
 -- words 0 to 4
@@ -24,6 +25,16 @@ leaderCount l = getD l leaderCountAt 0
 
 abbrev pub journalCount : List ℕ → ℕ
 journalCount l = getD l journalCountAt 0
+
+-- words 5 to 7
+abbrev pub ownWord : List ℕ → ℕ
+ownWord l = getD l ownAt 0
+
+abbrev pub madeRounds : List ℕ → ℕ
+madeRounds l = getD l madeAt 0
+
+abbrev pub signedRounds : List ℕ → ℕ
+signedRounds l = getD l signedAt 0
 
 -- the masks of round r
 abbrev pub maskOf : List ℕ → ℕ → ℕ → ℕ

@@ -11,8 +11,9 @@ use Rattle.record.specs.Refusals.{numberOf}
 use Rattle.record.specs.Layout.{bodySize}
 use Rattle.record.specs.Questions.{bodyRefusal}
 use Rattle.protocol.specs.Journal.{among}
-use Rattle.replica.specs.Layout.{heldKind, heardKind, votesKind, orderedKind, zerosAt, zerosSize, leadersSize, journalSize, cellAt}
+use Rattle.replica.specs.Layout.{heldKind, heardKind, votesKind, orderedKind, watcher, leadersSize, journalSize, cellAt}
 use Rattle.replica.specs.State.{memberCount, currentRound, committedRound, leaderCount, journalCount, maskOf, heldMask, heardMask, votesMask}
+use Rattle.replica.specs.State.{ownWord, madeRounds, signedRounds}
 use Rattle.replica.specs.State.{timeoutsMask, noVotesMask, orderedMask, leaderWord, journalWord, journalList, cell, heldId, orderedId}
 use Rattle.replica.specs.Parents.{parentsHeld}
 
@@ -23,6 +24,10 @@ eachRound t = all rounds (λ i. t (i + 1))
 -- the mask a lies within the mask b
 abbrev pub subset : ℕ → ℕ → Bool
 subset a b = eqb (bitAnd a b) a
+
+-- the own member is below n; a watcher has made no record and signed no no-vote
+unfoldable pub ownOk : List ℕ → Bool
+ownOk l = leb (ownWord l) (memberCount l) && cond (eqb (ownWord l) watcher) (eqb (madeRounds l) 0 && eqb (signedRounds l) 0) true
 
 -- no mask of round r has a bit at n or above
 unfoldable pub masksWithin : List ℕ → ℕ → Bool
@@ -87,7 +92,7 @@ clauses l =
     legal (memberCount l)
     ∷ (leb 1 (currentRound l) && leb (currentRound l) (rounds + 1))
     ∷ leb (committedRound l) votedRounds
-    ∷ all zerosSize (λ i. eqb (getD l (zerosAt + i) 0) 0)
+    ∷ ownOk l
     ∷ eachRound (masksWithin l)
     ∷ (kindWithin l votesKind heardKind && eqb (votesMask l 1) 0)
     ∷ kindWithin l orderedKind heldKind

@@ -21,7 +21,15 @@ pub const LEADER_COUNT: usize = 3;
 
 pub const JOURNAL_COUNT: usize = 4;
 
-pub const ZEROS: usize = 5;
+// The own member plus 1, or a watcher's word.
+pub const OWN: usize = 5;
+
+pub const WATCHER: u32 = 0;
+
+// The rounds for which a record was made, and those for which a no-vote was signed: bit r - 1 for round r.
+pub const MADE: usize = 6;
+
+pub const SIGNED: usize = 7;
 
 pub const HEAD_SIZE: usize = 8;
 

@@ -7,6 +7,7 @@ use super::answer::Answer;
 use super::answer::refuse;
 use super::layout::CURRENT_ROUND;
 use super::layout::MEMBER_COUNT;
+use super::layout::OWN;
 use super::layout::STATE_SIZE;
 use record::members::is_legal;
 use record::refusal::Refusal;
@@ -22,9 +23,9 @@ fn clear(state: &mut [u32])
     }
 }
 
-// Opens the state for a group of n members.
-pub fn open(state: &mut [u32], n: u32) -> Answer
-    ensures { λ r. ⌜ told r (now (state .exit)) ≡ openState (now (state .entry)) n ⌝ }
+// Opens the state for a group of n members. The own word is the own member plus 1, or `WATCHER`.
+pub fn open(state: &mut [u32], n: u32, own: u32) -> Answer
+    ensures { λ r. ⌜ told r (now (state .exit)) ≡ openState (now (state .entry)) n own ⌝ }
 {
     if state.len() != STATE_SIZE {
         return refuse(Refusal::StateSize);
@@ -32,9 +33,13 @@ pub fn open(state: &mut [u32], n: u32) -> Answer
     if !is_legal(n) {
         return refuse(Refusal::MemberCount);
     }
+    if n < own {
+        return refuse(Refusal::Source);
+    }
     clear(state);
     state[MEMBER_COUNT] = n;
     state[CURRENT_ROUND] = 1;
+    state[OWN] = own;
     Answer {
         refusal: Refusal::None,
         leaders: 0,

@@ -10,13 +10,12 @@ ghost use Rattle.record.specs.Inner.{Known};
 ghost use Rattle.record.specs.Layout.{bodySize};
 ghost use Rattle.replica.specs.Layout.{cellAt, stateSize, kinds, leadersSize, journalSize, roundSize};
 ghost use Rattle.replica.specs.State.{memberCount, committedRound, leaderCount, journalCount, orderedMask};
-ghost use Rattle.replica.specs.WellFormed.{eachRound, masksWithin, kindWithin, recordOk, cellOk, leaderOk, lastLeaderRound, leadersOk, journalOk};
+ghost use Rattle.replica.specs.WellFormed.{ownOk, eachRound, masksWithin, kindWithin, recordOk, cellOk, leaderOk, lastLeaderRound, leadersOk, journalOk};
 ghost use Rattle.replica.specs.WellFormed.{restZero, every, clauses, wellFormed};
 ghost use Rattle.replica.specs.Inner.{Grouped, GroupedRound};
 use super::layout::CELLS;
 use super::layout::COMMITTED_ROUND;
 use super::layout::CURRENT_ROUND;
-use super::layout::HEAD_SIZE;
 use super::layout::HEARD;
 use super::layout::HELD;
 use super::layout::JOURNAL;
@@ -25,13 +24,16 @@ use super::layout::JOURNAL_SIZE;
 use super::layout::LEADER_COUNT;
 use super::layout::LEADERS;
 use super::layout::LEADERS_SIZE;
+use super::layout::MADE;
 use super::layout::MEMBER_COUNT;
 use super::layout::NO_VOTES;
 use super::layout::ORDERED;
+use super::layout::OWN;
 use super::layout::ROUND_SIZE;
+use super::layout::SIGNED;
 use super::layout::TIMEOUTS;
 use super::layout::VOTES;
-use super::layout::ZEROS;
+use super::layout::WATCHER;
 use super::layout::cell_at;
 use super::layout::is_id;
 use super::layout::masks_at;
@@ -69,7 +71,21 @@ fn is_zero(part: &[u32]) -> bool
     joined == 0
 }
 
-// Words 0 to 7: the member count, the current round, the committed round and the three zeros.
+// Words 5 to 7. A watcher has made no record and signed no no-vote.
+fn own_ok(state: &[u32]) -> bool
+    requires { ⌜ length (now state) ≡ stateSize ⌝ }
+    ensures { λ r. ⌜ r ≡ ownOk (now (state .entry)) ⌝ }
+{
+    if state[MEMBER_COUNT] < state[OWN] {
+        return false;
+    }
+    if state[OWN] != WATCHER {
+        return true;
+    }
+    state[MADE] | state[SIGNED] == 0
+}
+
+// Words 0 to 2 and 5 to 7: the member count, the current round, the committed round and the own words.
 fn head_ok(state: &[u32]) -> bool
     requires { ⌜ length (now state) ≡ stateSize ⌝ }
     ensures { λ r. ⌜ r ≡ every (take 4 (clauses (now (state .entry)))) ⌝ }
@@ -86,7 +102,7 @@ fn head_ok(state: &[u32]) -> bool
     if VOTED_ROUNDS < state[COMMITTED_ROUND] {
         return false;
     }
-    is_zero(&state[ZEROS..HEAD_SIZE])
+    own_ok(state)
 }
 
 // No mask of the round has a bit at n or above.

@@ -4,6 +4,7 @@ use mathlib.Core.List.{List, [], _∷_}
 use Prim.Native.Nat.{ℕ}
 use lib.ListN.{getD}
 use Rattle.record.specs.declared.refusal.Refusal.the-variants.{None}
+use Rattle.replica.specs.Layout.{watcher}
 use Rattle.replica.specs.Outcome.{Outcome, unchanged}
 use Rattle.replica.specs.Opening.{openState}
 use Rattle.replica.specs.Status.{statusOf}
@@ -23,10 +24,10 @@ isOther First = false
 isOther Timeout = false
 isOther NoVote = false
 
--- the call on a state, with the line's words; none leaves the state as it is
+-- the call on a state, with the line's words; none leaves the state as it is. A state is opened for a watcher
 abbrev pub callFor : Kind → List ℕ → List ℕ → Outcome
 callFor Other words state = unchanged None state
-callFor Open words state = openState state (getD words 0 0)
+callFor Open words state = openState state (getD words 0 0) watcher
 callFor Vertex words state = takeVertex state words
 callFor First words state = takeFirstMessage state words
 callFor Timeout words state = takeTimeout state (getD words 0 0) (getD words 1 0)

@@ -13,6 +13,7 @@ use ordering::notes::take_timeout;
 use ordering::vertex::take_vertex;
 use record::refusal::number;
 use replica::answer::Answer;
+use replica::layout::WATCHER;
 use replica::opening::open;
 use replica::status::status;
 use transcript::command::Kind;
@@ -47,7 +48,7 @@ pub fn reply(state: &mut [u32], line: &[u8], out: &mut [u8], at: usize) -> usize
     let words = command.words;
     match kind {
         Kind::Other => put_other(out, at),
-        Kind::Open => put_outcome(open(state, words[0]), state, out, at),
+        Kind::Open => put_outcome(open(state, words[0], WATCHER), state, out, at),
         Kind::Vertex => put_outcome(take_vertex(state, &words), state, out, at),
         Kind::First => put_outcome(take_first_message(state, &words), state, out, at),
         Kind::Timeout => put_outcome(take_timeout(state, words[0], words[1]), state, out, at),

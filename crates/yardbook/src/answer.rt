@@ -1,6 +1,7 @@
 // What the exported calls answer, laid out as C lays out a struct.
 ghost use mathlib.Core.Path.{_≡_};
-ghost use Rattle.yardbook.specs.Plain.{plainOf, statusPlain};
+ghost use Rattle.yardbook.specs.Plain.{plainOf, statusPlain, proposalPlain};
+use record::layout::RECORD_SIZE;
 use record::refusal::missing_id;
 use record::refusal::number;
 
@@ -21,6 +22,13 @@ pub struct Status {
     pub journal_count: u32,
 }
 
+// The answer, and the words of the record.
+#[repr(C)]
+pub struct Proposal {
+    pub answer: Answer,
+    pub words: [u32; RECORD_SIZE],
+}
+
 // A part of the lent words, as its first word and how many there are.
 #[repr(C)]
 pub struct Part {
@@ -39,6 +47,15 @@ pub fn plain_answer(answer: replica::answer::Answer) -> Answer
         leaders: answer.leaders,
         journal: answer.journal,
     }
+}
+
+pub fn plain_proposal(proposal: proposing::making::Proposal) -> Proposal
+    ensures { λ r. ⌜ r ≡ proposalPlain proposal ⌝ }
+{
+    let inner = proposal.answer;
+    let answer = plain_answer(inner);
+    let words = proposal.words;
+    Proposal { answer, words }
 }
 
 pub fn plain_status(status: replica::answer::Status) -> Status

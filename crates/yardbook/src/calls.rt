@@ -7,16 +7,22 @@ ghost use Rattle.replica.specs.Opening.{openState};
 ghost use Rattle.replica.specs.Status.{statusOf};
 ghost use Rattle.replica.specs.Lists.{askList, askLeaders, askJournal, handList, handLeaders, handJournal};
 ghost use Rattle.ordering.specs.Calls.{takeVertex, takeFirstMessage, takeTimeout, takeNoVote};
-ghost use Rattle.yardbook.specs.Plain.{plain, statusPlain, spanOf};
+ghost use Rattle.proposing.specs.Making.{proposeVertex};
+ghost use Rattle.proposing.specs.Signing.{signNoVote};
+ghost use Rattle.yardbook.specs.Plain.{plain, proposed, statusPlain, spanOf};
 use super::answer::Answer;
 use super::answer::Part;
+use super::answer::Proposal;
 use super::answer::Status;
 use super::answer::plain_answer;
+use super::answer::plain_proposal;
 use super::answer::plain_status;
 use ordering::first::take_first_message;
 use ordering::notes::take_no_vote;
 use ordering::notes::take_timeout;
 use ordering::vertex::take_vertex;
+use proposing::making::propose;
+use proposing::signing::sign_no_vote;
 use replica::layout::JOURNAL;
 use replica::layout::JOURNAL_COUNT;
 use replica::layout::LEADER_COUNT;
@@ -27,10 +33,10 @@ use replica::opening::open;
 use replica::status::status;
 
 #[no_mangle]
-pub extern "C" fn yardbook_open(state: &mut [u32], n: u32) -> Answer
-    ensures { λ r. ⌜ plain r (now (state .exit)) ≡ openState (now (state .entry)) n ⌝ }
+pub extern "C" fn yardbook_open(state: &mut [u32], n: u32, own: u32) -> Answer
+    ensures { λ r. ⌜ plain r (now (state .exit)) ≡ openState (now (state .entry)) n own ⌝ }
 {
-    plain_answer(open(state, n))
+    plain_answer(open(state, n, own))
 }
 
 #[no_mangle]
@@ -59,6 +65,20 @@ pub extern "C" fn yardbook_take_no_vote(state: &mut [u32], round: u32, signer: u
     ensures { λ r. ⌜ plain r (now (state .exit)) ≡ takeNoVote (now (state .entry)) round signer ⌝ }
 {
     plain_answer(take_no_vote(state, round, signer))
+}
+
+#[no_mangle]
+pub extern "C" fn yardbook_propose(state: &mut [u32], tag: u32) -> Proposal
+    ensures { λ r. ⌜ proposed r (now (state .exit)) ≡ proposeVertex (now (state .entry)) tag ⌝ }
+{
+    plain_proposal(propose(state, tag))
+}
+
+#[no_mangle]
+pub extern "C" fn yardbook_sign_no_vote(state: &mut [u32]) -> Answer
+    ensures { λ r. ⌜ plain r (now (state .exit)) ≡ signNoVote (now (state .entry)) ⌝ }
+{
+    plain_answer(sign_no_vote(state))
 }
 
 #[no_mangle]

@@ -1,7 +1,7 @@
 //! `lines`: inputs for `sheetlog`, drawn from a seed.
 //!
-//! - `lines calls SEED N OPTION`: the calls of one replica of a simulated group of N members;
-//!   OPTION is calm, typical, rough or wild.
+//! - `lines calls SEED N OPTION`: the calls of one watcher's replica of a simulated group of N
+//!   members; OPTION is calm, typical, rough or wild.
 //! - `lines near SEED COUNT`: lines that are of the form or miss it by a little.
 //! - `lines bytes SEED COUNT`: that many bytes of any kind.
 
@@ -53,7 +53,11 @@ fn options(name: &str) -> Option<Options> {
 }
 
 fn calls(seed: u64, n: u32, options: &Options) -> Option<Vec<u8>> {
-    let run = simulate(seed, n, options);
+    let watchers = Options {
+        members: 0,
+        ..options.clone()
+    };
+    let run = simulate(seed, n, &watchers);
     let calls = run.replicas.first()?;
     Some(
         calls
@@ -80,7 +84,14 @@ fn near(seed: u64, count: usize) -> Vec<u8> {
 
 fn near_line(rng: &mut Rng) -> Vec<u8> {
     let record = RECORD_WORDS as u32;
-    let letters = [('O', 1), ('V', record), ('F', record), ('T', 2), ('N', 2), ('L', 1)];
+    let letters = [
+        ('O', 1),
+        ('V', record),
+        ('F', record),
+        ('T', 2),
+        ('N', 2),
+        ('L', 1),
+    ];
     let (letter, wanted) = letters[rng.below(6) as usize];
     let length = if rng.percent(80) {
         wanted

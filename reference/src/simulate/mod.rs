@@ -1,15 +1,18 @@
 //! Random lists of calls for replicas of one group, all drawn from a seed.
 //!
-//! First a world is drawn: the vertices that the members of a group make, round by round. Then
-//! each replica gets that world's vertices and messages in an order of its own, with losses,
-//! retries and calls that are to be refused in between.
+//! Either a world is drawn first: the vertices that the members of a group make, round by round.
+//! Then each replica gets that world's vertices and messages in an order of its own, with losses,
+//! retries and calls that are to be refused in between; a member's replica also makes records and
+//! signs no-votes, which nobody gets. Or the members' own states make all that is sent.
 
 mod noise;
 mod options;
+mod proposing;
 mod replica;
 mod world;
 
 pub use options::Options;
+pub use proposing::simulate_proposing;
 
 use crate::call::Call;
 use crate::group::Group;

@@ -1,7 +1,7 @@
 //! Calls between the ordinary ones, mostly to be refused: repeated, conflicting, damaged, out of
 //! range.
 
-use super::replica::Replica;
+use super::replica::{own_call, Replica};
 use crate::call::Call;
 use crate::group::bit;
 use crate::layout::{vertex_id, LAST_ROUND, RECORD_WORDS};
@@ -15,15 +15,16 @@ const EDGE_WORDS: [u32; 7] = [0, 1, 2, 15, 16, 0xFFFF, u32::MAX];
 impl Replica<'_> {
     /// Adds one call of a kind drawn at random, if it keeps the premises.
     pub fn add_noise(&mut self, rng: &mut Rng) {
-        let drawn = match rng.below(10) {
+        let drawn = match rng.below(11) {
             0 => rng.pick(&self.calls).cloned(),
             1 => self.conflicting(rng),
             2 => self.missing_parent(rng),
             3 | 4 => self.damaged(rng),
             5 => self.second_first_message(rng),
             6 => Some(self.bad_note(rng)),
-            7 => rng.pick(&ILLEGAL_SIZES).map(|&n| Call::Open(n)),
+            7 => Some(self.refused_opening(rng)),
             8 => self.wrong_length(rng),
+            9 => (self.options.members > 0).then(|| own_call(rng)),
             _ => self.untimely(rng),
         };
         if let Some(call) = drawn.filter(|call| self.keeps_premises(call)) {
@@ -99,6 +100,22 @@ impl Replica<'_> {
             Call::Timeout(round, signer)
         } else {
             Call::NoVote(round, signer)
+        }
+    }
+
+    /// An opening with an illegal size, or for a member that the group has not: 2 or 6. As a line
+    /// it can only have an illegal size.
+    fn refused_opening(&self, rng: &mut Rng) -> Call {
+        let n = self.world.group.n();
+        let illegal = ILLEGAL_SIZES[rng.below(9) as usize];
+        if self.options.members == 0 {
+            return Call::Open(illegal, 0);
+        }
+        let beyond = [n + 1, n + 2, 32, u32::MAX][rng.below(4) as usize];
+        match rng.below(3) {
+            0 => Call::Open(illegal, rng.below(n + 1)),
+            1 => Call::Open(n, beyond),
+            _ => Call::Open(illegal, beyond),
         }
     }
 

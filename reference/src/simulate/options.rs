@@ -1,19 +1,22 @@
 //! What a simulated group is like.
 
-/// Chances are in percent unless said otherwise.
+/// Chances are in percent unless said otherwise. Groups driven by made records alone have no use
+/// for `missed`, `lost_vertices`, `members` and `premises`: their vertices all arrive, and the
+/// premises hold.
 #[derive(Clone, Debug)]
 pub struct Options {
     /// Rounds that the group runs, from 1 to 32.
     pub rounds: u32,
     /// Faulty members; no more than f are drawn.
     pub faulty: u32,
-    /// That a member makes no vertex in a round.
+    /// That a member makes no vertex in a round; of made records alone, a faulty member.
     pub silent: u32,
     /// That a vertex is slow: most members of the next round miss it.
     pub slow: u32,
     /// That a member misses a vertex that is not slow.
     pub missed: u32,
-    /// That a replica never gets a first message, timeout or no-vote.
+    /// That a replica never gets a first message, timeout or no-vote; of made records alone, a
+    /// first message.
     pub lost_messages: u32,
     /// That a replica never gets a vertex, in a thousand; what builds on it is then refused.
     pub lost_vertices: u32,
@@ -25,6 +28,9 @@ pub struct Options {
     pub noise: u32,
     /// That a replica stops before the end of the run.
     pub early_stop: u32,
+    /// That a replica is a member's, which makes records and signs no-votes; else a watcher's. With
+    /// 0 no replica makes these calls.
+    pub members: u32,
     /// Whether the premises of the agreement claim hold: a single vertex for a round and source,
     /// honest first messages equal to the vertex, and no honest voter in a no-vote mask.
     pub premises: bool,
@@ -45,6 +51,7 @@ impl Options {
             eager: 10,
             noise: 5,
             early_stop: 0,
+            members: 70,
             premises: true,
         }
     }

@@ -14,14 +14,22 @@ use crate::rng::Rng;
 const ROUND_TIME: u32 = 100;
 /// How much later than others slow vertices arrive, at most.
 const SLOW_TIME: u32 = 300;
+/// That a member makes a record or signs a no-vote after a message, in percent.
+const OWN_CALLS: u32 = 15;
 
 /// Draws the calls of one replica.
 pub fn draw_calls(rng: &mut Rng, world: &World, options: &Options) -> Vec<Call> {
     let mut messages = draw_messages(rng, world, options);
     messages.sort_by_key(|(time, _)| *time);
-    let mut replica = Replica::new(world, options);
+    let own = rng
+        .percent(options.members)
+        .then(|| rng.below(world.group.n()));
+    let mut replica = Replica::new(world, options, own);
     for (_, call) in messages {
         replica.deliver(rng, call);
+        if own.is_some() && rng.percent(OWN_CALLS) {
+            replica.calls.push(own_call(rng));
+        }
         while rng.percent(options.noise.min(90)) {
             replica.add_noise(rng);
         }
@@ -125,6 +133,15 @@ fn draw_notes(
     }
 }
 
+/// Making our own vertex, or signing our own no-vote.
+pub fn own_call(rng: &mut Rng) -> Call {
+    if rng.percent(50) {
+        Call::Propose(rng.word())
+    } else {
+        Call::SignNoVote
+    }
+}
+
 /// The calls made so far, and what is needed to order the next ones.
 pub struct Replica<'a> {
     pub world: &'a World,
@@ -138,11 +155,14 @@ pub struct Replica<'a> {
 }
 
 impl<'a> Replica<'a> {
-    fn new(world: &'a World, options: &'a Options) -> Replica<'a> {
+    fn new(world: &'a World, options: &'a Options, own: Option<u32>) -> Replica<'a> {
         Replica {
             world,
             options,
-            calls: vec![Call::Open(world.group.n())],
+            calls: vec![Call::Open(
+                world.group.n(),
+                own.map_or(0, |member| member + 1),
+            )],
             held: BTreeSet::new(),
             heard: BTreeSet::new(),
             pending: Vec::new(),
@@ -202,8 +222,10 @@ impl<'a> Replica<'a> {
             _ if !self.options.premises => return true,
             Call::Vertex(words) => (words, &self.held),
             Call::First(words) => (words, &self.heard),
-            Call::Open(n) => return Group::new(*n).is_none(),
-            Call::Timeout(..) | Call::NoVote(..) => return true,
+            Call::Open(n, own) => return Group::new(*n).is_none() || own > n,
+            Call::Timeout(..) | Call::NoVote(..) | Call::Propose(_) | Call::SignNoVote => {
+                return true
+            }
         };
         let Some(record) = Record::from_words(words) else {
             return true;

@@ -49,7 +49,18 @@ fn head(state: &[u32]) -> Damage {
     damages.extend([0, 1].map(|more| (COMMITTED_ROUND, LAST_COMMITTABLE_ROUND + more)));
     damages.extend([0, 1].map(|more| (LEADER_COUNT, LEADER_LIST.len() as u32 + more)));
     damages.extend([0, 1].map(|more| (JOURNAL_COUNT, JOURNAL.len() as u32 + more)));
-    damages.extend(RESERVED.map(|at| (at, 1)));
+    damages.extend(own_words(state));
+    damages
+}
+
+/// Word 5 up to n, just above and far beyond, and other marks in words 6 and 7.
+fn own_words(state: &[u32]) -> Damage {
+    let n = state[N];
+    let mut damages: Damage = [0, 1, n, n + 1, u32::MAX].map(|own| (OWN, own)).to_vec();
+    for at in [MADE_ROUNDS, SIGNED_NO_VOTES] {
+        let last = round_bit(LAST_ROUND);
+        damages.extend([0, 1, last, !state[at], u32::MAX].map(|marks| (at, marks)));
+    }
     damages
 }
 
@@ -173,6 +184,7 @@ fn several(rng: &mut Rng, state: &[u32]) -> Vec<Damage> {
     damages.extend(appended(state, JOURNAL, JOURNAL_COUNT));
     damages.extend(fewer_leaders(state));
     damages.extend(more_leaders(state));
+    damages.extend(own_words_together(state[N]));
     let all: Vec<Place> = places().filter(|&(_, member)| member < state[N]).collect();
     for _ in 0..6 {
         damages.extend(rng.pick(&all).map(|&place| ordered_too(state, place)));
@@ -227,6 +239,23 @@ fn more_leaders(state: &[u32]) -> Vec<Damage> {
             ]
         })
         .to_vec()
+}
+
+/// Words 5 to 7 of watchers without and with marks, of the last member, and of one beyond it.
+fn own_words_together(n: u32) -> Vec<Damage> {
+    let last = round_bit(LAST_ROUND);
+    [
+        [0, 0, 0],
+        [0, 1, 0],
+        [0, 0, 1],
+        [0, last, 0],
+        [0, 0, last],
+        [n, 0, 0],
+        [n, u32::MAX, u32::MAX],
+        [n + 1, 0, 0],
+    ]
+    .map(|[own, made, signed]| vec![(OWN, own), (MADE_ROUNDS, made), (SIGNED_NO_VOTES, signed)])
+    .to_vec()
 }
 
 /// A vertex marked as ordered and named at the journal's end, whether it is held or not.

@@ -7,16 +7,27 @@ mod states;
 mod worked;
 
 use crate::call::Call;
+use crate::group::Group;
 use crate::harness::{Command, MOST_RECORD_WORDS};
-use crate::layout::{JOURNAL_COUNT, LEADER_COUNT, LEGAL_SIZES, RECORD_WORDS, STATE_WORDS};
+use crate::layout::*;
 use crate::rng::Rng;
-use crate::simulate::Options;
+use crate::simulate::{simulate_proposing, Options};
 use states::Reached;
 
 const SEED: u64 = 4;
 const SIZE: u32 = STATE_WORDS as u32;
-const WRONG_SIZES: [u32; 7] = [0, 1, RECORD_WORDS as u32, SIZE - 1, SIZE + 1, SIZE + 136, SIZE + 1_136];
+const WRONG_SIZES: [u32; 7] = [
+    0,
+    1,
+    RECORD_WORDS as u32,
+    SIZE - 1,
+    SIZE + 1,
+    SIZE + 136,
+    SIZE + 1_136,
+];
 const ILLEGAL_SIZES: [u32; 13] = [0, 1, 2, 3, 5, 6, 8, 15, 17, 19, 65_540, 1 << 31, u32::MAX];
+/// Words 5 far beyond any group.
+const FAR_OWN: [u32; 6] = [17, 31, 32, 33, 1 << 31, u32::MAX];
 
 /// All commands, in order.
 pub fn commands() -> Vec<Command> {
@@ -35,8 +46,10 @@ pub fn commands() -> Vec<Command> {
         for reached in states::reached(n) {
             list.reached_state(&reached);
         }
+        list.apart(n);
     }
     list.simulated_runs();
+    list.proposing_members();
     list.list.push(Command::End);
     list.list
 }
@@ -61,16 +74,25 @@ impl Commands {
         }
     }
 
-    /// Openings for every legal n, each over the state of the one before, and for illegal ones.
+    /// Openings for every legal n and word 5, each over the state of the one before and followed by
+    /// a record and no-votes of our own; and openings for illegal n.
     fn openings(&mut self) {
         self.list.push(Command::Lend(STATE_WORDS as u32));
         self.all_calls();
         for n in LEGAL_SIZES {
-            self.list.push(Command::Open(n));
-            self.all_calls();
+            for own in (0..=n + 1).rev().chain(FAR_OWN) {
+                self.list.push(Command::Open(n, own));
+                self.own_calls();
+            }
+            for own in [0, n] {
+                self.list.push(Command::Open(n, own));
+                self.all_calls();
+            }
             self.list.push(Command::Set(STATE_WORDS as u32, 9));
             for illegal in ILLEGAL_SIZES {
-                self.list.push(Command::Open(illegal));
+                for own in [0, 1, illegal, u32::MAX] {
+                    self.list.push(Command::Open(illegal, own));
+                }
             }
             self.list.push(Command::Status);
         }
@@ -84,12 +106,15 @@ impl Commands {
             self.list.push(Command::Set(at, word));
         }
         self.all_calls();
-        self.list.extend([Command::Open(5), Command::Open(7)]);
+        self.list.extend([
+            Command::Open(5, 0),
+            Command::Open(7, 8),
+            Command::Open(7, 3),
+        ]);
         self.all_calls();
         for n in [0].into_iter().chain(LEGAL_SIZES) {
             for count in [1, 2, 5, 50] {
-                self.list
-                    .extend([Command::Lend(STATE_WORDS as u32), Command::Open(n)]);
+                self.fresh(n, count % (n + 1));
                 self.set_random(count, STATE_WORDS as u32);
                 self.all_calls();
             }
@@ -99,11 +124,11 @@ impl Commands {
     /// 01's worked list, and the lists of a state just opened.
     fn worked(&mut self) {
         for calls in worked::rows() {
-            self.fresh(4);
+            self.fresh(4, 0);
             self.run(&calls);
         }
         for n in [4, 16, 5, 19] {
-            self.fresh(n);
+            self.fresh(n, 0);
             self.run(&[]);
             self.list.push(Command::AskJournal(1));
         }
@@ -111,7 +136,7 @@ impl Commands {
 
     /// Records of every length on 01's state S, of zeros and with words of a vertex.
     fn record_lengths(&mut self) {
-        self.fresh(4);
+        self.fresh(4, 0);
         self.run(&worked::state_s());
         let vertex: Vec<u32> = [1, 3].into_iter().chain([0; 18]).collect();
         for length in 0..=MOST_RECORD_WORDS as usize {
@@ -125,7 +150,7 @@ impl Commands {
     /// Timeouts and no-votes with rounds and signers near their limits and beyond, each made twice.
     fn notes(&mut self) {
         for n in LEGAL_SIZES {
-            self.fresh(n);
+            self.fresh(n, 0);
             for round in [0, 1, 32, 33, u32::MAX] {
                 for signer in [0, n - 1, n, 31, 32, u32::MAX] {
                     let calls = [Call::Timeout(round, signer), Call::NoVote(round, signer)];
@@ -149,10 +174,35 @@ impl Commands {
         }
     }
 
+    /// Single members of groups driven by made records alone, call by call.
+    fn proposing_members(&mut self) {
+        for (n, rounds, member) in [(4, 32, 2), (7, 16, 1), (16, 5, 4)] {
+            let options = Options {
+                rounds,
+                early_stop: 0,
+                ..Options::typical()
+            };
+            let mut run = simulate_proposing(6, n, &options);
+            self.list.push(Command::Lend(STATE_WORDS as u32));
+            self.run(&run.replicas.swap_remove(member));
+        }
+    }
+
     /// A zero state, and its opening.
-    fn fresh(&mut self, n: u32) {
+    fn fresh(&mut self, n: u32, own: u32) {
         self.list
-            .extend([Command::Lend(STATE_WORDS as u32), Command::Open(n)]);
+            .extend([Command::Lend(STATE_WORDS as u32), Command::Open(n, own)]);
+    }
+
+    /// A no-vote signed before and after a record is made, and the record made twice.
+    fn own_calls(&mut self) {
+        let tag = self.rng.word();
+        self.list.extend([
+            Command::SignNoVote,
+            Command::Propose(tag),
+            Command::Propose(tag),
+            Command::SignNoVote,
+        ]);
     }
 
     /// Calls, and what they leave.
@@ -197,32 +247,112 @@ impl Commands {
         for damage in damage::all(&mut self.rng, state) {
             self.damaged(reached, &damage);
         }
+        for round in 1..=LAST_CURRENT_ROUND {
+            self.in_round(state, round);
+        }
         self.list.push(Command::Status);
-        for n in [5, state[0], 4] {
-            self.list.extend([Command::Open(n), Command::Status]);
+        for (n, own) in [(5, 0), (state[N], state[N]), (4, 0)] {
+            self.list.extend([Command::Open(n, own), Command::Status]);
         }
     }
 
     /// The status of a damaged state, and some other calls on it; what they and the damage changed
-    /// is undone.
+    /// is undone. Where words 5 to 7 are damaged, records and no-votes of our own are always among
+    /// the calls.
     fn damaged(&mut self, reached: &Reached, damage: &[(usize, u32)]) {
         let state = &reached.state;
         let mut words = state.clone();
-        for &(at, word) in damage {
-            words[at] = word;
-            self.list.push(Command::Set(at as u32, word));
-        }
+        self.set_words(&mut words, damage);
         self.list.push(Command::Status);
         if self.rng.percent(30) {
             let call = self.list_call(state);
             self.list.push(call);
         }
+        let mut calls = Vec::new();
         if self.rng.percent(30) {
             let drawn = self.rng.pick(&reached.calls).cloned();
-            if let Some(call) = drawn.filter(|call| !matches!(call, Call::Open(_))) {
-                self.call(&call);
-                call.apply(&mut words);
+            calls.extend(drawn.filter(|call| !matches!(call, Call::Open(..))));
+        }
+        let own_words = OWN..=SIGNED_NO_VOTES;
+        if damage.iter().any(|(at, _)| own_words.contains(at)) || self.rng.percent(4) {
+            calls.extend([Call::SignNoVote, Call::Propose(self.rng.word())]);
+        }
+        self.make_and_undo(words, &calls, state);
+    }
+
+    /// Records of our own with weak ids, in every round.
+    fn apart(&mut self, n: u32) {
+        let state = states::apart(&mut self.rng, n);
+        self.list.push(Command::Lend(STATE_WORDS as u32));
+        self.set_all(&state);
+        for round in 1..=state[CURRENT_ROUND] + 1 {
+            self.in_round(&state, round);
+            self.in_round(&state, round);
+        }
+    }
+
+    /// A record made and a no-vote signed, in either order, with another current round, for the
+    /// leader of that round or any member, with marks and with timeouts and no-votes of all kinds.
+    fn in_round(&mut self, state: &[u32], round: u32) {
+        let Some(group) = Group::new(state[N]) else {
+            return;
+        };
+        let member = [group.leader(round), self.rng.below(group.n())];
+        let own = 1 + member[self.rng.below(2) as usize];
+        let mut damage = vec![
+            (CURRENT_ROUND, round),
+            (OWN, own),
+            (MADE_ROUNDS, self.marks()),
+            (SIGNED_NO_VOTES, self.marks()),
+        ];
+        if round >= 2 {
+            let before = [TIMEOUTS, NO_VOTES].map(|which| mask_place(round - 1, which));
+            damage.extend(before.map(|at| (at, self.signers(group, state[at]))));
+        }
+        let mut words = state.to_vec();
+        self.set_words(&mut words, &damage);
+        let propose = Call::Propose(self.rng.word());
+        let calls = if self.rng.percent(50) {
+            [Call::SignNoVote, propose]
+        } else {
+            [propose, Call::SignNoVote]
+        };
+        self.make_and_undo(words, &calls, state);
+    }
+
+    /// A word of marks by round: none, all, or any.
+    fn marks(&mut self) -> u32 {
+        match self.rng.below(4) {
+            0 => u32::MAX,
+            1 => self.rng.word(),
+            _ => 0,
+        }
+    }
+
+    /// Signers of a certificate: those there, all, or about a quorum of them.
+    fn signers(&mut self, group: Group, there: u32) -> u32 {
+        match self.rng.below(4) {
+            0 => there,
+            1 => self.rng.top_up(0, group.all(), group.quorum() - 1),
+            2 => self.rng.top_up(0, group.all(), group.quorum()),
+            _ => group.all(),
+        }
+    }
+
+    fn set_words(&mut self, words: &mut [u32], places: &[(usize, u32)]) {
+        for &(at, word) in places {
+            if words[at] != word {
+                words[at] = word;
+                self.list.push(Command::Set(at as u32, word));
             }
+        }
+    }
+
+    /// Calls on these words, and then the words of the state again.
+    fn make_and_undo(&mut self, mut words: Vec<u32>, calls: &[Call], state: &[u32]) {
+        for call in calls {
+            self.call(call);
+            call.apply(&mut words);
         }
         let changed = (0..STATE_WORDS).filter(|&at| words[at] != state[at]);
         self.list
@@ -256,7 +386,7 @@ impl Commands {
     /// Every call, those that may change an opened state last.
     fn all_calls(&mut self) {
         self.list.extend([
-            Command::Open(5),
+            Command::Open(5, 0),
             Command::Status,
             Command::AskLeaders(0),
             Command::AskLeaders(1),
@@ -272,6 +402,7 @@ impl Commands {
         self.call(&Call::First(vertex));
         self.call(&Call::Timeout(1, 0));
         self.call(&Call::NoVote(1, 0));
+        self.own_calls();
     }
 
     fn set_all(&mut self, state: &[u32]) {

@@ -7,10 +7,15 @@ use reference::{hand_journal, hand_leaders, open, take_first_message, take_verte
 
 pub type State = Vec<u32>;
 
-/// A state just opened.
+/// A watcher's state just opened.
 pub fn opened(n: u32) -> State {
+    opened_for(n, 0)
+}
+
+/// A state just opened, with this word 5.
+pub fn opened_for(n: u32, own: u32) -> State {
     let mut state = vec![0; STATE_WORDS];
-    assert_eq!(open(&mut state, n).number, 0);
+    assert_eq!(open(&mut state, n, own).number, 0);
     state
 }
 
@@ -32,14 +37,8 @@ pub fn plain(round: u32, source: u32, strong: u32) -> Record {
 }
 
 /// A record with weak ids.
-pub fn with_weak(mut record: Record, ids: &[u32]) -> Record {
-    record.weak_count = ids.len() as u32;
-    record
-        .weak
-        .iter_mut()
-        .zip(ids)
-        .for_each(|(slot, &id)| *slot = id);
-    record
+pub fn with_weak(record: Record, ids: &[u32]) -> Record {
+    record.with_weak(ids)
 }
 
 /// Gives a vertex and returns the answer number.
@@ -81,6 +80,14 @@ pub fn firsts(state: &mut State, records: &[Record]) {
     for &record in records {
         assert_eq!(first(state, record), 0, "{record:?}");
     }
+}
+
+/// The words that differ, with their new values.
+pub fn changes(before: &State, after: &State) -> Vec<(usize, u32)> {
+    (0..STATE_WORDS)
+        .filter(|&at| before[at] != after[at])
+        .map(|at| (at, after[at]))
+        .collect()
 }
 
 /// Leader list and journal from entry 0.

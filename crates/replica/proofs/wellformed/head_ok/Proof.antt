@@ -2,7 +2,7 @@
 use mathlib.Core.List.{List}
 use Prim.Native.Nat.{ℕ}
 use borrow.Author.Needs.{needs}
-use Rattle.replica.proofs.Clauses.{group-no, round-low, round-high, committed-high, zeros-decide}
+use Rattle.replica.proofs.Clauses.{group-no, round-low, round-high, committed-high, own-decides}
 use Rattle.replica.proofs.wellformed.head_ok.Statement.{statement}
 use Rattle.replica.proofs.wellformed.head_ok.Tie as tie
 
@@ -22,8 +22,5 @@ head-ok-spec =
     (λ c. search (round-high (words (search))))
     (λ c. search needs)
     (λ c. search (committed-high (words (search))))
-    (λ c. search needs)
-    (λ c. search needs)
-    (λ c. search needs)
     (λ c κs. search needs)
-    (λ c. search (zeros-decide (words (search)))))
+    (λ c. search (own-decides (words (search)))))

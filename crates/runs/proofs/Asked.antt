@@ -1,31 +1,27 @@
 -- What the number of a call says: with 0 every question is answered yes, and with another the words stay. Assumes nothing.
 use mathlib.Core.Path.{_≡_, refl, sym, ap, _∙_}
-use mathlib.Core.Bool.{true, false}
+use mathlib.Core.Bool.{true, false, _&&_}
 use mathlib.Core.Logic.{_⊎_, inl, inr, ⊎-elim}
-use mathlib.Core.List.{List}
-use Prim.Native.Nat.{ℕ}
-use native.Mathlib.Omega.{arith}
-use lib.Dec.{eqb}
+use mathlib.Core.List.{List, _++_}
+use Prim.Native.Nat.{ℕ, _≤_}
+use lib.Dec.{eqb, leb}
 use lib.ListN.{length}
-use borrow.Author.Tests.{eqb-true, eqb-false, eq-eqb, ne-eqb, not-true, le-leb}
+use borrow.Author.Tests.{eqb-true, eqb-false, eq-eqb, ne-eqb, not-true, leb-true, le-leb}
 use Rattle.record.specs.Members.{legal, has}
-use Rattle.record.specs.Refusals.{numberOf, firstNo}
+use Rattle.record.specs.Refusals.{numberOf, Question, firstNo}
 use Rattle.record.specs.Questions.{bodyRefusal}
 use Rattle.record.specs.declared.refusal.Refusal.{Refusal}
-use Rattle.record.proofs.Booleans.{which, never, cond-true, cond-false}
+use Rattle.record.proofs.Booleans.{which, never, and-left, and-right, and-both, cond-true, cond-false}
 use Rattle.record.proofs.Turn.{next, done, both-yes}
-use Rattle.replica.specs.Layout.{stateSize, leadersAt, journalAt}
-use Rattle.replica.specs.State.{memberCount, leaderCount, journalCount, heldMask, heardMask, leaderList, journalList}
+use Rattle.replica.specs.Layout.{stateSize}
+use Rattle.replica.specs.State.{memberCount, heldMask, heardMask}
 use Rattle.replica.specs.Parents.{parentsHeld}
-use Rattle.replica.specs.WellFormed.{wellFormed}
 use Rattle.replica.specs.Outcome.{Outcome, outcome}
 use Rattle.replica.specs.Opening.{opened, openQuestions, openState}
-use Rattle.replica.specs.Place.{Span}
-use Rattle.replica.specs.Lists.{askList, handList}
-use Rattle.replica.proofs.ListLaws.{span-some, hand-over}
+use Rattle.replica.specs.Status.{stateQuestions}
+use Rattle.replica.proofs.Formed.{WellFormed, well-formed}
 use Rattle.ordering.specs.Calls.{placeQuestions, vertexQuestions, firstQuestions}
 use Rattle.ordering.proofs.Turns.{record-passed, parents-passed}
-use Rattle.agreement.specs.Claim.{leadersIn, journalIn}
 
 -- ---- an outcome
 
@@ -56,6 +52,10 @@ decided why = ⊎-elim (λ e. inl (eqb-true _ 0 e)) (λ e. inr (eqb-false _ 0 e)
 
 -- ---- the questions, all answered yes
 
+-- those of a formed state are passed over
+pub past-state : (l : List ℕ) (rest : List Question) → WellFormed l → firstNo rest ≡ firstNo (stateQuestions l ++ rest)
+past-state l rest S = next _ _ (eq-eqb (length l) stateSize (S .size)) (next _ _ (well-formed l S) refl)
+
 -- a vertex that is admitted was not held, and its parents are
 pub vertex-yes : (l : List ℕ) (r p : ℕ) (body : List ℕ) → numberOf (firstNo (vertexQuestions l r p body)) ≡ 0
     → (numberOf (bodyRefusal (memberCount l) r p body) ≡ 0) × (has (heldMask l r) p ≡ false) × (parentsHeld l r body ≡ true)
@@ -74,41 +74,36 @@ first-yes l r p body e =
 -- ---- opening
 
 -- those of opening
-legal-yes : (l : List ℕ) (n : ℕ) → numberOf (firstNo (openQuestions l n)) ≡ 0 → legal n ≡ true
-legal-yes l n e = both-yes _ _ _ (eqb-false 2 0 refl) (both-yes _ _ _ (eqb-false 1 0 refl) e .1) .0
+legal-yes : (l : List ℕ) (n own : ℕ) → numberOf (firstNo (openQuestions l n own)) ≡ 0 → (legal n && leb own n) ≡ true
+legal-yes l n own e =
+    let q1 = both-yes _ _ _ (eqb-false 1 0 refl) e in
+    let q2 = both-yes _ _ _ (eqb-false 2 0 refl) (q1 .1) in
+    and-both (q2 .0) (both-yes _ _ _ (eqb-false 6 0 refl) (q2 .1) .0)
 
--- with answer 0: the member count is one of the five, and the words are those of an opened state
-pub open-yes : (l : List ℕ) (n : ℕ) → openState l n .number ≡ 0 → (legal n ≡ true) × (openState l n .words ≡ opened n)
+-- with answer 0: the member count is one of the five, the own member below it, and the words are those of an opened state
+pub open-yes : (l : List ℕ) (n own : ℕ) → openState l n own .number ≡ 0 → (legal n ≡ true) × (own ≤ n) × (openState l n own .words ≡ opened n own)
 unfolding openState
-open-yes l n e = go (decided (firstNo (openQuestions l n)))
+open-yes l n own e = go (decided (firstNo (openQuestions l n own)))
   where
-    go : (numberOf (firstNo (openQuestions l n)) ≡ 0) ⊎ (numberOf (firstNo (openQuestions l n)) ≡ 0 → ⊥) → (legal n ≡ true) × (openState l n .words ≡ opened n)
-    go (inl d) = (legal-yes l n d, words-yes (firstNo (openQuestions l n)) l (opened n) d)
-    go (inr d) = absurd (d (sym (number-no (firstNo (openQuestions l n)) l (opened n) d) ∙ e))
+    go : (numberOf (firstNo (openQuestions l n own)) ≡ 0) ⊎ (numberOf (firstNo (openQuestions l n own)) ≡ 0 → ⊥)
+        → (legal n ≡ true) × (own ≤ n) × (openState l n own .words ≡ opened n own)
+    go (inl d) =
+        let g = legal-yes l n own d in
+        (and-left _ _ g, leb-true own n (and-right (legal n) _ g), words-yes (firstNo (openQuestions l n own)) l (opened n own) d)
+    go (inr d) = absurd (d (sym (number-no (firstNo (openQuestions l n own)) l (opened n own) d) ∙ e))
 
--- a state's words and a member count of the five: answer 0
-pub open-taken : (l : List ℕ) (n : ℕ) → length l ≡ stateSize → legal n ≡ true → openState l n .number ≡ 0
+-- four members
+pub four : legal 4 ≡ true
+unfolding legal
+four = refl
+
+-- a state's words, a member count of the five and an own member below it: answer 0
+pub open-taken : (l : List ℕ) (n own : ℕ) → length l ≡ stateSize → legal n ≡ true → own ≤ n → openState l n own .number ≡ 0
 unfolding openState
-open-taken l n size e = number-yes (firstNo (openQuestions l n)) l (opened n)
-    (ap numberOf (sym (next _ _ (eq-eqb (length l) stateSize size) (next _ _ e done))))
+open-taken l n own size e few = number-yes (firstNo (openQuestions l n own)) l (opened n own)
+    (ap numberOf (sym (next _ _ (eq-eqb (length l) stateSize size) (next _ _ e (next _ _ (le-leb own n few) done)))))
 
--- with another member count: the words stay
-pub open-no : (l : List ℕ) (n : ℕ) → legal n ≡ false → openState l n .words ≡ l
+-- with another member count or own member: the words stay
+pub open-no : (l : List ℕ) (n own : ℕ) → (legal n && leb own n) ≡ false → openState l n own .words ≡ l
 unfolding openState
-open-no l n e = words-no (firstNo (openQuestions l n)) l (opened n) (λ d. never (legal-yes l n d) e)
-
--- ---- handing over from entry 0
-
-module _ (l : List ℕ) (size : length l ≡ stateSize) (formed : wellFormed l ≡ true) where
-  -- the number is 0
-  from-start : (first count : ℕ) → handList l 0 first count .number ≡ 0
-  from-start first count = ap (λ (s : Span). s .number) (span-some (askList l 0 count .number) first 0 count
-      (ap numberOf (sym (next _ _ (eq-eqb (length l) stateSize size) (next _ _ formed (next _ _ (le-leb 0 count (omega arith)) done))))))
-
-  -- the leader list
-  pub hand-leaders : leadersIn l ≡ leaderList l
-  hand-leaders = hand-over l 0 .0 .given (from-start leadersAt (leaderCount l))
-
-  -- the journal
-  pub hand-journal : journalIn l ≡ journalList l
-  hand-journal = hand-over l 0 .1 .given (from-start journalAt (journalCount l))
+open-no l n own e = words-no (firstNo (openQuestions l n own)) l (opened n own) (λ d. never (legal-yes l n own d) e)

@@ -2,6 +2,7 @@
 use mathlib.Core.Bool.{Bool, true, not, _&&_}
 use mathlib.Core.List.{List, [], _∷_}
 use Prim.Native.Nat.{ℕ}
+use lib.Dec.{leb}
 use Rattle.record.specs.Members.{legal}
 use Rattle.record.specs.Refusals.{numberOf}
 use Rattle.replica.specs.Outcome.{Outcome}
@@ -11,10 +12,12 @@ use Rattle.replica.specs.Place.{Span, wordsIn}
 use Rattle.replica.specs.Lists.{askLeaders, askJournal, handLeaders, handJournal}
 use Rattle.replica.specs.declared.answer.Status.{Status}
 use Rattle.ordering.specs.Calls.{takeVertex, takeFirstMessage, takeTimeout, takeNoVote}
+use Rattle.proposing.specs.Making.{proposeVertex}
+use Rattle.proposing.specs.Signing.{signNoVote}
 
--- the calls that document 01 names, with any arguments
+-- the calls that document 01 names, and those that requests add on a state, with any arguments
 pub data Call : Type 0 where
-  opening : ℕ → Call
+  opening : ℕ → ℕ → Call
   vertex : List ℕ → Call
   firstMessage : List ℕ → Call
   timeout : ℕ → ℕ → Call
@@ -24,6 +27,8 @@ pub data Call : Type 0 where
   askJournalList : ℕ → Call
   handLeaderList : ℕ → Call
   handJournalList : ℕ → Call
+  making : ℕ → Call
+  signing : Call
 
 -- status and handing over answer a number and no id, add nothing, and are lent the words to read
 abbrev pub reading : ℕ → List ℕ → Outcome
@@ -31,7 +36,7 @@ reading number l = record { number = number; id = 0; leaders = 0; journal = 0; w
 
 -- what a call on the words l ends in
 abbrev pub outcomeOf : Call → List ℕ → Outcome
-outcomeOf (opening n) l = openState l n
+outcomeOf (opening n own) l = openState l n own
 outcomeOf (vertex rec) l = takeVertex l rec
 outcomeOf (firstMessage rec) l = takeFirstMessage l rec
 outcomeOf (timeout r p) l = takeTimeout l r p
@@ -41,15 +46,18 @@ outcomeOf (askLeaderList k) l = askLeaders l k
 outcomeOf (askJournalList k) l = askJournal l k
 outcomeOf (handLeaderList k) l = reading (handLeaders l k .number) l
 outcomeOf (handJournalList k) l = reading (handJournal l k .number) l
+outcomeOf (making tag) l = proposeVertex l tag .outcome
+outcomeOf signing l = signNoVote l
 
--- what it gives beside its outcome: status the struct, and handing over a part of the words l, as its span and its words
+-- what it gives beside its outcome: status the struct, handing over a part of the words l, as its span and its words, and making the record
 pub data Given : Type 0 where
   nothing : Given
   head : Status → Given
   part : Span → List ℕ → Given
+  made : List ℕ → Given
 
 abbrev pub givenOf : Call → List ℕ → Given
-givenOf (opening n) l = nothing
+givenOf (opening n own) l = nothing
 givenOf (vertex rec) l = nothing
 givenOf (firstMessage rec) l = nothing
 givenOf (timeout r p) l = nothing
@@ -59,6 +67,8 @@ givenOf (askLeaderList k) l = nothing
 givenOf (askJournalList k) l = nothing
 givenOf (handLeaderList k) l = part (handLeaders l k) (wordsIn l (handLeaders l k))
 givenOf (handJournalList k) l = part (handJournal l k) (wordsIn l (handJournal l k))
+givenOf (making tag) l = made (proposeVertex l tag .made)
+givenOf signing l = nothing
 
 -- each call gets the words as the one before left them
 unfoldable pub run : List ℕ → List Call → List ℕ
@@ -67,7 +77,7 @@ run l (c ∷ calls) = run (outcomeOf c l .words) calls
 
 -- an opening among the calls is a refused one
 abbrev pub allowed : Call → Bool
-allowed (opening n) = not (legal n)
+allowed (opening n own) = not (legal n && leb own n)
 allowed (vertex rec) = true
 allowed (firstMessage rec) = true
 allowed (timeout r p) = true
@@ -77,6 +87,8 @@ allowed (askLeaderList k) = true
 allowed (askJournalList k) = true
 allowed (handLeaderList k) = true
 allowed (handJournalList k) = true
+allowed (making tag) = true
+allowed signing = true
 
 unfoldable pub allAllowed : List Call → Bool
 allAllowed [] = true

@@ -1,0 +1,4 @@
+pub mod Steps
+pub mod Claim
+pub mod Hosts
+pub mod Witness

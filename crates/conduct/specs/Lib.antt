@@ -1,0 +1,4 @@
+pub mod Made
+pub mod Claim
+pub mod Hosts
+pub mod Witness

@@ -1,0 +1,123 @@
+-- No call changes the member count or an own word: words 0 and 5 to 7. Assumes nothing.
+use mathlib.Core.Path.{_≡_}
+use mathlib.Core.Bool.{true, false}
+use mathlib.Core.Logic.{_⊎_, inl, inr}
+use mathlib.Core.List.{List}
+use Prim.Native.Nat.{ℕ, zero, suc, _+_, _≤_, _<_}
+use native.Mathlib.Omega.{arith}
+use lib.Dec.{ltb}
+use lib.ListN.{getD}
+use borrow.Author.Tests.{ltb-true}
+use Rattle.record.specs.Members.{add, rounds, slots, votedRounds}
+use Rattle.record.specs.Refusals.{numberOf, firstNo}
+use Rattle.record.proofs.Booleans.{which}
+use Rattle.record.proofs.Below.{least-sat}
+use Rattle.replica.specs.Layout.{masksAt, headSize, memberCountAt, currentRoundAt, ownAt, timeoutsKind, noVotesKind}
+use Rattle.replica.specs.State.{currentRound, addMember}
+use Rattle.replica.proofs.Formed.{WellFormed}
+use Rattle.replica.proofs.Keeping.{Keeps, keeps-refl, keeps-trans, keeps-less, keeps-set}
+use Rattle.commits.specs.Commit.{highestPassable, raiseRound, commit, committable, lowest, commitUpTo, commitAll}
+use Rattle.commits.proofs.Frames.{OffLists, off-front, off-own}
+use Rattle.commits.proofs.Growing.{grown}
+use Rattle.ordering.specs.Calls.{putVertex, hear, placeQuestions, vertexQuestions, firstQuestions, takeBody, takeFirstBody, takeTimeout, takeNoVote}
+use Rattle.ordering.proofs.Turns.{outcome-words, record-passed, parents-passed}
+use Rattle.ordering.proofs.Writing.{put-head, put-calm, hear-head, hear-calm}
+use Rattle.ordering.proofs.Marks.{formed-raise, formed-put, formed-hear}
+use Rattle.ordering.proofs.Kept.{committable-round, formed-commit}
+
+-- word j of the head is neither the current round nor one that commits write
+pub record Fixed (j : ℕ) : Type 0 where
+  pub head : j < headSize
+  pub not-round : j ≡ currentRoundAt → ⊥
+  pub off-lists : OffLists j
+
+-- the member count
+pub fixed-members : Fixed memberCountAt
+fixed-members = record { head = omega arith; not-round = λ e. omega arith; off-lists = off-front memberCountAt (omega arith) }
+
+-- the own words
+pub fixed-own : (j : ℕ) → ownAt ≤ j → j < headSize → Fixed j
+fixed-own j a b = record { head = b; not-round = λ e. omega arith; off-lists = off-own j a b }
+
+-- ---- what the calls write
+
+-- the round rule
+fixed-raise : (l : List ℕ) → Keeps Fixed l (raiseRound l)
+unfolding raiseRound
+fixed-raise l = go (which (ltb (currentRound l) (1 + highestPassable l rounds)))
+  where
+    go : (ltb (currentRound l) (1 + highestPassable l rounds) ≡ true) ⊎ (ltb (currentRound l) (1 + highestPassable l rounds) ≡ false)
+        → Keeps Fixed l (raiseRound l)
+    go (inl e) = rw e (keeps-set Fixed l currentRoundAt (1 + highestPassable l rounds) (λ j k. k .not-round))
+    go (inr e) = rw e (keeps-refl Fixed l)
+
+-- a member in a mask
+pub fixed-note : (l : List ℕ) (r i p : ℕ) → Keeps Fixed l (addMember l (masksAt r + i) p)
+unfolding addMember
+fixed-note l r i p = keeps-set Fixed l (masksAt r + i) (add (getD l (masksAt r + i) 0) p) (λ j k e. omega (arith, k .head))
+
+-- all commits
+fixed-commits : (k : ℕ) (l : List ℕ) → WellFormed l → Keeps Fixed l (commitUpTo l k)
+unfolding commitUpTo
+fixed-commits zero l S = keeps-refl Fixed l
+fixed-commits (suc k) l S = go (which (ltb (lowest l) rounds)) (fixed-commits k (commit l (lowest l)))
+  where
+    go : (ltb (lowest l) rounds ≡ true) ⊎ (ltb (lowest l) rounds ≡ false)
+        → (WellFormed (commit l (lowest l)) → Keeps Fixed (commit l (lowest l)) (commitUpTo (commit l (lowest l)) k)) → Keeps Fixed l (commitUpTo l (suc k))
+    go (inl e) ih =
+        let w = committable-round l (lowest l) (least-sat rounds (committable l) (ltb-true _ _ e)) in
+        rw e (keeps-trans Fixed l (commit l (lowest l)) (commitUpTo (commit l (lowest l)) k)
+        (keeps-less OffLists Fixed l (commit l (lowest l)) (λ j k. k .off-lists) (grown l S (lowest l) (w .0) (w .1) (w .3) .kept))
+        (ih (formed-commit l S (lowest l) (w .0) (w .1) (w .3))))
+    go (inr e) ih = rw e (keeps-refl Fixed l)
+
+-- ---- the calls
+
+module _ (l : List ℕ) (S : WellFormed l) where
+  -- an admitted vertex
+  fixed-vertex : (r p : ℕ) (body : List ℕ) → numberOf (firstNo (vertexQuestions l r p body)) ≡ 0
+      → Keeps Fixed l (commitAll (raiseRound (putVertex l r p body)))
+  fixed-vertex r p body e =
+      let w = record-passed l r p body (placeQuestions l r p body) e in
+      let A = w .1 in
+      let few : p < slots = omega (arith, A .source-low, S .front .high) in
+      let put = putVertex l r p body in
+      let T = formed-put l S r p body (w .2) (parents-passed l r p body (w .3)) in
+      keeps-trans Fixed l put (commitAll (raiseRound put))
+      (record {
+        size = put-calm l r p body (S .size) (A .round-low) (A .round-high) few (A .size) .size;
+        same = λ j k. put-head l r p body (S .size) (A .round-low) (A .round-high) few (A .size) j (k .head);
+      })
+      (keeps-trans Fixed put (raiseRound put) (commitAll (raiseRound put)) (fixed-raise put)
+      (fixed-commits votedRounds (raiseRound put) (formed-raise put T)))
+
+  -- an admitted first message
+  fixed-first : (r p : ℕ) (body : List ℕ) → numberOf (firstNo (firstQuestions l r p body)) ≡ 0 → Keeps Fixed l (commitAll (hear l r p body))
+  fixed-first r p body e =
+      let A = record-passed l r p body _ e .1 in
+      keeps-trans Fixed l (hear l r p body) (commitAll (hear l r p body))
+      (record {
+        size = hear-calm l r p body (S .size) (A .round-low) (A .round-high) .size;
+        same = λ j k. hear-head l r p body (S .size) (A .round-low) (A .round-high) j (k .head);
+      })
+      (fixed-commits votedRounds (hear l r p body) (formed-hear l S r p body A))
+
+  -- Each call, admitted or refused.
+  pub vertex-fixed : (r p : ℕ) (body : List ℕ) → Keeps Fixed l (takeBody l r p body .words)
+  unfolding takeBody
+  vertex-fixed r p body = outcome-words (Keeps Fixed l) _ l _ (keeps-refl Fixed l) (fixed-vertex r p body)
+
+  pub first-fixed : (r p : ℕ) (body : List ℕ) → Keeps Fixed l (takeFirstBody l r p body .words)
+  unfolding takeFirstBody
+  first-fixed r p body = outcome-words (Keeps Fixed l) _ l _ (keeps-refl Fixed l) (fixed-first r p body)
+
+-- a timeout
+pub timeout-fixed : (l : List ℕ) (r p : ℕ) → Keeps Fixed l (takeTimeout l r p .words)
+unfolding takeTimeout
+timeout-fixed l r p = outcome-words (Keeps Fixed l) _ l _ (keeps-refl Fixed l)
+    (λ e. keeps-trans Fixed l _ _ (fixed-note l r timeoutsKind p) (fixed-raise _))
+
+-- a no-vote
+pub no-vote-fixed : (l : List ℕ) (r p : ℕ) → Keeps Fixed l (takeNoVote l r p .words)
+unfolding takeNoVote
+no-vote-fixed l r p = outcome-words (Keeps Fixed l) _ l _ (keeps-refl Fixed l) (λ e. fixed-note l r noVotesKind p)

@@ -1,0 +1,5 @@
+pub mod Kept
+pub mod Laws
+pub mod Asking
+pub mod Offering
+pub mod Passing

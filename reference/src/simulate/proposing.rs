@@ -1,0 +1,386 @@
+//! Groups driven by made records alone. Every member has a state of its own: it makes its vertices
+//! there, sends each to all members and itself, times out where a leader's vertex does not come,
+//! and signs its no-votes. The calls are drawn by making them on the states.
+
+use std::collections::{BTreeMap, BTreeSet};
+
+use super::{Options, Run};
+use crate::call::Call;
+use crate::calls::propose;
+use crate::group::{bit, has, members, Group};
+use crate::layout::*;
+use crate::record::Record;
+use crate::rng::Rng;
+
+/// How many times as long as messages take a member waits for a leader's vertex, and how many
+/// times longer a slow vertex takes at most.
+const PATIENCE: u32 = 4;
+const SLOWNESS: u32 = 8;
+/// Events for each vertex and member, some four times as many as groups need: a call with a fault
+/// cannot keep a group going for ever.
+const MOST_EVENTS: u32 = 16;
+/// That a message comes twice, in percent.
+const REPEATED: u32 = 4;
+
+/// Simulates all members of a group of n; an illegal n gives no replicas. The faulty members are
+/// those that leave out vertices: in the rounds that they lead, and in others at times.
+pub fn simulate_proposing(seed: u64, n: u32, options: &Options) -> Run {
+    let Some(group) = Group::new(n) else {
+        return Run {
+            n,
+            faulty: 0,
+            replicas: Vec::new(),
+        };
+    };
+    let mut network = Network::new(Rng::new(seed ^ (u64::from(n) << 56)), group, options);
+    for _ in 0..MOST_EVENTS * LAST_ROUND * n * n {
+        let Some((key, (to, event))) = network.queue.pop_first() else {
+            break;
+        };
+        network.now = key.0;
+        network.handle(to, event);
+    }
+    Run {
+        n,
+        faulty: network.silent,
+        replicas: network.lists(),
+    }
+}
+
+/// What happens to a member.
+enum Event {
+    Give(Call),
+    /// The member looks again at what it may do.
+    Wake,
+}
+
+/// Time, then an order drawn at random, then the events so far.
+type Key = (u32, u32, usize);
+
+struct Network<'a> {
+    rng: Rng,
+    group: Group,
+    options: &'a Options,
+    /// The members that leave out vertices, and the ids of these.
+    silent: u32,
+    left_out: BTreeSet<u32>,
+    replicas: Vec<Member>,
+    queue: BTreeMap<Key, (u32, Event)>,
+    planned: usize,
+    now: u32,
+}
+
+impl<'a> Network<'a> {
+    fn new(mut rng: Rng, group: Group, options: &'a Options) -> Network<'a> {
+        let silent = rng.top_up(0, group.all(), options.faulty.min(group.f()));
+        let mut network = Network {
+            left_out: draw_left_out(&mut rng, group, silent, options),
+            replicas: (0..group.n()).map(|own| Member::new(group, own)).collect(),
+            rng,
+            group,
+            options,
+            silent,
+            queue: BTreeMap::new(),
+            planned: 0,
+            now: 0,
+        };
+        for member in 0..group.n() {
+            network.wake(member, 0);
+        }
+        network
+    }
+
+    /// The calls of each member, some of them stopped early.
+    fn lists(mut self) -> Vec<Vec<Call>> {
+        let mut lists: Vec<Vec<Call>> = self
+            .replicas
+            .into_iter()
+            .map(|member| member.calls)
+            .collect();
+        for calls in &mut lists {
+            if self.rng.percent(self.options.early_stop) {
+                calls.truncate(1 + self.rng.below(calls.len() as u32) as usize);
+            }
+        }
+        lists
+    }
+
+    fn member(&mut self, own: u32) -> &mut Member {
+        &mut self.replicas[own as usize]
+    }
+
+    /// A call that reaches a member after a delay drawn at random, and so much more.
+    fn send(&mut self, to: u32, call: Call, late: u32) {
+        let delay = 1 + self.rng.below(self.options.spread);
+        self.plan(self.now + delay + late, to, Event::Give(call));
+    }
+
+    fn wake(&mut self, member: u32, time: u32) {
+        self.plan(time, member, Event::Wake);
+    }
+
+    fn plan(&mut self, time: u32, to: u32, event: Event) {
+        self.planned += 1;
+        let key = (time, self.rng.word(), self.planned);
+        self.queue.insert(key, (to, event));
+    }
+
+    fn handle(&mut self, to: u32, event: Event) {
+        match event {
+            Event::Wake => {}
+            Event::Give(Call::Vertex(words)) => self.give_vertex(to, &words),
+            Event::Give(call) => {
+                self.member(to).give(call);
+            }
+        }
+        while self.rng.percent(self.options.noise.min(90)) {
+            self.add_noise(to);
+        }
+        self.enter(to);
+        self.time_out(to);
+        self.sign(to);
+        self.make(to);
+    }
+
+    /// Gives a vertex, or keeps it until its parents are held, and then those that waited for it.
+    fn give_vertex(&mut self, to: u32, words: &[u32]) {
+        let eager = self.rng.percent(self.options.eager);
+        let member = &mut self.replicas[to as usize];
+        let Some(record) = Record::from_words(words) else {
+            return;
+        };
+        member.pending.push(record);
+        if eager && !member.can_hold(&record) {
+            member.give(Call::Vertex(words.to_vec()));
+        }
+        while let Some(at) = member.pending.iter().position(|r| member.can_hold(r)) {
+            let record = member.pending.swap_remove(at);
+            member.give(Call::Vertex(record.words().to_vec()));
+        }
+    }
+
+    /// In a new round, draws when the member will sign, make its vertex and time out.
+    fn enter(&mut self, own: u32) {
+        let (now, spread) = (self.now, self.options.spread);
+        let round = self.member(own).round();
+        if self.member(own).times.round == round {
+            return;
+        }
+        let sign = now + self.rng.below(spread);
+        let make = sign + self.rng.below(spread);
+        let give_up = now + PATIENCE * spread;
+        for time in [sign, make, give_up] {
+            self.wake(own, time);
+        }
+        self.member(own).times = Times {
+            round,
+            sign,
+            make,
+            give_up,
+        };
+    }
+
+    /// Signs a timeout for the current round if its leader's vertex is late.
+    fn time_out(&mut self, own: u32) {
+        let (now, rounds) = (self.now, self.rounds());
+        let member = self.member(own);
+        let round = member.round();
+        if round > rounds || now < member.times.give_up || member.holds_leader(round) {
+            return;
+        }
+        if !has(member.mask(round, TIMEOUTS), own) {
+            member.give(Call::Timeout(round, own));
+            self.tell_others(own, &Call::Timeout(round, own));
+            self.enter(own);
+        }
+    }
+
+    /// Signs a no-vote against the previous leader, if its vertex is not held. A member that leads
+    /// the current round waits until its own no-vote completes the certificate: having signed, it
+    /// could not name that vertex if it came after all.
+    fn sign(&mut self, own: u32) {
+        let (group, now) = (self.group, self.now);
+        let member = self.member(own);
+        let round = member.round();
+        if now < member.times.sign || !member.may_sign() {
+            return;
+        }
+        let signers = member.mask(round - 1, NO_VOTES) | bit(own);
+        let leads = round <= LAST_ROUND && group.leader(round) == own;
+        if leads && !group.is_quorum(signers) {
+            return;
+        }
+        if member.give(Call::SignNoVote) == 0 {
+            self.tell_others(own, &Call::NoVote(round - 1, own));
+        }
+    }
+
+    /// Makes the vertex of the current round: where the previous leader's is not held, after the
+    /// no-vote. A member that leads the round tries without, and gets 10 until it has a certificate.
+    fn make(&mut self, own: u32) {
+        let (group, now, rounds) = (self.group, self.now, self.rounds());
+        let member = self.member(own);
+        let round = member.round();
+        if round > rounds || now < member.times.make || member.has_made(round) {
+            return;
+        }
+        let waits = member.may_sign() && group.leader(round) != own;
+        if !waits && !self.left_out.contains(&vertex_id(round, own)) {
+            self.try_to_make(own);
+        }
+    }
+
+    fn try_to_make(&mut self, own: u32) {
+        let tag = self.rng.word();
+        let member = self.member(own);
+        let proposal = propose(&mut member.state, tag);
+        member.calls.push(Call::Propose(tag));
+        if proposal.answer.number == 0 {
+            self.broadcast(proposal.record.to_vec());
+        }
+    }
+
+    /// A record as first message and as vertex to all members, in any order.
+    fn broadcast(&mut self, record: Vec<u32>) {
+        let slow = self.rng.percent(self.options.slow);
+        let slowness = if slow { SLOWNESS } else { 0 };
+        let late = self.rng.below(slowness * self.options.spread);
+        for to in 0..self.group.n() {
+            for _ in 0..self.copies() {
+                if !self.rng.percent(self.options.lost_messages) {
+                    self.send(to, Call::First(record.clone()), 0);
+                }
+            }
+            for _ in 0..self.copies() {
+                self.send(to, Call::Vertex(record.clone()), late);
+            }
+        }
+    }
+
+    fn copies(&mut self) -> u32 {
+        1 + u32::from(self.rng.percent(REPEATED))
+    }
+
+    fn tell_others(&mut self, own: u32, call: &Call) {
+        for to in members(self.group.all() & !bit(own)) {
+            self.send(to, call.clone(), 0);
+        }
+    }
+
+    /// A call that is to be refused, or repeats what the network brings anyway.
+    fn add_noise(&mut self, to: u32) {
+        let n = self.group.n();
+        let drawn = self.rng.below(4);
+        let member = &mut self.replicas[to as usize];
+        let round = member.round();
+        match drawn {
+            0 if member.has_made(round) || round > LAST_ROUND => self.try_to_make(to),
+            1 if !member.may_sign() => {
+                member.give(Call::SignNoVote);
+            }
+            2 => {
+                let drawn = self.rng.pick(&member.calls).cloned();
+                let own = matches!(drawn, Some(Call::Propose(_) | Call::SignNoVote));
+                let opens = matches!(drawn, Some(Call::Open(..)));
+                if let Some(call) = drawn.filter(|_| !own && !opens) {
+                    member.give(call);
+                }
+            }
+            3 => {
+                let beyond = n + 1 + self.rng.below(3);
+                member.give(Call::Open(n, beyond));
+            }
+            _ => {}
+        }
+    }
+
+    fn rounds(&self) -> u32 {
+        self.options.rounds.clamp(1, LAST_ROUND)
+    }
+}
+
+/// The vertices that silent members leave out.
+fn draw_left_out(rng: &mut Rng, group: Group, silent: u32, options: &Options) -> BTreeSet<u32> {
+    let mut left_out = BTreeSet::new();
+    for round in 1..=LAST_ROUND {
+        for member in members(silent) {
+            if group.leader(round) == member || rng.percent(options.silent) {
+                left_out.insert(vertex_id(round, member));
+            }
+        }
+    }
+    left_out
+}
+
+/// A member's state and the calls made on it.
+struct Member {
+    group: Group,
+    state: Vec<u32>,
+    calls: Vec<Call>,
+    /// Vertices that wait for parents.
+    pending: Vec<Record>,
+    times: Times,
+}
+
+/// When a member signs its no-vote, makes its vertex and gives up on the leader, in a round.
+#[derive(Default)]
+struct Times {
+    round: u32,
+    sign: u32,
+    make: u32,
+    give_up: u32,
+}
+
+impl Member {
+    fn new(group: Group, own: u32) -> Member {
+        let mut member = Member {
+            group,
+            state: vec![0; STATE_WORDS],
+            calls: Vec::new(),
+            pending: Vec::new(),
+            times: Times::default(),
+        };
+        member.give(Call::Open(group.n(), own + 1));
+        member
+    }
+
+    /// Makes a call and returns its number.
+    fn give(&mut self, call: Call) -> u32 {
+        let number = call.apply(&mut self.state).number;
+        self.calls.push(call);
+        number
+    }
+
+    fn round(&self) -> u32 {
+        self.state[CURRENT_ROUND]
+    }
+
+    fn mask(&self, round: u32, which: usize) -> u32 {
+        self.state[mask_place(round, which)]
+    }
+
+    fn holds(&self, id: u32) -> bool {
+        has(self.mask(round_of(id), HELD), member_of(id))
+    }
+
+    fn can_hold(&self, record: &Record) -> bool {
+        record.parents().all(|id| self.holds(id))
+    }
+
+    fn holds_leader(&self, round: u32) -> bool {
+        self.holds(self.group.leader_id(round))
+    }
+
+    fn has_made(&self, round: u32) -> bool {
+        round <= LAST_ROUND && self.state[MADE_ROUNDS] & round_bit(round) != 0
+    }
+
+    /// Whether a no-vote against the previous leader can still be signed.
+    fn may_sign(&self) -> bool {
+        let round = self.round();
+        round >= 2
+            && !self.holds_leader(round - 1)
+            && !self.has_made(round)
+            && self.state[SIGNED_NO_VOTES] & round_bit(round - 1) == 0
+    }
+}

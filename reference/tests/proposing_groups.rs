@@ -1,0 +1,294 @@
+//! Groups driven by made records alone: what A1 says of every made record and signed no-vote, and
+//! that such groups go on, commit and agree.
+
+mod common;
+
+use std::collections::{BTreeMap, BTreeSet};
+
+use common::*;
+use reference::group::{has, Group};
+use reference::layout::{
+    mask_place, member_of, round_bit, round_of, CURRENT_ROUND, HELD, LAST_CURRENT_ROUND,
+    MADE_ROUNDS, NO_VOTES, RECORD_WORDS, SIGNED_NO_VOTES,
+};
+use reference::model::Lists;
+use reference::record::{first_refusal, Record};
+use reference::simulate::{simulate_proposing, Options, Run};
+use reference::*;
+
+/// What was seen over a number of groups.
+#[derive(Default)]
+struct Seen {
+    propose: BTreeSet<u32>,
+    sign: BTreeSet<u32>,
+    made: usize,
+    with_weak: usize,
+    with_timeouts: usize,
+    with_no_votes: usize,
+    signed: usize,
+    /// Records that leave out the previous leader's vertex though it is held.
+    left_out: usize,
+    /// Vertices given before their parents were held, and again after they were admitted.
+    early: usize,
+    again: usize,
+    committed: u32,
+    skipped: u32,
+}
+
+/// A member as its calls go on.
+struct Member<'a> {
+    group: Group,
+    own: u32,
+    state: State,
+    model: Model,
+    /// The records made, and the rounds whose leader a no-vote was signed against.
+    made: BTreeMap<u32, Record>,
+    signed: BTreeSet<u32>,
+    vertices: BTreeMap<u32, Record>,
+    seen: &'a mut Seen,
+}
+
+/// Where a member's calls have led.
+struct End {
+    state: State,
+    made: BTreeMap<u32, Record>,
+    vertices: BTreeMap<u32, Record>,
+    /// The lists in the midst of the calls and at their end.
+    lists: [Lists; 2],
+}
+
+fn follow(run: &Run, own: u32, seen: &mut Seen) -> End {
+    let mut member = Member {
+        group: Group::new(run.n).expect("the size is legal"),
+        own,
+        state: vec![0; STATE_WORDS],
+        model: Model::default(),
+        made: BTreeMap::new(),
+        signed: BTreeSet::new(),
+        vertices: BTreeMap::new(),
+        seen,
+    };
+    let calls = &run.replicas[own as usize];
+    assert_eq!(calls[0], Call::Open(run.n, own + 1));
+    let (start, rest) = calls.split_at(1 + calls.len() * (1 + own as usize) / (2 + run.n as usize));
+    start.iter().for_each(|call| member.make(call));
+    let midst = member.lists();
+    rest.iter().for_each(|call| member.make(call));
+    let lists = [midst, member.lists()];
+    End {
+        state: member.state,
+        made: member.made,
+        vertices: member.vertices,
+        lists,
+    }
+}
+
+impl Member<'_> {
+    fn make(&mut self, call: &Call) {
+        let before = self.state.clone();
+        let number = match call {
+            Call::Propose(tag) => self.propose(&before, *tag),
+            Call::SignNoVote => self.sign(&before),
+            Call::Vertex(words) => self.take(&before, words),
+            call => call.apply(&mut self.state).number,
+        };
+        match call {
+            Call::First(_) | Call::Timeout(..) | Call::NoVote(..) => {
+                assert!([0, 12].contains(&number), "{call:?} {number}")
+            }
+            Call::Open(..) => assert!(number == 6 || before[0] == 0, "{call:?} {number}"),
+            _ => {}
+        }
+        self.model.feed(call, number);
+        if number != 0 {
+            assert_eq!(self.state, before, "{call:?}");
+        } else if self.state[3] != before[3] {
+            self.lists();
+        }
+    }
+
+    /// The lists, which are the model's.
+    fn lists(&self) -> Lists {
+        let (leaders, journal) = lists(&self.state);
+        let lists = Lists { leaders, journal };
+        assert_eq!(lists, self.model.lists());
+        lists
+    }
+
+    fn propose(&mut self, before: &State, tag: u32) -> u32 {
+        let Proposal { answer, record } = propose(&mut self.state, tag);
+        self.seen.propose.insert(answer.number);
+        assert_eq!(answer, Answer::refused(answer.number));
+        if answer.number != 0 {
+            assert_eq!(record, [0; RECORD_WORDS]);
+            return answer.number;
+        }
+        let made = Record::from_words(&record).expect("a record has 12 words");
+        let round = before[CURRENT_ROUND];
+        assert_eq!((made.round, made.source, made.tag), (round, self.own, tag));
+        assert_eq!(
+            self.made.insert(round, made),
+            None,
+            "one record for a round"
+        );
+        assert!(!(made.votes(self.group) && self.signed.contains(&(round - 1))));
+        assert_eq!(first_refusal(self.group, &made), None);
+        assert!(made.parents().all(|id| holds(before, id)), "question 14");
+        let marks = before[MADE_ROUNDS] | round_bit(round);
+        assert_eq!(changes(before, &self.state), [(MADE_ROUNDS, marks)]);
+        self.note(before, &made);
+        0
+    }
+
+    fn note(&mut self, before: &State, made: &Record) {
+        self.seen.made += 1;
+        self.seen.with_weak += usize::from(made.weak_count > 0);
+        self.seen.with_timeouts += usize::from(made.timeouts != 0);
+        self.seen.with_no_votes += usize::from(made.no_votes != 0);
+        let lacks = made.lacks_previous_leader(self.group);
+        let held = || holds(before, self.group.leader_id(made.round - 1));
+        self.seen.left_out += usize::from(lacks && held());
+    }
+
+    fn sign(&mut self, before: &State) -> u32 {
+        let answer = sign_no_vote(&mut self.state);
+        self.seen.sign.insert(answer.number);
+        assert_eq!(answer, Answer::refused(answer.number));
+        if answer.number != 0 {
+            return answer.number;
+        }
+        let round = before[CURRENT_ROUND] - 1;
+        let vote = self.made.get(&(round + 1));
+        assert_eq!(vote, None, "no record names the leader signed against");
+        assert!(self.signed.insert(round), "one no-vote for a round");
+        let marks = (SIGNED_NO_VOTES, before[SIGNED_NO_VOTES] | round_bit(round));
+        let at = mask_place(round, NO_VOTES);
+        let signers = (at, before[at] | 1 << self.own);
+        assert_eq!(changes(before, &self.state), [marks, signers]);
+        self.seen.signed += 1;
+        0
+    }
+
+    /// A vertex is admitted if its parents are held and it is new.
+    fn take(&mut self, before: &State, words: &[u32]) -> u32 {
+        let record = Record::from_words(words).expect("a record has 12 words");
+        let number = take_vertex(&mut self.state, words).number;
+        if self.vertices.contains_key(&record.id()) {
+            self.seen.again += 1;
+            assert_eq!(number, 12);
+        } else if record.parents().all(|id| holds(before, id)) {
+            assert_eq!(number, 0, "{record:?}");
+            self.vertices.insert(record.id(), record);
+        } else {
+            self.seen.early += 1;
+            assert_eq!(number, 14);
+        }
+        number
+    }
+}
+
+fn holds(state: &State, id: u32) -> bool {
+    has(state[mask_place(round_of(id), HELD)], member_of(id))
+}
+
+fn prefixes(a: &Lists, b: &Lists) -> bool {
+    let within = |a: &[u32], b: &[u32]| a.starts_with(b) || b.starts_with(a);
+    within(&a.leaders, &b.leaders) && within(&a.journal, &b.journal)
+}
+
+/// Follows all members of a group that nobody leaves early.
+fn run_group(seed: u64, n: u32, options: &Options, seen: &mut Seen) {
+    let options = Options {
+        early_stop: 0,
+        ..options.clone()
+    };
+    let run = simulate_proposing(seed, n, &options);
+    assert!(run.faulty.count_ones() <= Group::new(n).expect("the size is legal").f());
+    let ends: Vec<End> = (0..n).map(|own| follow(&run, own, seen)).collect();
+    let made: BTreeMap<u32, Record> = ends
+        .iter()
+        .flat_map(|end| end.made.values().map(|record| (record.id(), *record)))
+        .collect();
+    for end in &ends {
+        assert!(is_well_formed(&end.state));
+        assert_eq!(end.vertices, made, "all records arrive, and no other");
+        assert_eq!(end.state[CURRENT_ROUND], LAST_CURRENT_ROUND);
+        let now = status(&end.state);
+        seen.committed += now.committed_round;
+        seen.skipped += now.committed_round - now.leader_count;
+    }
+    let all: Vec<&Lists> = ends.iter().flat_map(|end| &end.lists).collect();
+    for (at, a) in all.iter().enumerate() {
+        assert!(
+            all[at..].iter().all(|b| prefixes(a, b)),
+            "n {n}, seed {seed}"
+        );
+    }
+}
+
+/// Groups of these sizes, each with so many seeds.
+fn run_groups(options: &Options, groups: &[(u32, u64)]) -> Seen {
+    let mut seen = Seen::default();
+    for &(n, seeds) in groups {
+        for seed in 0..seeds {
+            run_group(seed, n, options, &mut seen);
+        }
+    }
+    seen
+}
+
+#[test]
+fn calm_groups_vote_for_every_leader() {
+    let seen = run_groups(&Options::calm(), &[(4, 2), (7, 1), (16, 1)]);
+    let members = 2 * 4 + 7 + 16;
+    let most = 32 * members as usize;
+    assert!((most * 9 / 10..=most).contains(&seen.made), "{}", seen.made);
+    assert_eq!((seen.with_timeouts, seen.signed, seen.skipped), (0, 0, 0));
+    assert_eq!(seen.committed, 31 * members);
+    assert!(seen.again > 100, "{}", seen.again);
+}
+
+#[test]
+fn groups_with_silent_leaders_go_on() {
+    let seen = run_groups(&Options::typical(), &[(4, 6), (7, 3), (16, 1)]);
+    assert_eq!(seen.propose, BTreeSet::from([0, 5, 10, 12]));
+    assert_eq!(seen.sign, BTreeSet::from([0, 12, 17]));
+    for (what, count) in [
+        ("weak", seen.with_weak),
+        ("timeouts", seen.with_timeouts),
+        ("no-votes", seen.with_no_votes),
+        ("signed", seen.signed),
+        ("early", seen.early),
+    ] {
+        assert!(count > 50, "{what} {count}");
+    }
+    assert!(seen.left_out > 0);
+    let members = 6 * 4 + 3 * 7 + 16;
+    assert!(seen.committed > 25 * members, "{}", seen.committed);
+    assert!(seen.skipped > 5 * members, "{}", seen.skipped);
+}
+
+#[test]
+fn groups_with_slow_messages_go_on() {
+    let seen = run_groups(&Options::rough(), &[(4, 6), (7, 3), (16, 1)]);
+    assert!(seen.with_weak > 500, "{}", seen.with_weak);
+    assert!(seen.left_out > 2, "{}", seen.left_out);
+    let members = 6 * 4 + 3 * 7 + 16;
+    assert!(seen.committed > 25 * members, "{}", seen.committed);
+    assert!(seen.skipped > 5 * members, "{}", seen.skipped);
+}
+
+#[test]
+fn a_seed_gives_the_same_calls() {
+    let calls = |seed| simulate_proposing(seed, 4, &Options::typical()).replicas;
+    assert_eq!(calls(3), calls(3));
+    assert_ne!(calls(3), calls(4));
+    assert_ne!(calls(3)[0], calls(3)[1]);
+}
+
+#[test]
+fn an_illegal_size_gives_no_replicas() {
+    assert!(simulate_proposing(1, 5, &Options::calm())
+        .replicas
+        .is_empty());
+}

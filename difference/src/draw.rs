@@ -40,16 +40,46 @@ pub fn list_op(rng: &mut Rng, words: &[u32]) -> Op {
 
 /// Any call, with arguments that suit the words and the calls of the group.
 pub fn any_op(rng: &mut Rng, words: &[u32], calls: &[Call]) -> Op {
-    match rng.below(12) {
+    match rng.below(14) {
         0 => Op::Status,
         1 | 2 => list_op(rng, words),
-        3 => Op::Change(Call::Open(any_size(rng))),
-        4 | 5 => Op::Change(note(rng)),
+        3 => Op::Change(opening(rng)),
+        4 => Op::Change(note(rng)),
+        5 => Op::Change(noted(rng, words).unwrap_or_else(|| note(rng))),
         6 => Op::Change(other_length(rng, calls)),
         7 => Op::Change(other_words(rng, calls)),
         8 => Op::Change(random_record(rng)),
+        9 => Op::Change(propose(rng)),
+        10 => Op::Change(Call::SignNoVote),
         _ => Op::Change(picked(rng, calls)),
     }
+}
+
+fn opening(rng: &mut Rng) -> Call {
+    let n = any_size(rng);
+    Call::Open(n, any_own(rng, n))
+}
+
+/// Word 5 of a state or opening: mostly up to n + 1.
+fn any_own(rng: &mut Rng, n: u32) -> u32 {
+    match rng.below(16) {
+        0 => EDGES[rng.below(8) as usize],
+        1 => rng.word(),
+        _ => rng.below(n.saturating_add(2)),
+    }
+}
+
+fn propose(rng: &mut Rng) -> Call {
+    Call::Propose(rng.word())
+}
+
+/// A record of our own and a no-vote of our own, in either order.
+pub fn own_ops(rng: &mut Rng) -> [Op; 2] {
+    let mut calls = [propose(rng), Call::SignNoVote];
+    if rng.percent(50) {
+        calls.reverse();
+    }
+    calls.map(Op::Change)
 }
 
 fn any_size(rng: &mut Rng) -> u32 {
@@ -78,9 +108,23 @@ fn note(rng: &mut Rng) -> Call {
     }
 }
 
+/// A timeout or no-vote that the words have already, if a few drawn rounds have one.
+fn noted(rng: &mut Rng, words: &[u32]) -> Option<Call> {
+    let which = [TIMEOUTS, NO_VOTES][rng.below(2) as usize];
+    (0..LAST_ROUND).find_map(|_| {
+        let round = 1 + rng.below(LAST_ROUND);
+        let mask = words.get(mask_place(round, which)).copied()?;
+        let signer = rng.member(mask)?;
+        Some(match which {
+            TIMEOUTS => Call::Timeout(round, signer),
+            _ => Call::NoVote(round, signer),
+        })
+    })
+}
+
 /// One of the calls.
 fn picked(rng: &mut Rng, calls: &[Call]) -> Call {
-    rng.pick(calls).cloned().unwrap_or(Call::Open(4))
+    rng.pick(calls).cloned().unwrap_or(Call::Open(4, 0))
 }
 
 /// The words of one of the records, and of zeros if there is none.
@@ -167,12 +211,62 @@ pub fn damage(rng: &mut Rng, state: &[u32]) -> Vec<(usize, u32)> {
     }
 }
 
-/// Words as few calls would leave them: notes, first messages and votes, the current round, a tag.
+/// Words 5 to 7 changed, so that the state often remains well formed. Some come with another
+/// current round, and with other timeouts and no-votes of the round before it.
+pub fn own_words(rng: &mut Rng, state: &[u32]) -> Vec<(usize, u32)> {
+    let n = state[N];
+    let own = any_own(rng, n);
+    let is_watcher = own == 0 && rng.percent(80);
+    let mut marks = |at: usize| match rng.below(5) {
+        _ if is_watcher => 0,
+        0 => 0,
+        1 => u32::MAX,
+        2 => rng.word(),
+        _ => state[at] ^ (1 << rng.below(u32::BITS)),
+    };
+    let mut words = vec![
+        (MADE_ROUNDS, marks(MADE_ROUNDS)),
+        (SIGNED_NO_VOTES, marks(SIGNED_NO_VOTES)),
+        (OWN, own),
+    ];
+    if rng.percent(60) {
+        let round = near(rng, state[CURRENT_ROUND]);
+        words.push((CURRENT_ROUND, round));
+        if rng.percent(40) {
+            words.push((OWN, 1 + (round - 1) % n));
+        }
+        if round >= 2 {
+            let before = [TIMEOUTS, NO_VOTES].map(|which| mask_place(round - 1, which));
+            words.extend(before.map(|at| (at, any_signers(rng, n))));
+        }
+    }
+    words
+}
+
+/// A current round: any, one of the first and last, or near another.
+fn near(rng: &mut Rng, round: u32) -> u32 {
+    let drawn = match rng.below(6) {
+        0 => 1 + rng.below(LAST_CURRENT_ROUND),
+        1 => [1, 2, LAST_ROUND, LAST_CURRENT_ROUND][rng.below(4) as usize],
+        _ => (round + rng.below(4)).saturating_sub(2),
+    };
+    drawn.clamp(1, LAST_CURRENT_ROUND)
+}
+
+/// A mask of members, mostly of about a quorum.
+fn any_signers(rng: &mut Rng, n: u32) -> u32 {
+    let all = (1 << n) - 1;
+    let count = 2 * n / 3 + rng.below(3);
+    rng.top_up(0, all, count)
+}
+
+/// Words as few calls would leave them: notes, first messages and votes, the current round, a tag,
+/// words 5 to 7.
 fn unlikely(rng: &mut Rng, state: &[u32]) -> Vec<(usize, u32)> {
     let all = (1 << state[N]) - 1;
     let round = 2 + rng.below(LAST_ROUND - 1);
     let mask = rng.word() & all;
-    match rng.below(5) {
+    match rng.below(6) {
         0 => vec![(mask_place(round, TIMEOUTS), mask)],
         1 => vec![(mask_place(round, NO_VOTES), mask)],
         2 => vec![
@@ -180,6 +274,7 @@ fn unlikely(rng: &mut Rng, state: &[u32]) -> Vec<(usize, u32)> {
             (mask_place(round, VOTES), mask),
         ],
         3 => vec![(CURRENT_ROUND, 1 + rng.below(LAST_ROUND + 1))],
+        4 => own_words(rng, state),
         _ => {
             let held = state[mask_place(round, HELD)];
             let member = rng.member(held);

@@ -1,7 +1,7 @@
 //! Something that makes the calls: the proved library, the second implementation, or a broken one.
 
-use crate::op::{Op, Reply};
-use reference::Call;
+use crate::op::{reply, Op, Reply, ANSWER_NUMBERS};
+use reference::{Answer, Call};
 
 pub trait Engine {
     /// Makes a call on the lent words.
@@ -16,8 +16,8 @@ impl Engine for Second {
         match op {
             Op::Change(call) => change(state, call),
             Op::Status => status(state),
-            Op::AskLeaders(k) => [reference::ask_leaders(state, *k), 0, 0, 0, 0],
-            Op::AskJournal(k) => [reference::ask_journal(state, *k), 0, 0, 0, 0],
+            Op::AskLeaders(k) => reply(&[reference::ask_leaders(state, *k)]),
+            Op::AskJournal(k) => reply(&[reference::ask_journal(state, *k)]),
             Op::HandLeaders(k) => part(state, reference::hand_leaders(state, *k)),
             Op::HandJournal(k) => part(state, reference::hand_journal(state, *k)),
         }
@@ -25,27 +25,36 @@ impl Engine for Second {
 }
 
 fn change(state: &mut [u32], call: &Call) -> Reply {
-    let answer = call.apply(state);
-    [answer.number, answer.id, answer.leaders, answer.journal, 0]
+    match call {
+        Call::Propose(tag) => {
+            let proposal = reference::propose(state, *tag);
+            reply(&[&numbers(proposal.answer)[..], &proposal.record].concat())
+        }
+        call => reply(&numbers(call.apply(state))),
+    }
+}
+
+fn numbers(answer: Answer) -> [u32; ANSWER_NUMBERS] {
+    [answer.number, answer.id, answer.leaders, answer.journal]
 }
 
 fn status(state: &[u32]) -> Reply {
     let status = reference::status(state);
-    [
+    reply(&[
         status.number,
         status.current_round,
         status.committed_round,
         status.leader_count,
         status.journal_count,
-    ]
+    ])
 }
 
 /// A handed list as the place of its words in the state; where it was refused, 0 and 0.
 fn part(state: &[u32], (number, list): (u32, &[u32])) -> Reply {
     if number != 0 {
-        return [number, 0, list.len() as u32, 0, 0];
+        return reply(&[number, 0, list.len() as u32]);
     }
     let bytes = list.as_ptr() as usize - state.as_ptr() as usize;
     let start = bytes / size_of::<u32>();
-    [0, start as u32, list.len() as u32, 0, 0]
+    reply(&[0, start as u32, list.len() as u32])
 }

@@ -20,8 +20,16 @@ impl Step {
     /// The call, if it is one that a line of `sheetlog` can stand for.
     pub fn as_line(&self) -> Option<&Call> {
         match self {
-            Step::Perform(Op::Change(call)) => Call::parse(call.line().as_bytes()).map(|_| call),
+            Step::Perform(Op::Change(call)) => is_line(call).then_some(call),
             _ => None,
+        }
+    }
+
+    /// The step for a watcher: an opening has no own member.
+    pub fn for_watcher(&self) -> Step {
+        match self {
+            Step::Perform(Op::Change(Call::Open(n, _))) => Step::of_call(&Call::Open(*n, 0)),
+            step => step.clone(),
         }
     }
 
@@ -32,6 +40,11 @@ impl Step {
             Step::Set(at, word) => vec![Command::Set(*at as u32, *word)],
         }
     }
+}
+
+/// Whether a line of `sheetlog` can stand for the call.
+pub fn is_line(call: &Call) -> bool {
+    Call::parse(call.line().as_bytes()).is_some()
 }
 
 #[derive(Clone, Debug)]

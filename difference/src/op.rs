@@ -1,6 +1,7 @@
 //! A call with its arguments, and what it answers.
 
 use reference::harness::Command;
+use reference::layout::RECORD_WORDS;
 use reference::Call;
 
 /// Any call but for its state.
@@ -16,12 +17,14 @@ pub enum Op {
 }
 
 /// The names of the calls, in the order of `Op::row`.
-pub const NAMES: [&str; 10] = [
+pub const NAMES: [&str; 12] = [
     "open",
     "vertex",
     "first message",
     "timeout",
     "no-vote",
+    "propose",
+    "sign no-vote",
     "status",
     "ask leaders",
     "ask journal",
@@ -33,16 +36,18 @@ impl Op {
     /// The place of the call in tables.
     pub fn row(&self) -> usize {
         match self {
-            Op::Change(Call::Open(_)) => 0,
+            Op::Change(Call::Open(..)) => 0,
             Op::Change(Call::Vertex(_)) => 1,
             Op::Change(Call::First(_)) => 2,
             Op::Change(Call::Timeout(..)) => 3,
             Op::Change(Call::NoVote(..)) => 4,
-            Op::Status => 5,
-            Op::AskLeaders(_) => 6,
-            Op::AskJournal(_) => 7,
-            Op::HandLeaders(_) => 8,
-            Op::HandJournal(_) => 9,
+            Op::Change(Call::Propose(_)) => 5,
+            Op::Change(Call::SignNoVote) => 6,
+            Op::Status => 7,
+            Op::AskLeaders(_) => 8,
+            Op::AskJournal(_) => 9,
+            Op::HandLeaders(_) => 10,
+            Op::HandJournal(_) => 11,
         }
     }
 
@@ -59,8 +64,23 @@ impl Op {
     }
 }
 
+/// The numbers of a change's answer: number, id, leaders, journal.
+pub const ANSWER_NUMBERS: usize = 4;
+
 /// All numbers of an answer, unused ones 0. The first is the answer number.
 ///
-/// A change: number, id, leaders, journal. Status: number and the four words. A handed list:
-/// number, and first word and length of the part.
-pub type Reply = [u32; 5];
+/// A change: the answer's, and of making our own vertex the record's words. Status: number and the
+/// four words. A handed list: number, and first word and length of the part.
+pub type Reply = [u32; ANSWER_NUMBERS + RECORD_WORDS];
+
+/// These numbers, and zeros.
+pub fn reply(numbers: &[u32]) -> Reply {
+    let mut reply = Reply::default();
+    reply[..numbers.len()].copy_from_slice(numbers);
+    reply
+}
+
+/// The record's words in the answer of making our own vertex.
+pub fn record_of(reply: &Reply) -> &[u32] {
+    &reply[ANSWER_NUMBERS..]
+}

@@ -1,7 +1,8 @@
 //! The proved library, called through its C interface.
 
 use crate::engine::Engine;
-use crate::op::{Op, Reply};
+use crate::op::{reply, Op, Reply, ANSWER_NUMBERS};
+use reference::layout::RECORD_WORDS;
 use reference::Call;
 
 #[repr(C)]
@@ -10,6 +11,12 @@ struct Answer {
     id: u32,
     leaders: u32,
     journal: u32,
+}
+
+#[repr(C)]
+struct Proposal {
+    answer: Answer,
+    record: [u32; RECORD_WORDS],
 }
 
 #[repr(C)]
@@ -31,11 +38,13 @@ struct Part {
 #[rustfmt::skip]
 #[link(name = "yardbook", kind = "static")]
 extern "C" {
-    fn yardbook_open(state: *mut u32, words: usize, n: u32) -> Answer;
+    fn yardbook_open(state: *mut u32, words: usize, n: u32, own: u32) -> Answer;
     fn yardbook_take_vertex(state: *mut u32, words: usize, record: *const u32, length: usize) -> Answer;
     fn yardbook_take_first_message(state: *mut u32, words: usize, record: *const u32, length: usize) -> Answer;
     fn yardbook_take_timeout(state: *mut u32, words: usize, round: u32, signer: u32) -> Answer;
     fn yardbook_take_no_vote(state: *mut u32, words: usize, round: u32, signer: u32) -> Answer;
+    fn yardbook_propose(state: *mut u32, words: usize, tag: u32) -> Proposal;
+    fn yardbook_sign_no_vote(state: *mut u32, words: usize) -> Answer;
     fn yardbook_status(state: *const u32, words: usize) -> Status;
     fn yardbook_ask_leaders(state: *const u32, words: usize, k: u32) -> Answer;
     fn yardbook_ask_journal(state: *const u32, words: usize, k: u32) -> Answer;
@@ -69,7 +78,9 @@ fn change(state: &mut [u32], call: &Call) -> Reply {
     // overlaps them.
     answer(unsafe {
         match call {
-            Call::Open(n) => yardbook_open(words, size, *n),
+            Call::Propose(tag) => return proposal(yardbook_propose(words, size, *tag)),
+            Call::SignNoVote => yardbook_sign_no_vote(words, size),
+            Call::Open(n, own) => yardbook_open(words, size, *n, *own),
             Call::Vertex(record) => {
                 yardbook_take_vertex(words, size, record.as_ptr(), record.len())
             }
@@ -83,19 +94,25 @@ fn change(state: &mut [u32], call: &Call) -> Reply {
 }
 
 fn answer(answer: Answer) -> Reply {
-    [answer.number, answer.id, answer.leaders, answer.journal, 0]
+    reply(&[answer.number, answer.id, answer.leaders, answer.journal])
+}
+
+fn proposal(proposal: Proposal) -> Reply {
+    let mut reply = answer(proposal.answer);
+    reply[ANSWER_NUMBERS..].copy_from_slice(&proposal.record);
+    reply
 }
 
 fn status(status: Status) -> Reply {
-    [
+    reply(&[
         status.number,
         status.current_round,
         status.committed_round,
         status.leader_count,
         status.journal_count,
-    ]
+    ])
 }
 
 fn part(part: Part) -> Reply {
-    [part.number, part.start, part.length, 0, 0]
+    reply(&[part.number, part.start, part.length])
 }

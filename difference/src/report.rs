@@ -4,7 +4,7 @@ use std::fmt::Write;
 
 use crate::agreement::follow;
 use crate::engine::Engine;
-use crate::failure::{Failure, Found, Step};
+use crate::failure::{is_line, Failure, Found, Step};
 use crate::op::NAMES;
 use crate::run::{run, Plan};
 use crate::shrink::{first_difference, shrink};
@@ -72,14 +72,23 @@ fn of_difference(engine: &dyn Engine, size: usize, steps: &[Step]) -> String {
 
 fn of_model(engine: &dyn Engine, calls: &[Call]) -> String {
     let (lists, model) = follow(engine, calls);
-    format!("handed over: {lists:?}\nthe model's: {model:?}\n") + &of_lines(calls)
+    format!("handed over: {lists:?}\nthe model's: {model:?}\n") + &of_calls(calls)
 }
 
 fn of_prefix(engine: &dyn Engine, calls: &[Vec<Call>; 2]) -> String {
     calls.iter().fold(String::new(), |text, calls| {
         let (lists, _) = follow(engine, calls);
-        text + &format!("handed over: {lists:?}\n") + &of_lines(calls)
+        text + &format!("handed over: {lists:?}\n") + &of_calls(calls)
     })
+}
+
+/// As lines if each call is one, else as commands.
+fn of_calls(calls: &[Call]) -> String {
+    if calls.iter().all(is_line) {
+        return of_lines(calls);
+    }
+    let steps: Vec<Step> = calls.iter().map(Step::of_call).collect();
+    of_steps(STATE_WORDS, &steps)
 }
 
 fn of_lines(calls: &[Call]) -> String {

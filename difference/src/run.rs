@@ -10,17 +10,47 @@ use crate::tally::Tally;
 use reference::layout::{LAST_ROUND, LEGAL_SIZES};
 use reference::model::Lists;
 use reference::rng::Rng;
-use reference::simulate::{simulate, Options};
+use reference::simulate::{simulate, simulate_proposing, Options, Run};
 use reference::{Call, Model, STATE_WORDS};
 
-/// A name, and what such groups are like.
-type Kind = (&'static str, fn() -> Options);
+/// A kind of groups: its name, what such groups are like, and how their calls are drawn.
+#[derive(Clone, Copy)]
+struct Kind {
+    name: &'static str,
+    options: fn() -> Options,
+    draw: fn(u64, u32, &Options) -> Run,
+    /// Whether both calls of our own are compared after every step.
+    proposes: bool,
+}
 
-const KINDS: [Kind; 4] = [
-    ("calm", Options::calm),
-    ("typical", Options::typical),
-    ("rough", Options::rough),
-    ("wild", Options::wild),
+impl Kind {
+    const fn world(name: &'static str, options: fn() -> Options) -> Kind {
+        Kind {
+            name,
+            options,
+            draw: simulate,
+            proposes: false,
+        }
+    }
+
+    /// Driven by made records alone.
+    const fn proposing(name: &'static str, options: fn() -> Options) -> Kind {
+        Kind {
+            name,
+            options,
+            draw: simulate_proposing,
+            proposes: true,
+        }
+    }
+}
+
+const KINDS: [Kind; 6] = [
+    Kind::world("calm", Options::calm),
+    Kind::proposing("made records, typical", Options::typical),
+    Kind::world("typical", Options::typical),
+    Kind::world("rough", Options::rough),
+    Kind::proposing("made records, rough", Options::rough),
+    Kind::world("wild", Options::wild),
 ];
 /// Every size with every kind.
 const TURN: u64 = (LEGAL_SIZES.len() * KINDS.len()) as u64;
@@ -82,18 +112,17 @@ impl<'a> Session<'a> {
     }
 
     fn found(&self, failure: Failure) -> Found {
-        let (kind, _) = self.kind();
         Found {
             group: self.group,
             n: self.n(),
-            kind,
+            kind: self.kind().name,
             failure,
         }
     }
 
     /// Every other turn of sizes and kinds runs all 32 rounds, if nothing else is asked for.
     fn options(&mut self) -> Options {
-        let (_, options) = self.kind();
+        let options = self.kind().options;
         let drawn = 2 + self.rng.below(LAST_ROUND - 1);
         let whole = (self.group / TURN).is_multiple_of(2);
         let rounds = if whole { LAST_ROUND } else { drawn };
@@ -105,12 +134,13 @@ impl<'a> Session<'a> {
 
     fn run_group(&mut self) -> Outcome<()> {
         let options = self.options();
-        let run = simulate(self.rng.long_word(), self.n(), &options);
+        let kind = self.kind();
+        let run = (kind.draw)(self.rng.long_word(), self.n(), &options);
         self.tally.groups += 1;
         let mut ends = Vec::new();
-        for calls in &run.replicas {
-            let mut replica = Replica::new(calls, options.premises);
-            replica.follow(self)?;
+        for calls in self.two(run.replicas) {
+            let mut replica = Replica::new(&calls, options.premises);
+            replica.follow(self, kind.proposes)?;
             self.tally.ended(replica.pair.words());
             ends.push((replica.lists(self)?, replica.made));
         }
@@ -118,6 +148,15 @@ impl<'a> Session<'a> {
             Ok([a, b]) if options.premises => self.compare(a, b),
             _ => Ok(()),
         }
+    }
+
+    /// Two of the replicas, drawn at random if there are more.
+    fn two(&mut self, mut replicas: Vec<Vec<Call>>) -> Vec<Vec<Call>> {
+        while replicas.len() > 2 {
+            let at = self.rng.below(replicas.len() as u32);
+            replicas.swap_remove(at as usize);
+        }
+        replicas
     }
 
     /// The lists of two replicas: one must be a prefix of the other.
@@ -134,18 +173,20 @@ impl<'a> Session<'a> {
     }
 }
 
-/// A state beside a replica's own, and the steps that led to it.
-struct Aside {
+/// A state beside a replica's own, and what led to it: the replica's calls, then steps.
+struct Aside<'a> {
     pair: Pair,
+    calls: &'a [Call],
     steps: Vec<Step>,
 }
 
-impl Aside {
+impl Aside<'_> {
     /// Words of any kind.
-    fn of_words(words: &[u32]) -> Aside {
+    fn of_words(words: &[u32]) -> Aside<'static> {
         let places = words.iter().copied().enumerate();
         Aside {
             pair: Pair::new(words),
+            calls: &[],
             steps: places
                 .filter(|(_, word)| *word != 0)
                 .map(|(at, word)| Step::Set(at, word))
@@ -166,11 +207,22 @@ impl Aside {
                 session.tally.see(&op, &reply);
                 Ok(reply)
             }
-            Err(_) => Err(Failure::Steps {
-                size: self.pair.words().len(),
-                steps: self.steps.clone(),
-            }),
+            Err(_) => {
+                let before = self.calls.iter().map(Step::of_call);
+                Err(Failure::Steps {
+                    size: self.pair.words().len(),
+                    steps: before.chain(self.steps.clone()).collect(),
+                })
+            }
         }
+    }
+
+    /// A record of our own and a no-vote of our own.
+    fn own_calls(&mut self, session: &mut Session) -> Outcome<()> {
+        for op in draw::own_ops(&mut session.rng) {
+            self.perform(session, op)?;
+        }
+        Ok(())
     }
 
     /// So many calls of any kind.
@@ -203,8 +255,8 @@ impl<'a> Replica<'a> {
         }
     }
 
-    /// Makes the calls, each followed by some beside it.
-    fn follow(&mut self, session: &mut Session) -> Outcome<()> {
+    /// Makes the calls, each followed by some beside it, and by both of our own if that is asked.
+    fn follow(&mut self, session: &mut Session, proposes: bool) -> Outcome<()> {
         for call in self.calls {
             let reply = self.on_state(session, Op::Change(call.clone()))?;
             self.model.feed(call, reply[0]);
@@ -215,17 +267,15 @@ impl<'a> Replica<'a> {
             if reply[2] > 0 {
                 self.lists(session)?;
             }
+            if proposes {
+                self.own_calls(session)?;
+            }
             self.beside(session)?;
             if session.is_done() {
                 break;
             }
         }
         Ok(())
-    }
-
-    /// The steps that led to the replica's state.
-    fn steps(&self) -> Vec<Step> {
-        self.made.iter().map(Step::of_call).collect()
     }
 
     /// A call on the replica's own state.
@@ -235,7 +285,7 @@ impl<'a> Replica<'a> {
             session.tally.see(&op, &reply);
             return Ok(reply);
         }
-        let mut steps = self.steps();
+        let mut steps: Vec<Step> = self.made.iter().map(Step::of_call).collect();
         steps.push(Step::Perform(op));
         Err(Failure::Steps {
             size: STATE_WORDS,
@@ -272,6 +322,7 @@ impl<'a> Replica<'a> {
                 Aside::of_words(&words).any(session, self.calls, 2)
             }
             9 => self.copy().any(session, self.calls, 3),
+            11 | 12 => self.own_calls(session),
             10 if session.rng.percent(10) => {
                 let words = draw::random_words(&mut session.rng);
                 Aside::of_words(&words).any(session, self.calls, 3)
@@ -280,11 +331,22 @@ impl<'a> Replica<'a> {
         }
     }
 
-    fn copy(&self) -> Aside {
+    fn copy(&self) -> Aside<'_> {
         Aside {
             pair: Pair::new(self.pair.words()),
-            steps: self.steps(),
+            calls: &self.made,
+            steps: Vec::new(),
         }
+    }
+
+    /// A record and a no-vote of our own, on a copy and on one with words 5 to 7 changed.
+    fn own_calls(&self, session: &mut Session) -> Outcome<()> {
+        self.copy().own_calls(session)?;
+        let mut changed = self.copy();
+        for (at, word) in draw::own_words(&mut session.rng, self.pair.words()) {
+            changed.set(at, word);
+        }
+        changed.own_calls(session)
     }
 
     /// A copy of the state with words changed, and more calls where it is still well formed.

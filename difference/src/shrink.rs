@@ -3,7 +3,7 @@
 use crate::agreement::{admitted, follow, prefixes};
 use crate::engine::{Engine, Second};
 use crate::failure::{Failure, Step};
-use crate::op::{Op, Reply};
+use crate::op::Op;
 use crate::pair::{Difference, Pair};
 use reference::{Call, STATE_WORDS};
 
@@ -50,19 +50,18 @@ pub fn first_difference(
 }
 
 /// The numbers that `sheetlog` prints of a list of calls.
-fn printed(engine: &dyn Engine, calls: &[Call]) -> Vec<Reply> {
+fn printed(engine: &dyn Engine, calls: &[Call]) -> Vec<Vec<u32>> {
     let mut state = vec![0; STATE_WORDS];
     let mut lines = Vec::new();
     for call in calls {
         let number = engine.perform(&mut state, &Op::Change(call.clone()))[0];
         let status = engine.perform(&mut state, &Op::Status);
-        lines.push([number, status[1], status[2], status[3], status[4]]);
+        lines.push([&[number], &status[1..=4]].concat());
     }
     for op in [Op::HandLeaders(0), Op::HandJournal(0)] {
         let [_, start, length, ..] = engine.perform(&mut state, &op);
         let entries = state.iter().skip(start as usize).take(length as usize);
-        lines.push([length, 0, 0, 0, 0]);
-        lines.extend(entries.map(|&entry| [entry, 0, 0, 0, 0]));
+        lines.push(entries.copied().collect());
     }
     lines
 }
@@ -84,11 +83,12 @@ pub fn shrink(engine: &dyn Engine, failure: &Failure) -> Failure {
     }
 }
 
-/// By what `sheetlog` prints, if the difference shows there, else by every answer and word.
+/// By what `sheetlog` prints, if the difference shows there, else by every answer and word. Steps
+/// for a watcher are taken where they differ too, since `sheetlog` opens for one.
 fn shrink_steps(engine: &dyn Engine, size: usize, steps: &[Step]) -> Failure {
-    let steps = fewest(steps, |steps| {
-        first_difference(engine, size, steps).is_some()
-    });
+    let differs = |steps: &[Step]| first_difference(engine, size, steps).is_some();
+    let watched: Vec<Step> = steps.iter().map(Step::for_watcher).collect();
+    let steps = fewest(if differs(&watched) { &watched } else { steps }, differs);
     let lines: Option<Vec<Call>> = steps.iter().map(|step| step.as_line().cloned()).collect();
     match lines {
         Some(calls) if size == STATE_WORDS && shows_in_sheetlog(engine, &calls) => {

@@ -2,18 +2,22 @@
 
 use std::fmt::{self, Display, Formatter};
 
-use crate::op::{Op, Reply, NAMES};
+use crate::op::{record_of, Op, Reply, NAMES};
+use reference::record::Record;
 use reference::Call;
 
-const NUMBERS: usize = 16;
+const NUMBERS: usize = 19;
 
-/// The numbers that each call can answer, in the order of `Op::row` (document 01, "The questions").
-const POSSIBLE: [&[u32]; 10] = [
-    &[0, 1, 2],
+/// The numbers that each call can answer, in the order of `Op::row` (document 01, "The questions",
+/// and document 02, A1).
+const POSSIBLE: [&[u32]; NAMES.len()] = [
+    &[0, 1, 2, 6],
     &[0, 1, 3, 4, 5, 6, 7, 8, 9, 10, 11, 12, 13, 14],
     &[0, 1, 3, 4, 5, 6, 7, 8, 9, 10, 11, 12],
     &[0, 1, 3, 5, 6, 12],
     &[0, 1, 3, 5, 6, 12],
+    &[0, 1, 3, 5, 9, 10, 12, 16, 18],
+    &[0, 1, 3, 12, 16, 17],
     &[0, 1, 3],
     &[0, 1, 3, 15],
     &[0, 1, 3, 15],
@@ -37,6 +41,10 @@ pub struct Tally {
     /// Admitted vertices with a no-vote certificate, and with weak ids.
     pub no_vote_certificates: u64,
     pub weak: u64,
+    /// Records made anywhere, those of them with a no-vote certificate, and with weak ids.
+    pub made: u64,
+    pub made_with_no_votes: u64,
+    pub made_with_weak: u64,
     /// Copies of a state with words changed, and those of them that were still well formed.
     pub damaged: u64,
     pub still_well_formed: u64,
@@ -53,6 +61,12 @@ impl Tally {
         self.calls += 1;
         if let Some(count) = self.seen[op.row()].get_mut(reply[0] as usize) {
             *count += 1;
+        }
+        if let (Op::Change(Call::Propose(_)), 0) = (op, reply[0]) {
+            let made = Record::from_words(record_of(reply)).unwrap_or_default();
+            self.made += 1;
+            self.made_with_no_votes += u64::from(made.no_votes != 0);
+            self.made_with_weak += u64::from(made.weak_count != 0);
         }
     }
 
@@ -121,6 +135,12 @@ impl Display for Tally {
                 self.no_vote_certificates,
             ),
             ("vertices with weak ids", self.weak),
+            ("records made", self.made),
+            (
+                "of these with a no-vote certificate",
+                self.made_with_no_votes,
+            ),
+            ("of these with weak ids", self.made_with_weak),
             ("damaged states", self.damaged),
             ("of these still well formed", self.still_well_formed),
             ("full states", self.full),

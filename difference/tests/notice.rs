@@ -1,8 +1,9 @@
 //! The comparison notices wrong answers, words and lists, and shows each by a short input.
 
+use difference::agreement::follow;
 use difference::engine::{Engine, Second};
 use difference::failure::Failure;
-use difference::op::{Op, Reply};
+use difference::op::{reply, Op, Reply};
 use difference::proved::Proved;
 use difference::report::report;
 use difference::run::{run, Plan};
@@ -44,11 +45,11 @@ fn shown<'a>(report: &'a str, title: &str) -> Vec<&'a str> {
 
 #[test]
 fn a_wrong_number_is_shown_by_three_lines() {
-    let engine = Faulty(|_, _, reply| {
-        if reply[0] == 13 {
-            [12, 0, 0, 0, 0]
+    let engine = Faulty(|_, _, answer| {
+        if answer[0] == 13 {
+            reply(&[12])
         } else {
-            reply
+            answer
         }
     });
     let report = reported(&engine);
@@ -105,6 +106,120 @@ fn a_wrong_size_is_shown_by_commands() {
     assert!(commands.len() <= 16, "{report}");
 }
 
+/// The commands that a report on a fault ends with; the first lends a whole state.
+fn commands(engine: &Faulty) -> Vec<String> {
+    let report = reported(engine);
+    let commands = shown(&report, "commands for harness");
+    assert_eq!(commands[0], "1 5864 0", "{report}");
+    commands[1..].iter().map(|line| line.to_string()).collect()
+}
+
+fn is_propose(op: &Op) -> bool {
+    matches!(op, Op::Change(Call::Propose(_)))
+}
+
+#[test]
+fn an_opening_without_word_5_is_shown_by_itself() {
+    let engine = Faulty(|state, op, reply| {
+        if matches!(op, Op::Change(Call::Open(..))) && reply[0] == 0 {
+            state[5] = 0;
+        }
+        reply
+    });
+    let commands = commands(&engine);
+    assert_eq!(commands.len(), 1, "{commands:?}");
+    assert!(commands[0].starts_with("3 "), "{commands:?}");
+}
+
+#[test]
+fn a_made_record_without_its_mark_is_shown_by_two_commands() {
+    let engine = Faulty(|state, op, reply| {
+        if is_propose(op) && reply[0] == 0 {
+            state[6] &= state[6] - 1;
+        }
+        reply
+    });
+    let commands = commands(&engine);
+    assert_eq!(commands.len(), 2, "{commands:?}");
+    assert!(commands[0].starts_with("3 ") && commands[1].starts_with("15 "));
+}
+
+#[test]
+fn a_wrong_word_of_a_made_record_is_noticed() {
+    // The strong mask, the timeouts, the no-votes, and the last weak id for f = 1.
+    for fault in [
+        Faulty(|_, op, reply| with_record_word(op, reply, 2)),
+        Faulty(|_, op, reply| with_record_word(op, reply, 3)),
+        Faulty(|_, op, reply| with_record_word(op, reply, 4)),
+        Faulty(|_, op, reply| with_record_word(op, reply, 7)),
+    ] {
+        let commands = commands(&fault);
+        let last = commands.last().expect("there is a call");
+        assert!(last.starts_with("15 "), "{commands:?}");
+    }
+}
+
+/// The answer with a word of its record changed, where that is not 0.
+fn with_record_word(op: &Op, mut reply: Reply, at: usize) -> Reply {
+    let word = &mut reply[4 + at];
+    *word ^= u32::from(is_propose(op) && *word != 0);
+    reply
+}
+
+#[test]
+fn a_refused_record_that_is_not_empty_is_noticed() {
+    let engine = Faulty(|_, op, mut reply| {
+        if is_propose(op) && reply[0] == 18 {
+            reply[4] = 2;
+        }
+        reply
+    });
+    let commands = commands(&engine);
+    assert!(commands.last().is_some_and(|last| last.starts_with("15 ")));
+}
+
+#[test]
+fn a_signature_without_its_mark_is_noticed() {
+    let engine = Faulty(|state, op, reply| {
+        if *op == Op::Change(Call::SignNoVote) && reply[0] == 0 {
+            state[7] = 0;
+        }
+        reply
+    });
+    let commands = commands(&engine);
+    assert_eq!(commands.last().map(String::as_str), Some("16 0 0"));
+    assert!(commands.len() <= 4, "{commands:?}");
+}
+
+#[test]
+fn a_wrong_order_of_questions_is_noticed() {
+    let few_parents_first = Faulty(|state, op, answer| {
+        if !is_propose(op) || answer[0] != 12 {
+            return answer;
+        }
+        let mut unmarked = state.to_vec();
+        unmarked[6] = 0;
+        match Second.perform(&mut unmarked, op)[0] {
+            18 => reply(&[18]),
+            _ => answer,
+        }
+    });
+    let round_first = Faulty(|state, op, answer| match answer[0] {
+        16 if is_propose(op) && state[1] == 33 => reply(&[5]),
+        _ => answer,
+    });
+    let signed_first = Faulty(|state, op, answer| match answer[0] {
+        17 if *op == Op::Change(Call::SignNoVote) && state[1] > 1 => {
+            let is_signed = state[7] >> (state[1] - 2) & 1 == 1;
+            reply(&[if is_signed { 12 } else { 17 }])
+        }
+        _ => answer,
+    });
+    for engine in [few_parents_first, round_first, signed_first] {
+        assert!(run(&engine, plan(1)).1.is_some());
+    }
+}
+
 #[test]
 fn a_wrong_part_is_noticed() {
     let engine = Faulty(|_, op, mut reply| {
@@ -132,7 +247,7 @@ fn lists_other_than_the_model_s_are_noticed() {
     let Failure::Model { calls } = failure else {
         panic!("another kind of failure");
     };
-    assert_eq!(calls.first(), Some(&Call::Open(4)));
+    assert!(matches!(calls.first(), Some(Call::Open(4, _))), "{calls:?}");
     assert!((5..=12).contains(&calls.len()), "{calls:?}");
 }
 
@@ -147,8 +262,9 @@ fn lists_that_are_no_prefixes_are_noticed() {
     });
     let [mut a, b] = <[_; 2]>::try_from(simulate(1, 4, &Options::calm()).replicas)
         .expect("there are two replicas");
-    let is_third = |call: &Call| matches!(call, Call::Vertex(words) if words[0] >= 3);
-    a.truncate(a.iter().position(is_third).expect("a vertex of round 3"));
+    let leaders = |count: usize| follow(&Second, &a[..count]).1.leaders.len();
+    let one = (1..a.len()).find(|&count| leaders(count) == 1);
+    a.truncate(one.expect("a single leader is committed first"));
     let failure = shrink(&engine, &Failure::Prefix { calls: [a, b] });
     let Failure::Prefix { calls: [a, b] } = failure else {
         panic!("another kind of failure");

@@ -1,6 +1,6 @@
 #!/usr/bin/env bash
-# Builds the example programs with warnings as errors, runs them, and compares them on the same calls with sheetlog, the proved one
-# and the second implementation's. Tests host/install, and builds against what it has installed.
+# Builds the example programs with warnings as errors, runs them, and compares what they print with host/cases and, on the same calls,
+# with sheetlog, the proved one and the second implementation's. Tests host/install, and builds against what it has installed.
 # `rt staticlib yardbook` must have written target/staticlib/libyardbook.a.
 set -euo pipefail
 cd "$(dirname "${BASH_SOURCE[0]}")/.."
@@ -92,7 +92,7 @@ if command -v pkg-config >/dev/null; then ways+=(ask_flags); fi
 # Built against the installed files alone, after they were moved: the sources stand where no other header is found.
 mv "$place/the first" "$place/a moved one"
 cp host/example.c host/example.cpp "$place"
-sides=(sheetlog second cpp rust)
+examples=(cpp rust)
 for way in "${ways[@]}"; do
     "$way" "$place/a moved one/lib/pkgconfig" | xargs printf '%s\n' >"$out/flags"
     mapfile -t flags <"$out/flags"
@@ -100,21 +100,37 @@ for way in "${ways[@]}"; do
     g++ -std=c++20 -O2 "${warnings[@]}" -fno-exceptions "$place/example.cpp" "${flags[@]}" -o "$place/cpp"
     for side in c cpp; do
         "$place/$side" >"$out/installed_${side}_$way.out"
-        sides+=("installed_${side}_$way")
+        examples+=("installed_${side}_$way")
     done
 done
 
 # The proved program: nothing is proved again that has not changed.
 rt check sheetlog >"$out/rt" 2>&1 || { cat "$out/rt" >&2; exit 1; }
 
-cat host/cases/sample.out host/cases/two_leaders.out >"$out/expected"
+# The groups that a watcher follows.
+cat host/cases/sample.out host/cases/two_leaders.out >"$out/watched"
 for case in sample two_leaders; do
     target/bin/sheetlog <"host/cases/$case.in" >&3
     "$out/reference/release/sheetlog" <"host/cases/$case.in" >&4
 done 3>"$out/sheetlog.out" 4>"$out/second.out"
+for side in sheetlog second; do
+    diff -u "$out/watched" "$out/$side.out" || fail "$side differs"
+done
+
+# The group that its members run: sheetlog, fed what they sent, admits all of it and comes to each member's lists.
+{ echo "O 4"; grep '^[VTN]' host/cases/members.out; } >"$out/sent"
+grep '^[LJ]' host/cases/members.out >"$out/lists"
+for program in target/bin/sheetlog "$out/reference/release/sheetlog"; do
+    "$program" <"$out/sent" >"$out/taken"
+    if grep '^[^0LJ]' "$out/taken" >&2; then fail "$program refuses what the members sent"; fi
+    for _ in 0 1 2 3; do tail -n 2 "$out/taken"; done | diff -u "$out/lists" - || fail "$program has not the members' lists"
+done
+
+# What the examples print: all of these groups.
+cat "$out/watched" host/cases/members.out >"$out/expected"
 "$out/example" >"$out/cpp.out"
 "$out/rust/debug/examples/groups" >"$out/rust.out"
-for side in "${sides[@]}"; do
-    diff -u "$out/expected" "$out/$side.out" || fail "$side differs"
+for example in "${examples[@]}"; do
+    diff -u "$out/expected" "$out/$example.out" || fail "$example differs"
 done
 echo "host: the C, C++ and Rust examples agree with sheetlog, and those built against the installed files too"

@@ -12,8 +12,13 @@
  *   - the words of a record do not overlap those of the state.
  *
  * Every call but yardbook_open asks first whether the state has the right size (1) and is well formed (3), which reads
- * the whole state. Questions are asked by rising number, and the first "no" is the answer's number. A call that answers
- * another number than 0 changes no word.
+ * the whole state. Each call's comment names its questions in the order in which they are asked, and the first "no" is the
+ * answer's number. A call that answers another number than 0 changes no word.
+ *
+ * A member makes its records with yardbook_propose and signs its no-votes with yardbook_sign_no_vote. A host that sends no other
+ * records and no-votes than these, each once, is an honest member: the calls make at most one record for a round, and never both
+ * a record that votes for a leader and a no-vote against it. For that the host keeps the state from one call to the next and
+ * does not open it again, since opening forgets what was made and signed. A host that may restart stores the state before it sends.
  */
 #ifndef YARDBOOK_H
 #define YARDBOOK_H
@@ -25,7 +30,7 @@
 extern "C" {
 #endif
 
-#define YARDBOOK_VERSION "0.1.0"
+#define YARDBOOK_VERSION "0.2.0"
 
 /* Words of a replica state, and of a record. */
 #define YARDBOOK_STATE_WORDS 5864
@@ -54,16 +59,21 @@ enum {
     YARDBOOK_REFUSED_MALFORMED = 3,       /* the state is not well formed */
     YARDBOOK_REFUSED_RECORD_SIZE = 4,     /* the record has not YARDBOOK_RECORD_WORDS words */
     YARDBOOK_REFUSED_ROUND = 5,           /* the round is not 1 to 32 */
-    YARDBOOK_REFUSED_SOURCE = 6,          /* the source or signer is n or above */
+    YARDBOOK_REFUSED_SOURCE = 6,          /* the source or signer is n or above; opening: own is above n */
     YARDBOOK_REFUSED_MASK_BITS = 7,       /* a mask of the record has a bit at n or above */
     YARDBOOK_REFUSED_STRONG = 8,          /* the strong mask is not 0 in round 1, or no quorum later */
     YARDBOOK_REFUSED_TIMEOUTS = 9,        /* the timeout mask is no quorum where it must be, or not 0 elsewhere */
     YARDBOOK_REFUSED_NO_VOTES = 10,       /* the no-vote mask likewise */
     YARDBOOK_REFUSED_WEAK = 11,           /* the weak ids do not rise, or one is out of range */
-    YARDBOOK_REFUSED_DUPLICATE = 12,      /* known already: this vertex, this source's first message, this signer's note */
+    YARDBOOK_REFUSED_DUPLICATE = 12,      /* known already: this vertex, this source's first message, this signer's note;
+                                             or made already: this round's own record, this round's own no-vote */
     YARDBOOK_REFUSED_CONFLICT = 13,       /* a different vertex of this round and source is held */
     YARDBOOK_REFUSED_MISSING_PARENT = 14, /* a parent is not held; the answer's id is the smallest such */
-    YARDBOOK_REFUSED_PAST_END = 15        /* k is above the list's count */
+    YARDBOOK_REFUSED_PAST_END = 15,       /* k is above the list's count */
+    YARDBOOK_REFUSED_WATCHER = 16,        /* the state is a watcher's */
+    YARDBOOK_REFUSED_SIGNING = 17,        /* there is no round before the current one, its leader's vertex is held, or the
+                                             current round's own record was made */
+    YARDBOOK_REFUSED_FEW_PARENTS = 18     /* from round 2 on, the own record would have no quorum of strong parents */
 };
 
 typedef struct {
@@ -72,6 +82,11 @@ typedef struct {
     uint32_t leaders; /* how many entries the call added to the leader list, and to the journal */
     uint32_t journal;
 } yardbook_answer;
+
+typedef struct {
+    yardbook_answer answer;                 /* its id and counts are 0 */
+    uint32_t record[YARDBOOK_RECORD_WORDS]; /* all 0 where the number is not 0 */
+} yardbook_proposal;
 
 typedef struct {
     uint32_t number; /* with another number than 0, the others are 0 */
@@ -88,8 +103,11 @@ typedef struct {
     uint32_t length;
 } yardbook_part;
 
-/* Opens the state for a group of n members, whatever its words were. Asks 1 and 2. Writes every word. */
-yardbook_answer yardbook_open(uint32_t *state, size_t state_words, uint32_t n);
+/*
+ * Opens the state for a group of n members, whatever its words were. Asks 1, 2 and 6. Writes every word.
+ * `own` is the own member plus 1, or 0 for a watcher, which takes and reads but proposes and signs nothing.
+ */
+yardbook_answer yardbook_open(uint32_t *state, size_t state_words, uint32_t n, uint32_t own);
 
 /*
  * Takes a vertex that reliable broadcast has delivered. Asks 1 and 3 to 14.
@@ -109,6 +127,25 @@ yardbook_answer yardbook_take_timeout(uint32_t *state, size_t state_words, uint3
 
 /* Takes a signer's no-vote for the round. Asks 1, 3, 5, 6 and 12. Sets one bit. */
 yardbook_answer yardbook_take_no_vote(uint32_t *state, size_t state_words, uint32_t round, uint32_t signer);
+
+/*
+ * Makes the own member's record for the current round, with the host's tag. Asks 1, 3, 16, 5, 9, 10, 12 and 18, in this order.
+ * Strong parents are all held vertices of the round before, less its leader's if a no-vote against it was signed here. Where the
+ * record lacks that leader it carries the timeouts taken, and if the own member leads the current round the no-votes taken: 9 or
+ * 10 says that these are no quorum yet. Weak parents are the f lowest held vertices, two or more rounds down, that
+ * the strong parents do not reach.
+ * Writes only that the round's record was made; nothing is admitted. The host sends the record to all as its first broadcast
+ * message, and hands it back itself like that of any other member, to yardbook_take_first_message and, delivered, to
+ * yardbook_take_vertex.
+ */
+yardbook_proposal yardbook_propose(uint32_t *state, size_t state_words, uint32_t tag);
+
+/*
+ * Signs the own member's no-vote against the leader of the round before the current one. Asks 1, 3, 16, 17 and 12, in this order.
+ * Writes that it was signed, and takes it: sets the own bit among that round's no-votes. The host sends it to all the others,
+ * which hand it to yardbook_take_no_vote.
+ */
+yardbook_answer yardbook_sign_no_vote(uint32_t *state, size_t state_words);
 
 /* The rounds and the counts. Asks 1 and 3. Changes no word. */
 yardbook_state_status yardbook_status(const uint32_t *state, size_t state_words);

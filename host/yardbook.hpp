@@ -34,6 +34,9 @@ enum class Number : std::uint32_t {
     conflict = YARDBOOK_REFUSED_CONFLICT,
     missing_parent = YARDBOOK_REFUSED_MISSING_PARENT,
     past_end = YARDBOOK_REFUSED_PAST_END,
+    watcher = YARDBOOK_REFUSED_WATCHER,
+    signing = YARDBOOK_REFUSED_SIGNING,
+    few_parents = YARDBOOK_REFUSED_FEW_PARENTS,
 };
 
 struct Answer {
@@ -43,6 +46,11 @@ struct Answer {
     std::uint32_t journal;
 
     [[nodiscard]] constexpr bool ok() const noexcept { return number == Number::ok; }
+};
+
+struct Proposal {
+    Answer answer;
+    Record record;
 };
 
 struct Status {
@@ -71,8 +79,8 @@ namespace detail {
 
 }  // namespace detail
 
-[[nodiscard]] inline Answer open(std::span<std::uint32_t> state, std::uint32_t n) noexcept {
-    return detail::answer(yardbook_open(state.data(), state.size(), n));
+[[nodiscard]] inline Answer open(std::span<std::uint32_t> state, std::uint32_t n, std::uint32_t own) noexcept {
+    return detail::answer(yardbook_open(state.data(), state.size(), n, own));
 }
 
 [[nodiscard]] inline Answer take_vertex(std::span<std::uint32_t> state, std::span<const std::uint32_t> record) noexcept {
@@ -92,6 +100,15 @@ namespace detail {
 [[nodiscard]] inline Answer take_no_vote(std::span<std::uint32_t> state, std::uint32_t round,
                                          std::uint32_t signer) noexcept {
     return detail::answer(yardbook_take_no_vote(state.data(), state.size(), round, signer));
+}
+
+[[nodiscard]] inline Proposal propose(std::span<std::uint32_t> state, std::uint32_t tag) noexcept {
+    const yardbook_proposal p = yardbook_propose(state.data(), state.size(), tag);
+    return {detail::answer(p.answer), std::to_array(p.record)};
+}
+
+[[nodiscard]] inline Answer sign_no_vote(std::span<std::uint32_t> state) noexcept {
+    return detail::answer(yardbook_sign_no_vote(state.data(), state.size()));
 }
 
 [[nodiscard]] inline Status status(std::span<const std::uint32_t> state) noexcept {

@@ -28,6 +28,9 @@ pub mod number {
     pub const CONFLICT: u32 = 13;
     pub const MISSING_PARENT: u32 = 14;
     pub const PAST_END: u32 = 15;
+    pub const WATCHER: u32 = 16;
+    pub const SIGNING: u32 = 17;
+    pub const FEW_PARENTS: u32 = 18;
 }
 
 /// The number, with `MISSING_PARENT` the smallest missing parent's id, and how many entries the call added to each list.
@@ -38,6 +41,14 @@ pub struct Answer {
     pub id: u32,
     pub leaders: u32,
     pub journal: u32,
+}
+
+/// A made record; all 0 where the answer's number is not 0.
+#[repr(C)]
+#[derive(Clone, Copy, Debug, PartialEq, Eq)]
+pub struct Proposal {
+    pub answer: Answer,
+    pub record: [u32; RECORD_WORDS],
 }
 
 #[repr(C)]
@@ -58,7 +69,7 @@ pub struct List<'a> {
 }
 
 mod c {
-    use super::{Answer, Status};
+    use super::{Answer, Proposal, Status};
 
     #[repr(C)]
     pub struct Part {
@@ -68,7 +79,7 @@ mod c {
     }
 
     extern "C" {
-        pub fn yardbook_open(state: *mut u32, words: usize, n: u32) -> Answer;
+        pub fn yardbook_open(state: *mut u32, words: usize, n: u32, own: u32) -> Answer;
         pub fn yardbook_take_vertex(
             state: *mut u32,
             words: usize,
@@ -93,6 +104,8 @@ mod c {
             round: u32,
             signer: u32,
         ) -> Answer;
+        pub fn yardbook_propose(state: *mut u32, words: usize, tag: u32) -> Proposal;
+        pub fn yardbook_sign_no_vote(state: *mut u32, words: usize) -> Answer;
         pub fn yardbook_status(state: *const u32, words: usize) -> Status;
         pub fn yardbook_ask_leaders(state: *const u32, words: usize, k: u32) -> Answer;
         pub fn yardbook_ask_journal(state: *const u32, words: usize, k: u32) -> Answer;
@@ -104,10 +117,10 @@ mod c {
 // SAFETY, of every call below: a slice gives an aligned pointer with that many words behind it, a `&mut` one is used by nothing
 // else, and the two slices of a call do not overlap. The calls are total and keep no pointer.
 
-/// Opens the state for a group of n members.
+/// Opens the state for a group of n members. `own` is the own member plus 1, or 0 for a watcher.
 #[must_use]
-pub fn open(state: &mut [u32], n: u32) -> Answer {
-    unsafe { c::yardbook_open(state.as_mut_ptr(), state.len(), n) }
+pub fn open(state: &mut [u32], n: u32, own: u32) -> Answer {
+    unsafe { c::yardbook_open(state.as_mut_ptr(), state.len(), n, own) }
 }
 
 /// Takes a vertex that reliable broadcast has delivered.
@@ -141,6 +154,19 @@ pub fn take_timeout(state: &mut [u32], round: u32, signer: u32) -> Answer {
 #[must_use]
 pub fn take_no_vote(state: &mut [u32], round: u32, signer: u32) -> Answer {
     unsafe { c::yardbook_take_no_vote(state.as_mut_ptr(), state.len(), round, signer) }
+}
+
+/// Makes the own member's record for the current round, with the host's tag. The host sends it, and hands it back to
+/// `take_first_message` and `take_vertex` itself.
+#[must_use]
+pub fn propose(state: &mut [u32], tag: u32) -> Proposal {
+    unsafe { c::yardbook_propose(state.as_mut_ptr(), state.len(), tag) }
+}
+
+/// Signs the own member's no-vote against the leader of the round before the current one. The host sends it to the others.
+#[must_use]
+pub fn sign_no_vote(state: &mut [u32]) -> Answer {
+    unsafe { c::yardbook_sign_no_vote(state.as_mut_ptr(), state.len()) }
 }
 
 /// The rounds and the counts.

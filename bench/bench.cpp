@@ -144,9 +144,10 @@ void print_cell(const Timed* t) {
 
 // A row for each n and the calls that differ much, with the emptiest and the fullest state.
 void print_short_table(const std::vector<Timed>& all) {
-    static constexpr std::array<std::string_view, 19> names{
+    static constexpr std::array<std::string_view, 23> names{
         "open", "open: 2", "vertex", "vertex: 12", "vertex: 14", "vertex, commits", "vertex, commits all",
         "first message", "first message: 12", "timeout", "timeout: 12", "no-vote", "no-vote: 12",
+        "propose", "propose, weak ids", "propose: 12", "sign no-vote",
         "status", "status: 3", "ask journal", "ask journal: 15", "hand journal", "hand journal: 15"};
     std::puts("| call | n | 0 full rounds: library / plain / second, ns | ratios | 31 full rounds | ratios |");
     std::puts("|:--|--:|:--|:--|:--|:--|");
@@ -216,6 +217,17 @@ void print_summary(const std::vector<Timed>& all) {
     std::printf("\nRows: %d. Slower than the plain engine by a ratio above %.2f: %d; largest ratio %.2f. "
                 "Growth steeper by a ratio above %.2f: %d; largest ratio %.2f.\n",
                 rows, limit, above, largest, limit, steeper, steepest);
+}
+
+// What making a record costs beside taking a vertex, on the same words but the own member's.
+void print_proposing(const std::vector<Timed>& all) {
+    const u32 n = member_counts.back();
+    std::printf("\nLibrary, propose / vertex on the same state, n = %u:", n);
+    for (const u32 rounds : fullness) {
+        const Timed *propose = find(all, "propose", n, rounds), *vertex = find(all, "vertex", n, rounds);
+        std::printf("%s %s with %u full rounds", rounds == fullness.front() ? "" : ",", ratio(propose->ns[ours], vertex->ns[ours]).c_str(), rounds);
+    }
+    std::puts(".");
 }
 
 std::vector<Panel> panels(const std::vector<Timed>& all) {
@@ -290,6 +302,7 @@ int main(int argc, char** argv) {
     else print_table(all);
     print_growth(all);
     print_summary(all);
+    print_proposing(all);
     std::printf("\nMedians of %d calls of the library and of the plain engine, and %d of the second implementation, interleaved. "
                 "The words are warm: each timed call follows the same call by the same engine on the same words. "
                 "The cost of an empty call, %.0f ns with the timer, is taken off each. "

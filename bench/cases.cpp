@@ -23,6 +23,8 @@ struct Random {
     }
 };
 
+std::size_t mask_at(u32 round, plain::Mask kind) { return plain::masks_at + plain::kinds * (round - 1) + kind; }
+
 struct Builder {
     u32 n;
     Random random;
@@ -35,6 +37,9 @@ struct Builder {
     u32 leader(u32 round) const { return (round - 1) % n; }
     u32 all() const { return (1u << n) - 1; }
 
+    // The state is member 0's, which has made and signed nothing.
+    void become_member() { state[plain::own_at] = 1; }
+
     Said must(const Call& call) {
         const Said answer = agreed(call, state, false);
         if (answer[0] != 0) {
@@ -44,7 +49,7 @@ struct Builder {
         return answer;
     }
 
-    u32 held(u32 round) const { return state[8 + 6 * (round - 1)]; }
+    u32 held(u32 round) const { return state[mask_at(round, plain::held)]; }
 
     // Leaves out members other than `keep` at random; a quorum stays.
     u32 thinned(u32 mask, u32 keep) {
@@ -89,7 +94,58 @@ struct Builder {
         for (u32 round = 1; round <= rounds; ++round)
             for (u32 p = 0; p < n; ++p) must({Kind::vertex, record(round, p, (p + n - leader(round)) % n < voters)});
     }
+
+    // Fills the rounds. Every sixth round, from the fifth on, has a vertex that no other reaches.
+    void full_with_unreached(u32 rounds) {
+        for (u32 round = 1; round <= rounds; ++round)
+            for (u32 p = 0; p < n; ++p) {
+                Record r{round, p};
+                r[YARDBOOK_RECORD_STRONG] = round == 1 ? 0 : round % 6 == 0 ? all() & ~(1u << leader(round)) : all();
+                must({Kind::vertex, r});
+            }
+    }
 };
+
+// The own member's calls: on the watcher's state with full rounds, made a member's, and on others with as many rounds.
+std::vector<Case> own_cases(u32 n, u32 rounds, const std::vector<u32>& state) {
+    const Call propose{Kind::propose, {}, 7}, sign{Kind::sign_no_vote};
+    std::vector<Case> cases;
+    auto add = [&](const char* name, const Builder& from, const Call& call, u32 number) {
+        cases.push_back({name, n, rounds, from.state, call, number});
+    };
+    auto must_be = [&](bool meant) {
+        if (meant) return;
+        std::fprintf(stderr, "bench: n = %u, %u rounds: the made record is not of the round or kind meant\n", n, rounds);
+        std::exit(1);
+    };
+    Builder full(n);
+    full.state = state;
+    add("propose: 16", full, propose, 16);
+    full.become_member();
+    add("propose", full, propose, 0);
+    add("sign no-vote: 17", full, sign, 17);
+    must_be(full.must(propose)[said_record_at + YARDBOOK_RECORD_ROUND] == rounds + 1);
+    add("propose: 12", full, propose, 12);
+    if (rounds == 0) return cases;
+
+    Builder far(n);
+    far.full_with_unreached(rounds);
+    far.become_member();
+    add("propose, weak ids", far, propose, 0);
+    must_be(far.must(propose)[said_record_at + YARDBOOK_RECORD_WEAK_COUNT] > 0);
+
+    // The last round lacks its leader's vertex.
+    Builder skip(n);
+    skip.full(rounds - 1, n);
+    for (u32 p = 0; p < n; ++p)
+        if (p != skip.leader(rounds)) skip.must({Kind::vertex, skip.record(rounds, p, true)});
+    for (u32 p = 0; p < skip.quorum(); ++p) skip.must({Kind::timeout, {}, rounds, p});
+    skip.become_member();
+    add("sign no-vote", skip, sign, 0);
+    skip.must(sign);
+    add("sign no-vote: 12", skip, sign, 12);
+    return cases;
+}
 
 }  // namespace
 
@@ -119,6 +175,7 @@ std::vector<Case> cases_of(u32 n, u32 rounds) {
 
     add("open", state, {Kind::open, {}, n, 0}, 0);
     add("open: 2", state, {Kind::open, {}, 5, 0}, 2);
+    add("open: 6", state, {Kind::open, {}, n, n + 1}, 6);
     add("vertex", state, vertex, 0);
     {
         b.must(vertex);
@@ -176,6 +233,7 @@ std::vector<Case> cases_of(u32 n, u32 rounds) {
     add("no-vote", state, no_vote, 0);
     b.must(no_vote);
     add("no-vote: 12", b.state, no_vote, 12);
+    for (Case& c : own_cases(n, rounds, state)) cases.push_back(std::move(c));
     add("status", state, {Kind::status}, 0);
     std::vector<u32> damaged = state;
     damaged[state_words - 1] = 1;
@@ -197,13 +255,27 @@ void compare_grown(int states) {
         static constexpr std::array<u32, 5> member_counts{4, 7, 10, 13, 16};
         Builder b(member_counts[random.below(5)]);
         b.random.seed = random.seed;
+        b.state[plain::own_at] = random.below(b.n + 1);
         const u32 voters = 1 + random.below(8);  // of eight
+        const bool all = i % 4 == 0;
+        // The own member signs, proposes and takes what it made: on the state, or on a copy of it.
+        auto be_member = [&] {
+            std::vector<u32> copy = b.state;
+            std::vector<u32>& words = random.below(4) == 0 ? b.state : copy;
+            if (random.below(2) == 0) agreed({Kind::sign_no_vote}, words, all);
+            if (random.below(2) == 0) return;
+            const Said made = agreed({Kind::propose, {}, random.below(1000)}, words, all);
+            if (made[0] != 0) return;
+            Call own{Kind::vertex};
+            std::copy_n(made.begin() + said_record_at, own.record.size(), own.record.begin());
+            agreed(own, words, all);
+        };
         std::vector<Call> late;
         for (u32 round = 1; round <= YARDBOOK_ROUNDS; ++round) {
             u32 absent = 0;
             for (u32 k = random.below(b.f() + 1); k != 0; --k) absent |= 1u << random.below(b.n);
             if (!late.empty() && random.below(2) == 0) {
-                agreed(late.back(), b.state, i % 4 == 0);
+                agreed(late.back(), b.state, all);
                 late.pop_back();
             }
             for (u32 p = 0; p < b.n; ++p) {
@@ -211,16 +283,18 @@ void compare_grown(int states) {
                 if (random.below(4) == 0) {
                     Call first = call;
                     first.kind = Kind::first;
-                    agreed(first, b.state, i % 4 == 0);
+                    agreed(first, b.state, all);
                 }
                 if (absent >> p & 1) late.push_back(call);
-                else agreed(call, b.state, i % 4 == 0);
+                else agreed(call, b.state, all);
+                if (random.below(b.n) == 0) be_member();
             }
             if ((absent >> b.leader(round) & 1) == 0) continue;
             for (u32 p = 0; p < b.n; ++p) {
                 if (random.below(4) == 0) continue;
                 const Kind note = random.below(4) == 0 ? Kind::no_vote : Kind::timeout;
-                agreed({note, {}, round, p}, b.state, i % 4 == 0);
+                agreed({note, {}, round, p}, b.state, all);
+                if (random.below(4) == 0) be_member();
             }
         }
     }
@@ -231,17 +305,31 @@ void compare_at_random(int calls) {
     for (const u32 n : {4u, 7u, 10u, 13u, 16u}) {
         Builder b(n);
         b.full(n == 4 ? 20 : 6, n);
+        Builder far(n);
+        far.full_with_unreached(12);
         const std::vector<u32> start = b.state;
         for (int i = 0; i < calls; ++i) {
-            if (random.below(64) == 0) b.state = start;
+            if (random.below(64) == 0) b.state = random.below(2) == 0 ? start : far.state;
             std::vector<u32> state = b.state;
+            const bool member = random.below(2) == 0;
+            if (member) {
+                // Well formed, though calls need not lead there: any rounds made and signed, any current round, any notes before it.
+                state[plain::own_at] = 1 + random.below(n);
+                for (const std::size_t at : {plain::made_at, plain::signed_at})
+                    if (random.below(2) == 0) state[at] = random.below(1 << 16) << 16 | random.below(1 << 16);
+                u32& current = state[plain::current_at];
+                if (random.below(2) == 0) current = random.below(4) == 0 ? YARDBOOK_ROUNDS + 1 : 1 + random.below(YARDBOOK_ROUNDS);
+                for (const plain::Mask kind : {plain::timeouts, plain::no_votes})
+                    if (current > 1 && random.below(2) == 0)
+                        state[mask_at(current - 1, kind)] = random.below(4) == 0 ? random.below(1 << n) : b.all();
+            }
             const u32 damage = random.below(3);
             for (u32 k = 0; k < damage; ++k) {
                 static constexpr std::array<u32, 6> ends{plain::masks_at, plain::leaders_at,     plain::journal_at,
                                                          plain::cells_at, 2 * plain::cells_at, YARDBOOK_STATE_WORDS};
                 state[random.below(ends[random.below(6)])] ^= 1u << random.below(random.below(2) ? 32 : 10);
             }
-            Call call{static_cast<Kind>(random.below(10))};
+            Call call{static_cast<Kind>(random.below(call_kinds))};
             const u32 top = std::min(32u, state[1] % 64 + 1);
             const u32 most_weak = random.below(4) == 0 ? 5 : 0;
             call.record = b.record(1 + random.below(top), random.below(n), random.below(4) != 0, false, most_weak);
@@ -249,7 +337,7 @@ void compare_at_random(int calls) {
             const bool note = call.kind == Kind::timeout || call.kind == Kind::no_vote;
             call.a = random.below(call.kind == Kind::open ? 20 : note ? top + 2 : 40);
             call.b = random.below(n + 1);
-            const bool keep = damage == 0 && call.kind != Kind::open;
+            const bool keep = !member && damage == 0 && call.kind != Kind::open;
             agreed(call, state, i % 8 == 0);
             if (keep) b.state = state;
         }

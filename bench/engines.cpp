@@ -1,16 +1,20 @@
 #include "engines.hpp"
 
+#include <algorithm>
 #include <cstdlib>
+#include <iterator>
 
 #include "plain.hpp"
 
 // The second implementation's calls: those of host/yardbook.h by another name.
 extern "C" {
-yardbook_answer reference_open(u32*, std::size_t, u32);
+yardbook_answer reference_open(u32*, std::size_t, u32, u32);
 yardbook_answer reference_take_vertex(u32*, std::size_t, const u32*, std::size_t);
 yardbook_answer reference_take_first_message(u32*, std::size_t, const u32*, std::size_t);
 yardbook_answer reference_take_timeout(u32*, std::size_t, u32, u32);
 yardbook_answer reference_take_no_vote(u32*, std::size_t, u32, u32);
+yardbook_proposal reference_propose(u32*, std::size_t, u32);
+yardbook_answer reference_sign_no_vote(u32*, std::size_t);
 yardbook_state_status reference_status(const u32*, std::size_t);
 yardbook_answer reference_ask_leaders(const u32*, std::size_t, u32);
 yardbook_answer reference_ask_journal(const u32*, std::size_t, u32);
@@ -20,28 +24,37 @@ yardbook_part reference_hand_journal(const u32*, std::size_t, u32);
 
 namespace {
 
-[[gnu::noipa]] yardbook_answer nothing_open(u32*, std::size_t, u32) { return {}; }
+[[gnu::noipa]] yardbook_answer nothing_open(u32*, std::size_t, u32, u32) { return {}; }
 [[gnu::noipa]] yardbook_answer nothing_take_vertex(u32*, std::size_t, const u32*, std::size_t) { return {}; }
 [[gnu::noipa]] yardbook_answer nothing_take_first_message(u32*, std::size_t, const u32*, std::size_t) { return {}; }
 [[gnu::noipa]] yardbook_answer nothing_take_timeout(u32*, std::size_t, u32, u32) { return {}; }
 [[gnu::noipa]] yardbook_answer nothing_take_no_vote(u32*, std::size_t, u32, u32) { return {}; }
+[[gnu::noipa]] yardbook_proposal nothing_propose(u32*, std::size_t, u32) { return {}; }
+[[gnu::noipa]] yardbook_answer nothing_sign_no_vote(u32*, std::size_t) { return {}; }
 [[gnu::noipa]] yardbook_state_status nothing_status(const u32*, std::size_t) { return {}; }
 [[gnu::noipa]] yardbook_answer nothing_ask_leaders(const u32*, std::size_t, u32) { return {}; }
 [[gnu::noipa]] yardbook_answer nothing_ask_journal(const u32*, std::size_t, u32) { return {}; }
 [[gnu::noipa]] yardbook_part nothing_hand_leaders(const u32*, std::size_t, u32) { return {}; }
 [[gnu::noipa]] yardbook_part nothing_hand_journal(const u32*, std::size_t, u32) { return {}; }
 
-Said said(yardbook_answer a) { return {a.number, a.id, a.leaders, a.journal, 0}; }
+Said said(yardbook_answer a) { return {a.number, a.id, a.leaders, a.journal}; }
+Said said(const yardbook_proposal& p) {
+    Said all = said(p.answer);
+    std::copy(std::begin(p.record), std::end(p.record), all.begin() + said_record_at);
+    return all;
+}
 Said said(yardbook_state_status s) { return {s.number, s.current_round, s.committed_round, s.leader_count, s.journal_count}; }
-Said said(yardbook_part p) { return {p.number, p.start, p.length, 0, 0}; }
+Said said(yardbook_part p) { return {p.number, p.start, p.length}; }
 
 #define CALLS(prefix)                                                                                                     \
     switch (call.kind) {                                                                                                  \
-    case Kind::open: return said(prefix##open(state, state_words, call.a));                                               \
+    case Kind::open: return said(prefix##open(state, state_words, call.a, call.b));                                       \
     case Kind::vertex: return said(prefix##take_vertex(state, state_words, call.record.data(), call.record.size()));      \
     case Kind::first: return said(prefix##take_first_message(state, state_words, call.record.data(), call.record.size())); \
     case Kind::timeout: return said(prefix##take_timeout(state, state_words, call.a, call.b));                            \
     case Kind::no_vote: return said(prefix##take_no_vote(state, state_words, call.a, call.b));                            \
+    case Kind::propose: return said(prefix##propose(state, state_words, call.a));                                         \
+    case Kind::sign_no_vote: return said(prefix##sign_no_vote(state, state_words));                                       \
     case Kind::status: return said(prefix##status(state, state_words));                                                   \
     case Kind::ask_leaders: return said(prefix##ask_leaders(state, state_words, call.a));                                 \
     case Kind::ask_journal: return said(prefix##ask_journal(state, state_words, call.a));                                 \

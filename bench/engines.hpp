@@ -17,7 +17,8 @@ enum Engine : std::size_t { ours, plain_engine, second, nothing };
 inline constexpr std::size_t engines = 3;
 inline constexpr std::array<Engine, engines> all_engines{ours, plain_engine, second};
 
-enum class Kind { open, vertex, first, timeout, no_vote, status, ask_leaders, ask_journal, hand_leaders, hand_journal };
+enum class Kind { open, vertex, first, timeout, no_vote, propose, sign_no_vote, status, ask_leaders, ask_journal, hand_leaders, hand_journal };
+inline constexpr u32 call_kinds = static_cast<u32>(Kind::hand_journal) + 1;
 
 struct Call {
     Kind kind;
@@ -25,8 +26,9 @@ struct Call {
     u32 a = 0, b = 0;
 };
 
-// Number, id and counts; a status; a number; or a part.
-using Said = std::array<u32, 5>;
+// Number, id and counts, and behind them a made record; a status; or a part. The rest is 0.
+inline constexpr std::size_t said_record_at = 4;
+using Said = std::array<u32, said_record_at + YARDBOOK_RECORD_WORDS>;
 
 Said run(Engine engine, const Call& call, u32* state);
 

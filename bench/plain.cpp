@@ -1,5 +1,5 @@
-// A plain engine for the comparison: document 01's rules on the same words, as one would write them by hand for speed, without
-// vector intrinsics. It tests at every call that the state is well formed, as the library does.
+// A plain engine for the comparison: the rules of documents 01 and 02 on the same words, as one would write them by hand for speed,
+// without vector intrinsics. It tests at every call that the state is well formed, as the library does.
 #include "plain.hpp"
 
 #include <bit>
@@ -10,8 +10,6 @@ namespace {
 using u32 = std::uint32_t;
 
 using namespace plain;
-
-enum Mask { held, heard, votes, timeouts, no_votes, ordered };
 
 u32 mask(const u32* state, u32 round, Mask kind) { return state[masks_at + kinds * (round - 1) + kind]; }
 u32& mask(u32* state, u32 round, Mask kind) { return state[masks_at + kinds * (round - 1) + kind]; }
@@ -83,8 +81,10 @@ bool masks_ok(const Group& g, const u32* state) {
     return bad == 0;
 }
 
+// Unrolled, so that the loop's end is foreseen: not foreseen, it costs as much as the words of a round.
 bool zero(const u32* from, const u32* to) {
     u32 joined = 0;
+#pragma GCC unroll 8
     for (; from != to; ++from) joined |= *from;
     return joined == 0;
 }
@@ -144,7 +144,7 @@ bool journal_ok(const u32* state) {
 
 bool well_formed(const u32* state) {
     if (!legal(state[members_at]) || state[current_at] < 1 || state[current_at] > rounds + 1 || state[committed_at] > rounds - 1) return false;
-    if (state[zeros_at] | state[zeros_at + 1] | state[zeros_at + 2]) return false;
+    if (state[own_at] > state[members_at] || (state[own_at] == 0 && (state[made_at] | state[signed_at]) != 0)) return false;
     const Group g(state[members_at]);
     return masks_ok(g, state) && cells_ok(g, state) && leaders_ok(g, state) && journal_ok(state)
         && zero(state + leaders_at + state[leader_count_at], state + journal_at) && zero(state + journal_at + state[journal_count_at], state + cells_at);
@@ -195,10 +195,8 @@ bool committable(const Group& g, const u32* state, u32 q) {
     return number >= g.quorum;
 }
 
-// The history of the round's leader that is not yet ordered joins the journal.
-void order(const Group& g, u32* state, u32 round) {
-    u32 reached[rounds + 1] = {};
-    reached[round] = 1u << g.leader(round);
+// Adds to `reached`, masks by round, the histories of those that it has in the round; it has none below.
+void reach(const u32* state, u32 round, u32* reached) {
     for (u32 r = round; r >= 2; --r) {
         for (u32 left = reached[r]; left != 0; left &= left - 1) {
             const u32* body = cell(state, r, static_cast<u32>(std::countr_zero(left)));
@@ -206,6 +204,13 @@ void order(const Group& g, u32* state, u32 round) {
             for (u32 i = 0; i < body[weak_count_at]; ++i) reached[body[weak_at + i] / slots] |= 1u << body[weak_at + i] % slots;
         }
     }
+}
+
+// The history of the round's leader that is not yet ordered joins the journal.
+void order(const Group& g, u32* state, u32 round) {
+    u32 reached[rounds + 1] = {};
+    reached[round] = 1u << g.leader(round);
+    reach(state, round, reached);
     u32* end = state + journal_at + state[journal_count_at];
     for (u32 r = 1; r <= round; ++r) {
         u32& done = mask(state, r, ordered);
@@ -254,6 +259,58 @@ u32 check_note(const u32* state, std::size_t words, u32 round, u32 signer, Mask 
     return has(mask(state, round, kind), signer) ? 12 : 0;
 }
 
+// Whether strong edges alone lead from those reached in the round to all that is held below it.
+bool all_reached(const u32* state, u32 round, u32 reached) {
+    for (u32 r = round; r >= 2; --r) {
+        const u32 wanted = mask(state, r - 1, held);
+        u32 below = 0;
+        for (u32 left = reached; left != 0 && below != wanted; left &= left - 1)
+            below |= cell(state, r, static_cast<u32>(std::countr_zero(left)))[strong_at];
+        if (below != wanted) return false;
+        reached = below;
+    }
+    return true;
+}
+
+// The f lowest ids that are held in rounds 1 to round - 2 and not in the histories of the strong parents, in round - 1. Their count
+// and the ids are written to the body. Mostly there are none, and a few strong masks of each round show it.
+void find_weak(const Group& g, const u32* state, u32 round, u32* body) {
+    if (all_reached(state, round - 1, body[strong_at])) return;
+    u32 reached[rounds + 1] = {};
+    reached[round - 1] = body[strong_at];
+    reach(state, round - 1, reached);
+    u32& number = body[weak_count_at];
+    for (u32 r = 1; r + 2 <= round; ++r)
+        for (u32 left = mask(state, r, held) & ~reached[r]; left != 0; left &= left - 1) {
+            if (number == g.f) return;
+            body[weak_at + number++] = slots * r + static_cast<u32>(std::countr_zero(left));
+        }
+}
+
+// Questions 16, 5, 9, 10, 12 and 18. Writes the body but for the tag.
+u32 make_body(const Group& g, const u32* state, u32* body) {
+    const u32 own = state[own_at], round = state[current_at];
+    if (own == 0) return 16;
+    if (round > rounds) return 5;
+    if (round == 1) return has(state[made_at], 0) ? 12 : 0;
+    const u32 before = round - 1, leader = 1u << g.leader(before);
+    u32 strong = mask(state, before, held);
+    if (has(state[signed_at], before - 1)) strong &= ~leader;
+    if ((strong & leader) == 0) {
+        body[timeouts_at] = mask(state, before, timeouts);
+        if (count(body[timeouts_at]) < g.quorum) return 9;
+        if (own - 1 == g.leader(round)) {
+            body[no_votes_at] = mask(state, before, no_votes);
+            if (count(body[no_votes_at]) < g.quorum) return 10;
+        }
+    }
+    if (has(state[made_at], round - 1)) return 12;
+    if (count(strong) < g.quorum) return 18;
+    body[strong_at] = strong;
+    if (round >= 3) find_weak(g, state, round, body);
+    return 0;
+}
+
 u32 ask(const u32* state, std::size_t words, u32 k, std::size_t count_at) {
     if (const u32 number = check_state(state, words)) return number;
     return k > state[count_at] ? 15 : 0;
@@ -266,12 +323,14 @@ yardbook_part hand(const u32* state, std::size_t words, u32 k, std::size_t count
 
 }  // namespace
 
-yardbook_answer plain_open(u32* state, std::size_t words, u32 n) {
+yardbook_answer plain_open(u32* state, std::size_t words, u32 n, u32 own) {
     if (words != YARDBOOK_STATE_WORDS) return refused(1);
     if (!legal(n)) return refused(2);
+    if (own > n) return refused(6);
     std::memset(state, 0, YARDBOOK_STATE_WORDS * sizeof(u32));
     state[members_at] = n;
     state[current_at] = 1;
+    state[own_at] = own;
     return refused(0);
 }
 
@@ -311,6 +370,31 @@ yardbook_answer plain_take_timeout(u32* state, std::size_t words, u32 round, u32
 yardbook_answer plain_take_no_vote(u32* state, std::size_t words, u32 round, u32 signer) {
     if (const u32 number = check_note(state, words, round, signer, no_votes)) return refused(number);
     mask(state, round, no_votes) |= 1u << signer;
+    return refused(0);
+}
+
+yardbook_proposal plain_propose(u32* state, std::size_t words, u32 tag) {
+    if (const u32 number = check_state(state, words)) return {refused(number), {}};
+    yardbook_proposal made{};
+    if (const u32 number = make_body(Group(state[members_at]), state, made.record + body_at)) return {refused(number), {}};
+    made.record[round_at] = state[current_at];
+    made.record[source_at] = state[own_at] - 1;
+    made.record[body_at + tag_at] = tag;
+    state[made_at] |= 1u << (state[current_at] - 1);
+    return made;
+}
+
+yardbook_answer plain_sign_no_vote(u32* state, std::size_t words) {
+    if (const u32 number = check_state(state, words)) return refused(number);
+    const u32 own = state[own_at], round = state[current_at];
+    if (own == 0) return refused(16);
+    if (round == 1) return refused(17);
+    const u32 before = round - 1;
+    if (has(mask(state, before, held), Group(state[members_at]).leader(before))) return refused(17);
+    if (round <= rounds && has(state[made_at], round - 1)) return refused(17);
+    if (has(state[signed_at], before - 1)) return refused(12);
+    state[signed_at] |= 1u << (before - 1);
+    mask(state, before, no_votes) |= 1u << (own - 1);
     return refused(0);
 }
 

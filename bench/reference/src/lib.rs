@@ -2,8 +2,16 @@
 
 use std::slice::{from_raw_parts, from_raw_parts_mut};
 
+use reference::layout::RECORD_WORDS;
+
 #[repr(C)]
 pub struct Answer([u32; 4]);
+
+#[repr(C)]
+pub struct Proposal {
+    answer: Answer,
+    record: [u32; RECORD_WORDS],
+}
 
 #[repr(C)]
 pub struct Status([u32; 5]);
@@ -39,8 +47,8 @@ macro_rules! words {
 /// # Safety
 /// Of each call: as `host/yardbook.h` asks.
 #[no_mangle]
-pub unsafe extern "C" fn reference_open(state: *mut u32, words: usize, n: u32) -> Answer {
-    answer(reference::open(words!(mut state, words), n))
+pub unsafe extern "C" fn reference_open(state: *mut u32, words: usize, n: u32, own: u32) -> Answer {
+    answer(reference::open(words!(mut state, words), n, own))
 }
 
 /// # Safety
@@ -95,6 +103,24 @@ pub unsafe extern "C" fn reference_take_no_vote(
     signer: u32,
 ) -> Answer {
     answer(reference::take_no_vote(words!(mut state, words), round, signer))
+}
+
+/// # Safety
+/// As above.
+#[no_mangle]
+pub unsafe extern "C" fn reference_propose(state: *mut u32, words: usize, tag: u32) -> Proposal {
+    let made = reference::propose(words!(mut state, words), tag);
+    Proposal {
+        answer: answer(made.answer),
+        record: made.record,
+    }
+}
+
+/// # Safety
+/// As above.
+#[no_mangle]
+pub unsafe extern "C" fn reference_sign_no_vote(state: *mut u32, words: usize) -> Answer {
+    answer(reference::sign_no_vote(words!(mut state, words)))
 }
 
 /// # Safety

@@ -9,7 +9,7 @@ use native.Mathlib.Omega.{arith}
 use lib.ListN.{getD, set, length, replicate, getD-replicate}
 use lib.Bits.{bitOr, or-zero-l}
 use borrow.Author.Tests.{lt-ltb, le-ltb}
-use Rattle.record.specs.Members.{rounds, slots, leader, has, meets, idOf, idRound, idMember, idLimit}
+use Rattle.record.specs.Members.{rounds, slots, leader, has, meets, idRound, idMember, idLimit}
 use Rattle.record.specs.Layout.{strongOf, weakCountOf, weakOf, weakSlots, weakPlace, weakCountPlace, strongPlace}
 use Rattle.record.proofs.Booleans.{and-fails-left, and-both, or-left, cond-true, cond-false}
 use Rattle.protocol.specs.Dag.{Records}
@@ -19,7 +19,6 @@ use Rattle.replica.specs.State.{memberCount, currentRound, heldMask, timeoutsMa
 use Rattle.commits.specs.Commit.{passable, highestPassable, raiseRound}
 use Rattle.commits.specs.Standing.{Standing}
 use Rattle.protocol.proofs.Paths.{weak-present}
-use Rattle.record.proofs.Rounds.{id-round, id-member}
 
 -- ---- the round rule
 

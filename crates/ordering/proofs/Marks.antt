@@ -25,7 +25,7 @@ use Rattle.replica.specs.Layout.{signedAt, heardKind}
 use Rattle.replica.specs.State.{memberCount, currentRound, heldMask, heardMask, votesMask, cell, heldId, addMember}
 use Rattle.replica.specs.Parents.{parentsHeld}
 use Rattle.replica.proofs.Formed.{Front, Masks, Cells, WellFormed}
-use Rattle.replica.proofs.Keeping.{Keeps, keeps-set, keeps-part, parents-more, front-kept, masks-kept, cells-kept, held-kept, held-id-kept}
+use Rattle.replica.proofs.Keeping.{Keeps, keeps-set, keeps-part, parents-more, front-kept, cells-kept, held-kept, held-id-kept}
 use Rattle.replica.proofs.Keeping.{leaders-kept, journal-kept, own-same, Spare, formed-word}
 use Rattle.commits.specs.Commit.{passable, highestPassable, raiseRound}
 use Rattle.ordering.specs.Calls.{putVertex, hear}

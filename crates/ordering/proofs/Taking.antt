@@ -4,7 +4,6 @@ use mathlib.Core.Bool.{true}
 use mathlib.Core.List.{List, [], _∷_}
 use Prim.Native.Nat.{ℕ, _+_, _≤_, _<_}
 use native.Mathlib.Omega.{arith}
-use lib.Dec.{eqb}
 use lib.ListN.{length, take, drop, getD, length-drop}
 use lib.Seq.{take-all, getD-drop}
 use Rattle.record.specs.Refusals.{numberOf, firstNo}
@@ -16,7 +15,7 @@ use Rattle.record.specs.Members.{rounds, slots}
 use Rattle.replica.specs.Layout.{stateSize, masksAt, timeoutsAt, kinds, leaderCountAt, journalCountAt, timeoutsKind}
 use Rattle.replica.specs.State.{memberCount, addMember}
 use Rattle.replica.specs.WellFormed.{wellFormed}
-use Rattle.replica.specs.Outcome.{Outcome, told, nothingAdded, admitted, outcome}
+use Rattle.replica.specs.Outcome.{Outcome, told, nothingAdded, admitted}
 use Rattle.replica.specs.declared.answer.Answer.{Answer}
 use Rattle.replica.proofs.Formed.{WellFormed, well-formed}
 use Rattle.commits.specs.Commit.{raiseRound, commitAll}

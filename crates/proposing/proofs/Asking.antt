@@ -1,27 +1,27 @@
 -- The questions of making and signing in turn, and what is known where they are passed. Assumes nothing.
 use mathlib.Core.Path.{_≡_, refl, sym, ap, ap₂, _∙_}
 use mathlib.Core.Bool.{Bool, true, false, not, _&&_}
-use mathlib.Core.List.{List, [], _∷_, _++_}
+use mathlib.Core.List.{List, [], _∷_}
 use Prim.Native.Nat.{ℕ, _+_, _-_, _≤_, _<_}
 use native.Mathlib.Omega.{arith}
 use lib.Dec.{leb}
 use lib.ListN.{length, drop}
-use borrow.Author.Tests.{eqb-false, eq-eqb, ne-eqb, leb-true, le-leb, lt-leb, not-true}
+use borrow.Author.Tests.{eq-eqb, ne-eqb, leb-true, le-leb, lt-leb}
 use Rattle.record.specs.Members.{isRound, leader, has, meets, rounds, slots}
-use Rattle.record.specs.Refusals.{numberOf, Question, firstNo, numbered}
+use Rattle.record.specs.Refusals.{numberOf, firstNo, numbered}
 use Rattle.record.specs.Questions.{quorumIf}
 use Rattle.record.specs.declared.refusal.Refusal.{Refusal}
 use Rattle.record.specs.declared.refusal.Refusal.the-variants.{None, Watcher, Round, Timeouts, NoVotes, Duplicate, FewParents, Signing}
 use Rattle.record.proofs.Booleans.{and-left, and-fails-left, and-fails-right, cond-true, cond-false, passed, failed}
 use Rattle.record.proofs.Rounds.{round-in, round-range}
-use Rattle.record.proofs.Turn.{next, stop, done, both-yes, front-no, front-yes, both-fronts}
+use Rattle.record.proofs.Turn.{next, stop, done, front-no, front-yes}
 use Rattle.record.proofs.Composed.{strong-ok-first, strong-ok-later}
 use Rattle.replica.specs.Layout.{stateSize, watcher, leaderCountAt, journalCountAt, madeAt, signedAt, masksAt, noVotesKind}
 use Rattle.replica.specs.State.{memberCount, currentRound, ownWord, madeRounds, signedRounds, heldMask, addMember}
 use Rattle.replica.specs.Outcome.{Outcome, told, nothingAdded, outcome}
 use Rattle.replica.specs.Status.{stateQuestions}
 use Rattle.replica.specs.declared.answer.Answer.{Answer}
-use Rattle.replica.proofs.Formed.{WellFormed, formed, well-formed}
+use Rattle.replica.proofs.Formed.{formed, well-formed}
 use Rattle.replica.proofs.StatusLaws.{state-numbered, state-ok}
 use Rattle.ordering.proofs.Counts.{no-growth}
 use Rattle.ordering.proofs.Turns.{outcome-refused, outcome-admitted}
@@ -32,7 +32,7 @@ use Rattle.proposing.specs.Signing.{signingRound, maySign, signingQuesti
 use Rattle.proposing.specs.Inner.{Opened, Current, draftOf, noProposal}
 use Rattle.proposing.specs.declared.making.Draft.{Draft}
 use Rattle.proposing.specs.declared.making.Proposal.{Proposal}
-use Rattle.proposing.proofs.Kept.{making-passed, signing-passed, signing-round, mark-calm, signed-calm, own-most}
+use Rattle.proposing.proofs.Kept.{MemberKnown, member-passed, making-passed, signing-passed, signing-round, mark-calm, signed-calm, own-most}
 
 -- ---- questions 1, 3 and 16
 
@@ -57,33 +57,20 @@ module _ (l : List ℕ) (why : Refusal) (e : why ≡ firstNo (stateQuestions l))
     pub member-own : (ownWord l ≡ watcher → ⊥) → None ≡ firstNo (memberQuestions l)
     member-own d = past-state (next _ _ (ap not (ne-eqb _ _ d)) done)
 
--- what is known where they are passed
-pub record MemberKnown (l : List ℕ) : Type 0 where
-  pub formed : WellFormed l
-  pub size : length l ≡ stateSize
-  pub own : 1 ≤ ownWord l
-
-pub member-known : (l : List ℕ) → numberOf (firstNo (memberQuestions l)) ≡ 0 → MemberKnown l
-member-known l e =
-    let w = both-fronts (stateQuestions l) ((isMember l, Watcher) ∷ []) (state-numbered l) e in
-    let s = state-ok l (w .0) in
-    let o = eqb-false (ownWord l) watcher (not-true _ (both-yes _ _ _ (eqb-false 16 0 refl) (w .1) .0)) in
-    record { formed = formed l (s .0) (s .1); size = s .0; own = omega (arith, o) }
-
--- so of a refusal that says so
-pub member-passed : (l : List ℕ) (why : Refusal) → why ≡ firstNo (memberQuestions l) → numberOf why ≡ 0 → MemberKnown l
-member-passed l why e h = member-known l (sym (ap numberOf e) ∙ h)
+-- what is known where a refusal says that they are passed
+pub member-known : (l : List ℕ) (why : Refusal) → why ≡ firstNo (memberQuestions l) → numberOf why ≡ 0 → MemberKnown l
+member-known l why e h = member-passed l [] (sym (ap numberOf e) ∙ h) .0
 
 pub opened : (l : List ℕ) → MemberKnown l → Opened l (memberCount l) (currentRound l)
 opened l k = record {
-  size = k .size;
-  formed = well-formed l (k .formed);
+  size = k .state .size;
+  formed = well-formed l (k .state);
   members = refl;
-  some = omega (arith, k .formed .front .low);
-  few = k .formed .front .high;
+  some = omega (arith, k .state .front .low);
+  few = k .state .front .high;
   current = refl;
-  low = k .formed .front .round-low;
-  last = k .formed .front .round-high;
+  low = k .state .front .round-low;
+  last = k .state .front .round-high;
   own = k .own;
 }
 
@@ -172,7 +159,7 @@ module _ (l : List ℕ) (why : Refusal) (e : why ≡ firstNo (memberQuestions l)
       where
         in-round : r ≡ firstNo (makingQuestions l)
         in-round = unfold makingQuestions in
-            next _ _ (round-in (currentRound l) (member-passed l why e (sym f ∙ h) .formed .front .round-low) k) (unfold makingQuestions in d)
+            next _ _ (round-in (currentRound l) (member-known l why e (sym f ∙ h) .state .front .round-low) k) (unfold makingQuestions in d)
 
 -- the call
 module _ (l : List ℕ) (tag : ℕ) (why : Refusal) (e : why ≡ proposeRefusal l) (x : ℕ) (f : x ≡ numberOf why) where
@@ -190,8 +177,7 @@ module _ (l : List ℕ) (tag : ℕ) (why : Refusal) (e : why ≡ proposeRefusal 
     pub propose-current : Current l (memberCount l) (currentRound l)
     propose-current =
         let k = making-passed l none in
-        let o : 1 ≤ ownWord l = omega (arith, eqb-false (ownWord l) watcher (not-true _ (k .member))) in
-        current l (record { formed = k .state; size = k .state .size; own = o }) (round-range (currentRound l) (k .round) .1)
+        current l (record { state = k .state; member = k .member; own = k .own }) (round-range (currentRound l) (k .round) .1)
 
     pub propose-done : (rec : List ℕ) → rec ≡ madeRecord l tag → (m : List ℕ) → m ≡ markRound l madeAt (currentRound l)
         → toldProposal (record { answer = nothingAdded None; words = rec }) m ≡ proposeVertex l tag
@@ -276,7 +262,7 @@ module _ (l : List ℕ) (why : Refusal) (e : why ≡ signRefusal l) (x : ℕ) (f
         size = k .state .size;
         low = k .later;
         high = k .state .front .round-high;
-        own = omega (arith, eqb-false (ownWord l) watcher (not-true _ (k .member)));
+        own = k .own;
         few = omega (arith, own-most l (k .state), k .state .front .high);
         marked = λ m d. ap length d ∙ C .size ∙ k .state .size;
         done = λ m o at dm da dn.

@@ -32,22 +32,25 @@ use Rattle.proposing.specs.Claims.{OwnKeepsWellFormed}
 -- ---- the questions, all answered yes
 
 -- what is known where 1, 3 and 16 are
-record MemberKnown (l : List ℕ) (rest : List Question) : Type 0 where
-  state : WellFormed l
-  member : isMember l ≡ true
-  last : numberOf (firstNo rest) ≡ 0
+pub record MemberKnown (l : List ℕ) : Type 0 where
+  pub state : WellFormed l
+  pub member : isMember l ≡ true
+  pub own : 1 ≤ ownWord l
 
-member-passed : (l : List ℕ) (rest : List Question) → numberOf (firstNo (memberQuestions l ++ rest)) ≡ 0 → MemberKnown l rest
+pub member-passed : (l : List ℕ) (rest : List Question) → numberOf (firstNo (memberQuestions l ++ rest)) ≡ 0
+    → MemberKnown l × (numberOf (firstNo rest) ≡ 0)
 member-passed l rest e =
     let q1 = both-yes _ _ _ (eqb-false 1 0 refl) e in
     let q3 = both-yes _ _ _ (eqb-false 3 0 refl) (q1 .1) in
     let q16 = both-yes _ _ _ (eqb-false 16 0 refl) (q3 .1) in
-    record { state = formed l (eqb-true (length l) stateSize (q1 .0)) (q3 .0); member = q16 .0; last = q16 .1 }
+    let some = eqb-false (ownWord l) watcher (not-true _ (q16 .0)) in
+    (record { state = formed l (eqb-true (length l) stateSize (q1 .0)) (q3 .0); member = q16 .0; own = omega (arith, some) }, q16 .1)
 
 -- of a record that is made
 pub record MakingKnown (l : List ℕ) : Type 0 where
   pub state : WellFormed l
   pub member : isMember l ≡ true
+  pub own : 1 ≤ ownWord l
   pub round : isRound (currentRound l) ≡ true
   pub timeouts : quorumIf (memberCount l) (wantsTimeouts l) (madeTimeouts l) ≡ true
   pub no-votes : quorumIf (memberCount l) (wantsNoVotes l) (madeNoVotes l) ≡ true
@@ -58,13 +61,14 @@ pub making-passed : (l : List ℕ) → numberOf (proposeRefusal l) ≡ 0 → Mak
 unfolding makingQuestions
 making-passed l e =
     let m = member-passed l (makingQuestions l) e in
-    let q5 = both-yes _ _ _ (eqb-false 5 0 refl) (m .last) in
+    let q5 = both-yes _ _ _ (eqb-false 5 0 refl) (m .1) in
     let q9 = both-yes _ _ _ (eqb-false 9 0 refl) (q5 .1) in
     let q10 = both-yes _ _ _ (eqb-false 10 0 refl) (q9 .1) in
     let q12 = both-yes _ _ _ (eqb-false 12 0 refl) (q10 .1) in
     record {
-      state = m .state;
-      member = m .member;
+      state = m .0 .state;
+      member = m .0 .member;
+      own = m .0 .own;
       round = q5 .0;
       timeouts = q9 .0;
       no-votes = q10 .0;
@@ -76,6 +80,7 @@ making-passed l e =
 pub record SigningKnown (l : List ℕ) : Type 0 where
   pub state : WellFormed l
   pub member : isMember l ≡ true
+  pub own : 1 ≤ ownWord l
   pub later : 2 ≤ currentRound l
   pub lacking : has (heldMask l (signingRound l)) (leader (memberCount l) (signingRound l)) ≡ false
   pub unmade : wasMade l (currentRound l) ≡ false
@@ -85,11 +90,12 @@ pub signing-passed : (l : List ℕ) → numberOf (signRefusal l) ≡ 0 → Signi
 unfolding maySign
 signing-passed l e =
     let m = member-passed l (signingQuestions l) e in
-    let q17 = both-yes _ _ _ (eqb-false 17 0 refl) (m .last) in
+    let q17 = both-yes _ _ _ (eqb-false 17 0 refl) (m .1) in
     let rest = and-right (leb 2 (currentRound l)) _ (q17 .0) in
     record {
-      state = m .state;
-      member = m .member;
+      state = m .0 .state;
+      member = m .0 .member;
+      own = m .0 .own;
       later = leb-true 2 (currentRound l) (and-left _ _ (q17 .0));
       lacking = not-true _ (and-left _ _ rest);
       unmade = not-true _ (and-right (not (has (heldMask l (signingRound l)) (leader (memberCount l) (signingRound l)))) _ rest);

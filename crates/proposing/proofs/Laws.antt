@@ -7,15 +7,15 @@ use Prim.Native.Nat.{ℕ, zero, suc, _+_, _-_, _≤_, _<_}
 use native.Mathlib.Numerals.{add-one}
 use native.Mathlib.Omega.{arith}
 use lib.Bits.{bitAnd}
-use lib.Dec.{eqb, leb, ltb}
-use lib.ListN.{length, getD, set}
-use borrow.Author.Tests.{eqb-true, eq-eqb, ne-eqb, le-leb, lt-leb, lt-ltb, le-ltb}
+use lib.Dec.{eqb}
+use lib.ListN.{getD}
+use borrow.Author.Tests.{eq-eqb, ne-eqb, lt-ltb, le-ltb}
 use Rattle.record.specs.Members.{isRound, leader, has, without, rounds, slots, idOf, idMember}
-use Rattle.record.proofs.Booleans.{which, never, and-left, and-right, and-both, and-fails-left, and-fails-right, cond-true, cond-false, passed, failed}
+use Rattle.record.proofs.Booleans.{which, and-left, and-right, and-both, and-fails-left, and-fails-right, cond-true, cond-false, passed, failed}
 use Rattle.record.proofs.Masks.{has-and}
 use Rattle.record.proofs.Rounds.{round-range, id-member}
 use Rattle.replica.specs.Layout.{timeoutsKind, noVotesKind}
-use Rattle.replica.specs.State.{memberCount, currentRound, ownWord, signedRounds, heldMask, maskOf}
+use Rattle.replica.specs.State.{currentRound, ownWord, signedRounds, heldMask, maskOf}
 use Rattle.record.specs.Questions.{lacksLeader}
 use Rattle.record.specs.Inner.{termsOf}
 use Rattle.record.specs.declared.members.Members.{Members}

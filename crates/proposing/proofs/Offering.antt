@@ -4,21 +4,18 @@ use mathlib.Core.Bool.{Bool, true, false, cond, not, _&&_}
 use mathlib.Core.Logic.{_⊎_, inl, inr, ⊎-elim}
 use mathlib.Core.List.{List, [], _∷_, _++_, append-nil, append-assoc}
 use Prim.Native.Nat.{ℕ, zero, suc, _+_, _-_, _*_, _^_, _≤_, _<_}
-use native.Mathlib.Numerals.{add-one}
 use native.Mathlib.Omega.{arith}
 use lib.Dec.{eqb, leb, ltb}
 use lib.ListN.{length, getD, set, take, replicate, length-append}
 use lib.Pow.{pow-pos}
 use lib.Seq.{set-at, take-all, take-append-le, length-take-le}
-use borrow.Author.Tests.{le-leb, lt-leb, lt-ltb, le-ltb, ltb-true, ltb-false, eqb-true, eqb-false, eq-eqb, ne-eqb}
-use Rattle.record.specs.Below.{any, select}
-use Rattle.record.specs.Members.{isRound, faulty, has, leader, remove, idOf, idRound, idMember, idLimit, rounds, slots}
+use borrow.Author.Tests.{le-leb, lt-leb, le-ltb, ltb-true, ltb-false, eqb-true, eqb-false}
+use Rattle.record.specs.Below.{select}
+use Rattle.record.specs.Members.{isRound, faulty, has, leader, idOf, idRound, idMember, idLimit, rounds, slots}
 use Rattle.record.specs.Layout.{weakSlots, recordWords}
-use Rattle.record.proofs.Booleans.{which, never, and-left, and-right, and-both, and-fails-left, and-fails-right, cond-true, cond-false}
-use Rattle.record.proofs.Below.{any-cong}
-use Rattle.record.proofs.Masks.{legal-range, remove-lt}
-use Rattle.record.proofs.Rounds.{round-in, round-range, id-round, id-member}
-use Rattle.protocol.specs.Paths.{history}
+use Rattle.record.proofs.Booleans.{which, and-both, and-fails-left, and-fails-right, cond-true, cond-false}
+use Rattle.record.proofs.Masks.{remove-lt}
+use Rattle.record.proofs.Rounds.{round-in, id-round, id-member}
 use Rattle.protocol.specs.Masks.{reachMasks}
 use Rattle.protocol.proofs.Masks.{reach-claim}
 use Rattle.replica.specs.State.{memberCount, currentRound, ownWord, heldMask, heldId, vertices}
@@ -27,9 +24,9 @@ use Rattle.replica.proofs.Dags.{dag-well-formed}
 use Rattle.commits.specs.Standing.{Standing}
 use Rattle.commits.proofs.Ground.{standing}
 use Rattle.commits.proofs.Steps.{select-zero}
-use Rattle.proposing.specs.Own.{ownMember, wasSigned}
-use Rattle.proposing.specs.Making.{parentsIn, madeStrong, madeTimeouts, madeNoVotes, isReached, isUnreached, madeWeak, madeRecord}
-use Rattle.proposing.specs.Inner.{Current, draftOf, countIn, addWeak, offerId, offerRound, offerRounds}
+use Rattle.proposing.specs.Own.{wasSigned}
+use Rattle.proposing.specs.Making.{parentsIn, madeStrong, madeTimeouts, madeNoVotes, isReached, isUnreached, madeRecord}
+use Rattle.proposing.specs.Inner.{Current, draftOf, addWeak, offerId, offerRound, offerRounds}
 use Rattle.proposing.specs.declared.making.Draft.{Draft}
 
 -- ---- the numbers that satisfy a test, and the first f of them
@@ -48,9 +45,6 @@ take-more : (t : ℕ → Bool) (f y : ℕ)
 unfolding select
 take-more t f y = go (which (t y)) (which (ltb (length (select y t)) f))
   where
-    xs : List ℕ
-    xs = select y t
-
     go : (t y ≡ true) ⊎ (t y ≡ false) → (ltb (length (select y t)) f ≡ true) ⊎ (ltb (length (select y t)) f ≡ false)
         → take f (select y t ++ cond (t y) (y ∷ []) [])
         ≡ cond (t y && ltb (length (take f (select y t))) f) (take f (select y t) ++ y ∷ []) (take f (select y t))
@@ -103,10 +97,8 @@ module _ (round source strong timeouts noVotes tag : ℕ) where
   unfolding offerId
   offer-step t f y held reached few e = go (which (t y)) (which (ltb (length (take f (select y t))) f))
     where
-      weak : List ℕ
-      weak = take f (select y t)
-
-      more : whole (take f (select (suc y) t)) ≡ whole (cond (t y && ltb (length (take f (select y t))) f) (take f (select y t) ++ y ∷ []) (take f (select y t)))
+      more : whole (take f (select (suc y) t))
+          ≡ whole (cond (t y && ltb (length (take f (select y t))) f) (take f (select y t) ++ y ∷ []) (take f (select y t)))
       more = ap whole (take-more t f y)
 
       test : (has held (idMember y) && (not (has reached (idMember y)) && ltb (length (take f (select y t))) f))
@@ -196,7 +188,8 @@ module _ (l : List ℕ) (n round : ℕ) (C : Current l n round) where
       let m : n ≡ memberCount l = C .opened .members in
       let held : heldId l (idOf (suc s) p) ≡ has (heldMask l (suc s)) p
       = rw (id-round (suc s) p few, id-member (suc s) p few, round-in (suc s) (omega arith) (omega (arith, C .high))) in
-      let below : leb (idRound (idOf (suc s) p) + 2) (currentRound l) ≡ true = rw (id-round (suc s) p few) (le-leb (suc s + 2) (currentRound l) (omega arith)) in
+      let below : leb (idRound (idOf (suc s) p) + 2) (currentRound l) ≡ true
+      = rw (id-round (suc s) p few) (le-leb (suc s + 2) (currentRound l) (omega arith)) in
       let named = reach-claim (memberCount l) (vertices l) (S .front .members) (dag-well-formed l S) (currentRound l - 1) (madeStrong l)
       (omega arith) (omega (arith, C .high)) (strong-low l S (omega arith) (omega (arith, C .high))) (suc s) p (omega arith) (omega (arith, C .high)) few in
       let reach : has (getD (reachMasks n (vertices l) (round - 1) (madeStrong l)) s 0) p ≡ isReached l (idOf (suc s) p)

@@ -1,26 +1,25 @@
 -- Every made record passes questions 5 to 11, and 14 on the state that made it. Assumes nothing.
-use mathlib.Core.Path.{_≡_, refl, sym, ap, _∙_}
+use mathlib.Core.Path.{_≡_, sym, ap, _∙_}
 use mathlib.Core.Bool.{Bool, true, false, cond, not, _&&_}
 use mathlib.Core.Logic.{_⊎_, inl, inr, ⊎-elim}
 use mathlib.Core.List.{List, [], _∷_, _++_}
 use Prim.Native.Nat.{ℕ, zero, suc, _+_, _-_, _^_, _≤_, _<_, min}
 use native.Mathlib.Omega.{arith}
 use lib.Dec.{eqb, leb, ltb}
-use lib.ListN.{length, getD, take, length-take, length-append, List·getD-append}
+use lib.ListN.{length, getD, length-take, length-append, List·getD-append}
 use lib.Pow.{pow-pos}
 use lib.Seq.{getD-take, getD-append-seam}
-use borrow.Author.Tests.{eqb-false, eq-eqb, leb-true, ltb-true, ltb-false, not-true}
+use borrow.Author.Tests.{eqb-false, eq-eqb, leb-true, ltb-true, ltb-false}
 use Rattle.record.specs.Below.{select}
-use Rattle.record.specs.Members.{isRound, faulty, leader, has, remove, idRound, idMember, idLimit, rounds, slots}
+use Rattle.record.specs.Members.{isRound, faulty, leader, has, remove, idRound, idMember, idLimit, rounds}
 use Rattle.record.specs.Refusals.{numberOf}
 use Rattle.record.specs.Layout.{strongOf, weakCountOf, weakOf, bodyOf, recordWords}
 use Rattle.record.specs.Admitted.{Composed}
-use Rattle.record.proofs.Booleans.{which, never, and-left, and-right, and-both, cond-true, cond-false}
+use Rattle.record.proofs.Booleans.{which, never, and-left, and-right, and-both, cond-true}
 use Rattle.record.proofs.Masks.{has-bound, has-removed, has-zero}
 use Rattle.record.proofs.Rounds.{round-range, round-in}
 use Rattle.record.proofs.Composed.{composed, weak-slot, lacks-later}
-use Rattle.replica.specs.Layout.{watcher}
-use Rattle.replica.specs.State.{memberCount, currentRound, ownWord, heldMask, timeoutsMask, noVotesMask, heldId}
+use Rattle.replica.specs.State.{memberCount, currentRound, heldMask, timeoutsMask, noVotesMask, heldId}
 use Rattle.replica.specs.Parents.{parentsHeld}
 use Rattle.replica.proofs.Formed.{WellFormed}
 use Rattle.replica.proofs.ParentLaws.{parents-intro, parent-cases}
@@ -90,10 +89,6 @@ module _ (l : List ℕ) (K : MakingKnown l) where
   high : currentRound l ≤ rounds
   high = round-range (currentRound l) (K .round) .1
 
-  -- the own member is of the group
-  member : 1 ≤ ownWord l
-  member = omega (arith, eqb-false (ownWord l) watcher (not-true _ (K .member)))
-
   -- a mask that is copied where it is wanted is of the group
   copied-low : (b : Bool) (mask : ℕ) → (b ≡ true → 2 ≤ currentRound l) → (2 ≤ currentRound l → mask < 2 ^ memberCount l)
       → cond b mask 0 < 2 ^ memberCount l
@@ -145,13 +140,14 @@ module _ (l : List ℕ) (K : MakingKnown l) where
   held-place : (y : ℕ) → heldId l y ≡ true → (1 ≤ idRound y) × (idMember y < memberCount l)
   held-place y e =
       let w = round-range (idRound y) (and-left _ (has (heldMask l (idRound y)) (idMember y)) e) in
-      (w .0, has-bound (memberCount l) (heldMask l (idRound y)) (idMember y) (S .masks .held-low (idRound y) (w .0) (w .1)) (and-right (isRound (idRound y)) _ e))
+      let few = S .masks .held-low (idRound y) (w .0) (w .1) in
+      (w .0, has-bound (memberCount l) (heldMask l (idRound y)) (idMember y) few (and-right (isRound (idRound y)) _ e))
 
   -- ---- questions 5 to 11
 
   parts : Composed (memberCount l) (currentRound l) (ownMember l) (madeStrong l) (madeTimeouts l) (madeNoVotes l) (madeWeak l)
   parts = record {
-    placed = record { round-low = low; round-high = high; member-low = omega (arith, member, own-most l S) };
+    placed = record { round-low = low; round-high = high; member-low = omega (arith, K .own, own-most l S) };
     strong-low = strong-low l S low high;
     timeouts-low = timeouts-low;
     no-votes-low = no-votes-low;

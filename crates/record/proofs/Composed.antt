@@ -1,20 +1,19 @@
 -- A record composed of admissible values is admitted, and what 8 and 9 ask of a strong mask. Assumes nothing.
 use mathlib.Core.Path.{_≡_, refl, sym, ap, _∙_}
-use mathlib.Core.Bool.{Bool, true, false, _&&_}
+use mathlib.Core.Bool.{true}
 use mathlib.Core.Logic.{⊎-elim}
 use mathlib.Core.List.{List, [], _∷_, _++_}
 use Prim.Native.Nat.{ℕ, zero, suc, _+_, _-_, _≤_, _<_}
 use native.Mathlib.Omega.{arith}
-use lib.Dec.{eqb, leb, ltb}
+use lib.Dec.{leb, ltb}
 use lib.ListN.{length, getD, replicate, length-append, length-replicate, getD-replicate, List·getD-append}
 use lib.Seq.{getD-append-add}
 use borrow.Author.Tests.{leb-true, le-leb, lt-ltb, ltb-true, ltb-false, eq-eqb, ne-eqb}
-use Rattle.record.specs.Below.{all}
 use Rattle.record.specs.Members.{faulty, meets}
 use Rattle.record.specs.Refusals.{numberOf}
 use Rattle.record.specs.Layout.{bodySize, weakSlots, bodyOf, strongOf, timeoutsOf, noVotesOf, weakCountOf, weakOf, recordWords}
 use Rattle.record.specs.Questions.{masksOk, strongOk, lacksLeader, timeoutsOk, noVotesOk, weakIdOk, rises, slotOk, weakOk, signerQuestions}
-use Rattle.record.specs.Questions.{recordQuestions, recordRefusal}
+use Rattle.record.specs.Questions.{recordQuestions}
 use Rattle.record.specs.Admitted.{Composed, ComposedLaw}
 use Rattle.record.proofs.Booleans.{which, and-left, and-both, cond-true, cond-false}
 use Rattle.record.proofs.Below.{all-intro}

@@ -3,7 +3,8 @@ use mathlib.Core.List.{List}
 use Prim.Native.Nat.{ℕ}
 use Rattle.proposing.specs.Inner.{Current}
 use Rattle.replica.specs.State.{memberCount, currentRound}
-use Rattle.proposing.proofs.Asking.{MemberKnown, member-passed, current, propose-stopped, propose-late, propose-asked}
+use Rattle.proposing.proofs.Kept.{MemberKnown}
+use Rattle.proposing.proofs.Asking.{member-known, current, propose-stopped, propose-late, propose-asked}
 use borrow.Author.Needs.{needs}
 use Rattle.proposing.proofs.making.check_propose.Statement.{statement}
 use Rattle.proposing.proofs.making.check_propose.Tie as tie
@@ -13,7 +14,7 @@ words s = s .args .state .now
 
 -- the state is a member's
 known : (c : tie.Else1) → let s : tie.Start = search in MemberKnown (words s)
-known c = let m : tie.After-check-member = search in member-passed (words (search)) _ (m .check-member .ensures) (cc)
+known c = let m : tie.After-check-member = search in member-known (words (search)) _ (m .check-member .ensures) (cc)
 
 -- and a record can be made for its current round
 ready : (c : tie.Else2) → let s : tie.Start = search in Current (words s) (memberCount (words s)) (currentRound (words s))

@@ -1,5 +1,4 @@
 -- `made-early` and `made-late` of `Offering`.
-use native.Mathlib.Omega.{arith}
 use Rattle.proposing.proofs.Offering.{stands, made-early, made-late}
 use borrow.Author.Needs.{needs}
 use Rattle.proposing.proofs.making.record_of.Statement.{statement}

@@ -2,7 +2,8 @@
 use mathlib.Core.List.{List}
 use Prim.Native.Nat.{ℕ, _≤_}
 use Rattle.replica.specs.State.{currentRound}
-use Rattle.proposing.proofs.Asking.{MemberKnown, member-passed, opened, sign-stopped, sign-not, sign-later, sign-again, sign-new}
+use Rattle.proposing.proofs.Kept.{MemberKnown}
+use Rattle.proposing.proofs.Asking.{member-known, opened, sign-stopped, sign-not, sign-later, sign-again, sign-new}
 use borrow.Author.Needs.{needs}
 use Rattle.proposing.proofs.signing.check_sign.Statement.{statement}
 use Rattle.proposing.proofs.signing.check_sign.Tie as tie
@@ -12,7 +13,7 @@ words s = s .args .state .now
 
 -- the state is a member's
 known : (c : tie.Else1) → let s : tie.Start = search in MemberKnown (s .args .state .now)
-known c = let m : tie.After-check-member = search in member-passed (words (search)) _ (m .check-member .ensures) (cc)
+known c = let m : tie.After-check-member = search in member-known (words (search)) _ (m .check-member .ensures) (cc)
 
 -- and the current round is not the first
 later : (c : tie.Else2) → let s : tie.Start = search in 2 ≤ currentRound (s .args .state .now)

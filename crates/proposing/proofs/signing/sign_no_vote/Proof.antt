@@ -1,5 +1,4 @@
 -- `sign-refused` and `sign-taken` of `Asking`.
-use mathlib.Core.Path.{sym, _∙_}
 use Rattle.proposing.proofs.Asking.{sign-refused, SignTaken, sign-taken}
 use borrow.Author.Needs.{needs}
 use Rattle.proposing.proofs.signing.sign_no_vote.Statement.{statement}

@@ -1,7 +1,5 @@
 use Rattle.record.specs.Layout.{weakSlots}
 use Prim.Native.Nat.{_<_}
-use mathlib.Core.Path.{_≡_, ap, _∙_}
-use native.Mathlib.Omega.{arith}
 use Rattle.proposing.specs.Inner.{addWeak}
 use borrow.Author.Needs.{needs}
 use Rattle.proposing.proofs.weak.add_weak.Statement.{statement}

@@ -98,6 +98,13 @@ struct Timed {
         if (!std::equal(c.state.begin(), c.state.end(), words)) fail();
     }
 
+    // One call of the library, warm, whatever was timed before.
+    std::uint64_t alone() {
+        std::copy(c.state.begin(), c.state.end(), words);
+        once(ours);
+        return once(ours);
+    }
+
     [[noreturn]] void fail() const {
         std::fprintf(stderr, "bench: %s, n = %u, %u rounds: an engine differs\n", c.name.c_str(), c.n, c.rounds);
         std::exit(1);
@@ -126,7 +133,8 @@ void print_table(const std::vector<Timed>& all) {
     }
 }
 
-const Timed* find(const std::vector<Timed>& all, std::string_view name, u32 n, u32 rounds) {
+template <class List>
+auto find(List& all, std::string_view name, u32 n, u32 rounds) -> decltype(&all.front()) {
     const auto it = std::find_if(all.begin(), all.end(),
                                  [&](const Timed& t) { return t.c.name == name && t.c.n == n && t.c.rounds == rounds; });
     return it == all.end() ? nullptr : &*it;
@@ -219,13 +227,20 @@ void print_summary(const std::vector<Timed>& all) {
                 rows, limit, above, largest, limit, steeper, steepest);
 }
 
-// What making a record costs beside taking a vertex, on the same words but the own member's.
-void print_proposing(const std::vector<Timed>& all) {
+// What making a record costs beside taking a vertex, on the same words but the own member's. The two calls alternate, so that whatever slows
+// the machine slows both.
+void print_proposing(std::vector<Timed>& all, int times, double timer, double per_ns) {
     const u32 n = member_counts.back();
-    std::printf("\nLibrary, propose / vertex on the same state, n = %u:", n);
+    std::printf("\nLibrary, propose / vertex on the same state, the two calls in turn, n = %u:", n);
     for (const u32 rounds : fullness) {
-        const Timed *propose = find(all, "propose", n, rounds), *vertex = find(all, "vertex", n, rounds);
-        std::printf("%s %s with %u full rounds", rounds == fullness.front() ? "" : ",", ratio(propose->ns[ours], vertex->ns[ours]).c_str(), rounds);
+        Timed *propose = find(all, "propose", n, rounds), *vertex = find(all, "vertex", n, rounds);
+        Samples making, taking;
+        for (int i = 0; i < times; ++i) {
+            making.push_back(propose->alone());
+            taking.push_back(vertex->alone());
+        }
+        const double made = (median(making) - timer) / per_ns, taken = (median(taking) - timer) / per_ns;
+        std::printf("%s %s with %u full rounds", rounds == fullness.front() ? "" : ",", ratio(made, taken).c_str(), rounds);
     }
     std::puts(".");
 }
@@ -302,7 +317,7 @@ int main(int argc, char** argv) {
     else print_table(all);
     print_growth(all);
     print_summary(all);
-    print_proposing(all);
+    print_proposing(all, passes * times, timer, per_ns);
     std::printf("\nMedians of %d calls of the library and of the plain engine, and %d of the second implementation, interleaved. "
                 "The words are warm: each timed call follows the same call by the same engine on the same words. "
                 "The cost of an empty call, %.0f ns with the timer, is taken off each. "

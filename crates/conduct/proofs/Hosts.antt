@@ -1,24 +1,22 @@
 -- Members that use the library meet the premises of agreement, so their replicas agree. Assumes nothing.
 use mathlib.Core.Path.{_≡_, refl, sym, ap, _∙_}
-use mathlib.Core.Bool.{Bool, true}
+use mathlib.Core.Bool.{Bool}
 use mathlib.Core.Logic.{_⊎_, inl, inr, ⊎-elim}
 use mathlib.Core.List.{List, [], _∷_, List·Memᴰ·cases-cons, List·Memᴰ·not-nil}
 use Prim.Native.Nat.{ℕ, suc, _-_, _≤_}
 use native.Mathlib.Omega.{arith}
 use borrow.Author.Tests.{eq-eqb}
-use Rattle.record.specs.Members.{has}
-use Rattle.record.specs.Layout.{roundOf, sourceOf, bodyOf, noVotesOf}
+use Rattle.record.specs.Layout.{roundOf, sourceOf}
 use Rattle.record.proofs.Booleans.{never}
-use Rattle.protocol.specs.Dag.{votes}
 use Rattle.protocol.specs.Journal.{among}
 use Rattle.replica.specs.Opening.{openState}
 use Rattle.agreement.specs.Model.{Model, modelOf}
-use Rattle.agreement.specs.Claim.{In, Vertex, First}
+use Rattle.agreement.specs.Claim.{In}
 use Rattle.agreement.proofs.Claim.{agreement-claim}
 use Rattle.conduct.specs.Made.{madeRecords, roundsSigned}
 use Rattle.conduct.specs.Claim.{ofRound}
-use Rattle.conduct.specs.Hosts.{Hosted, HostsMeetPremises, HostsAgree}
-use Rattle.conduct.proofs.Claim.{of-same, of-most, one-of-round, never-both, opened-ready}
+use Rattle.conduct.specs.Hosts.{Hosted, HostsMeetPremises, HostsAgree, HonestMember, HostedIsHonest}
+use Rattle.conduct.proofs.Claim.{Ready, of-same, of-most, one-of-round, never-both, opened-ready}
 
 -- a record of round r is counted
 counted : (r : ℕ) (x : List ℕ) (l : List (List ℕ)) → In x l → roundOf x ≡ r → 1 ≤ ofRound r l
@@ -48,27 +46,31 @@ module _ (n : ℕ) (a b : Model) (honest : ℕ → Bool) (p : ℕ) (H : Hosted n
   abbrev start : List ℕ
   start = openState (H .words) n (suc p) .words
 
-  -- two of its records of one round
-  one-record : (x y : List ℕ) → Vertex n a b honest x ⊎ First n a b honest x → Vertex n a b honest y ⊎ First n a b honest y → roundOf x ≡ roundOf y
-      → sourceOf x ≡ p → sourceOf y ≡ p → x ≡ y
-  one-record x y h k e s t = only-one (roundOf y) x y (madeRecords start (H .calls))
-      (one-of-round n (H .calls) start (opened-ready n (suc p) (H .words) (H .opens)) (H .allowed) (roundOf y)) (H .records x h s) (H .records y k t) e refl
+  -- what its calls made and signed
+  ready : Ready n start
+  ready = opened-ready n (suc p) (H .words) (H .opens)
 
-  -- its vote, and its no-vote in a record of the same round
-  no-both : (x y : List ℕ) → Vertex n a b honest x ⊎ First n a b honest x → Vertex n a b honest y → roundOf x ≡ roundOf y → sourceOf x ≡ p
-      → votes n (roundOf x - 1) (bodyOf x) ≡ true → has (noVotesOf (bodyOf y)) p ≡ true → ⊥
-  no-both x y h k e s v w = never (H .no-votes y k w)
-      (ap (λ (r : ℕ). among (roundsSigned start (H .calls)) (r - 1)) (sym e)
-      ∙ never-both n (H .calls) start (opened-ready n (suc p) (H .words) (H .opens)) (H .allowed) x (H .records x h s) v)
+  -- two of its records of one round are the same, and no no-vote of it stands beside its vote
+  is-honest : HonestMember n a b honest p
+  is-honest = record {
+    one-record = λ x y h k t s. only-one (roundOf y) x y (madeRecords start (H .calls)) (one-of-round n (H .calls) start ready (H .allowed) (roundOf y))
+        (H .records x h s) (H .records y k (sym (t .source) ∙ s)) (t .round) refl;
+    no-both = λ x y h k e s v w. never (H .no-votes y k w)
+        (ap (λ (r : ℕ). among (roundsSigned start (H .calls)) (r - 1)) (sym e)
+        ∙ never-both n (H .calls) start ready (H .allowed) x (H .records x h s) v);
+  }
 
 -- THE COROLLARY
+pub hosted-is-honest : HostedIsHonest
+hosted-is-honest = is-honest
+
+-- the premises of agreement
 pub hosts-meet-premises : HostsMeetPremises
 hosts-meet-premises n a b honest H = record {
   few-faulty = H .few-faulty;
   one-vertex = H .one-vertex;
-  one-record = λ x y h k t e.
-      one-record n a b honest (sourceOf x) (H .hosted (sourceOf x) e) x y (inr h) (inl k) (t .round) refl (sym (t .source));
-  no-both = λ x y h k r e v w. no-both n a b honest (sourceOf x) (H .hosted (sourceOf x) e) x y h k r refl v w;
+  one-record = λ x y h k t e. is-honest n a b honest (sourceOf x) (H .hosted (sourceOf x) e) .one-record x y (inr h) (inl k) t refl;
+  no-both = λ x y h k r e v w. is-honest n a b honest (sourceOf x) (H .hosted (sourceOf x) e) .no-both x y h k r refl v w;
 }
 
 -- and agreement

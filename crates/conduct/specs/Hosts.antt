@@ -7,6 +7,7 @@ use Prim.Native.Nat.{ℕ, suc, _-_, _≤_}
 use Rattle.record.specs.Below.{count}
 use Rattle.record.specs.Members.{faulty, has}
 use Rattle.record.specs.Layout.{roundOf, sourceOf, bodyOf, noVotesOf}
+use Rattle.protocol.specs.Dag.{votes}
 use Rattle.protocol.specs.Journal.{among}
 use Rattle.replica.specs.Opening.{openState}
 use Rattle.runs.specs.Call.{Call, run, allAllowed}
@@ -27,17 +28,28 @@ module _ (n : ℕ) (a b : Model) (honest : ℕ → Bool) where
     pub no-votes : (y : List ℕ) → Vertex n a b honest y → has (noVotesOf (bodyOf y)) p ≡ true
         → among (roundsSigned (openState words n (suc p) .words) calls) (roundOf y - 1) ≡ true
 
+  -- What the premises ask of an honest member p: it has one record in a round, and signs no no-vote against a leader that it votes for.
+  pub record HonestMember (p : ℕ) : Type 0 where
+    pub one-record : (x y : List ℕ) → Vertex n a b honest x ⊎ First n a b honest x → Vertex n a b honest y ⊎ First n a b honest y → Twins x y
+        → sourceOf x ≡ p → x ≡ y
+    pub no-both : (x y : List ℕ) → Vertex n a b honest x ⊎ First n a b honest x → Vertex n a b honest y → roundOf x ≡ roundOf y
+        → sourceOf x ≡ p → votes n (roundOf x - 1) (bodyOf x) ≡ true → has (noVotesOf (bodyOf y)) p ≡ true → ⊥
+
   -- at most f members are faulty, reliable broadcast delivers one vertex of a round and source, and every honest member uses the library
   pub record Hosts : Type 0 where
     pub few-faulty : count n (λ p. not (honest p)) ≤ faulty n
     pub one-vertex : (x y : List ℕ) → Vertex n a b honest x → Vertex n a b honest y → Twins x y → x ≡ y
     pub hosted : (p : ℕ) → honest p ≡ true → Hosted p
 
--- THE COROLLARY: then the premises of agreement hold.
+-- THE COROLLARY: a member that uses the library is an honest one.
+abbrev pub HostedIsHonest : Type 0
+HostedIsHonest = (n : ℕ) (a b : Model) (honest : ℕ → Bool) (p : ℕ) → Hosted n a b honest p → HonestMember n a b honest p
+
+-- So the premises of agreement hold where every honest member uses it.
 abbrev pub HostsMeetPremises : Type 0
 HostsMeetPremises = (n : ℕ) (a b : Model) (honest : ℕ → Bool) → Hosts n a b honest → Premises n a b honest
 
--- So two replicas of such a group agree.
+-- And two replicas of such a group agree.
 abbrev pub HostsAgree : Type 0
 HostsAgree = (n own other : ℕ) (u w : List ℕ) → openState u n own .number ≡ 0 → openState w n other .number ≡ 0
     → (calls others : List Call) → allAllowed calls ≡ true → allAllowed others ≡ true

@@ -75,7 +75,7 @@ opened l k = record {
 }
 
 pub current : (l : List ℕ) → MemberKnown l → currentRound l ≤ rounds → Current l (memberCount l) (currentRound l)
-current l k h = let o = opened l k in record { size = o .size; opened = o; some = o .some; low = o .low; high = h; own = o .own }
+current l k h = record { opened = opened l k; high = h }
 
 -- ---- questions 9, 10, 12 and 18
 

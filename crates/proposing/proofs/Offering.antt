@@ -173,7 +173,7 @@ strong-low l S low high = ⊎-elim
 
 module _ (l : List ℕ) (n round : ℕ) (C : Current l n round) where
   S : WellFormed l
-  S = formed l (C .size) (C .opened .formed)
+  S = formed l (C .opened .size) (C .opened .formed)
 
   pub stands : Standing l
   stands = standing l S
@@ -204,12 +204,12 @@ module _ (l : List ℕ) (n round : ℕ) (C : Current l n round) where
 
   near : (y : ℕ) → slots * (round - 1) ≤ y → isUnreached l y ≡ false
   unfolding isUnreached
-  near y h = and-fails-right (heldId l y) (and-fails-left _ (lt-leb (idRound y + 2) (currentRound l) (omega (arith, C .opened .current, C .low))))
+  near y h = and-fails-right (heldId l y) (and-fails-left _ (lt-leb (idRound y + 2) (currentRound l) (omega (arith, C .opened .current, C .opened .low))))
 
   -- so all that counts is below the round before
   weak-below : select idLimit (isUnreached l) ≡ select (slots * (round - 1)) (isUnreached l)
   weak-below =
-      let e : idLimit ≡ slots * (round - 1) + (idLimit - slots * (round - 1)) = omega (arith, C .low, C .high) in
+      let e : idLimit ≡ slots * (round - 1) + (idLimit - slots * (round - 1)) = omega (arith, C .opened .low, C .high) in
       ap (λ (k : ℕ). select k (isUnreached l)) e
       ∙ select-stays (isUnreached l) (slots * (round - 1)) (idLimit - slots * (round - 1)) (λ y a b. near y a)
 
@@ -245,7 +245,7 @@ module _ (l : List ℕ) (n round : ℕ) (C : Current l n round) where
         early = ⊎-elim
             (λ e. let z : slots * (round - 1) ≡ 0 = omega (arith, eqb-true round 1 e) in
             none-yet ∙ sym (ap (λ (k : ℕ). select k (isUnreached l)) z ∙ select-zero (isUnreached l)))
-            (λ e. let z : slots ≡ slots * (round - 1) = omega (arith, eqb-false round 1 e, C .low) in ap (λ (k : ℕ). select k (isUnreached l)) z)
+            (λ e. let z : slots ≡ slots * (round - 1) = omega (arith, eqb-false round 1 e, C .opened .low) in ap (λ (k : ℕ). select k (isUnreached l)) z)
             (which (eqb round 1))
 
     -- later it has those that were offered

@@ -30,12 +30,8 @@ pub record Opened (l : List ℕ) (n round : ℕ) : Type 0 where
 
 -- so of a current round that a record can be made for
 pub record Current (l : List ℕ) (n round : ℕ) : Type 0 where
-  pub size : length l ≡ stateSize
   pub opened : Opened l n round
-  pub some : 0 < n
-  pub low : 1 ≤ round
   pub high : round ≤ rounds
-  pub own : 1 ≤ ownWord l
 
 -- the masks of the record that is made
 abbrev pub draftOf : List ℕ → Draft

@@ -17,8 +17,8 @@ record-of-spec =
     tie.close
     (tie.spec
     (λ c κs. search needs)
-    (λ c. let s : tie.Start = search in let z = s .pre .size in search needs)
-    (λ c. let s : tie.Start = search in let z = s .pre .own in search needs)
+    (λ c. let s : tie.Start = search in let z = s .pre .opened .size in search needs)
+    (λ c. let s : tie.Start = search in let z = s .pre .opened .own in search needs)
     (λ c κs. search needs)
     (λ c. search made-early)
     (λ c. search needs)

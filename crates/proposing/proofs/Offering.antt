@@ -12,7 +12,7 @@ use lib.Seq.{set-at, take-all, take-append-le, length-take-le}
 use borrow.Author.Tests.{le-leb, lt-leb, le-ltb, ltb-true, ltb-false, eqb-true, eqb-false}
 use Rattle.record.specs.Below.{select}
 use Rattle.record.specs.Members.{isRound, faulty, has, leader, idOf, idRound, idMember, idLimit, rounds, slots}
-use Rattle.record.specs.Layout.{weakSlots, recordWords}
+use Rattle.record.specs.Layout.{bodyPlace, weakCountPlace, weakPlace, weakSlots, recordWords}
 use Rattle.record.proofs.Booleans.{which, and-both, and-fails-left, and-fails-right, cond-true, cond-false}
 use Rattle.record.proofs.Masks.{remove-lt}
 use Rattle.record.proofs.Rounds.{round-in, id-round, id-member}
@@ -67,12 +67,15 @@ module _ (round source strong timeouts noVotes tag : ℕ) where
   add-whole : (weak : List ℕ) (y : ℕ) → length weak < weakSlots → addWeak (whole weak) y ≡ whole (weak ++ y ∷ [])
   unfolding addWeak
   add-whole weak y h =
-      ap (λ (x : List ℕ). set x 6 (length weak + 1)) (ap (λ (x : List ℕ). set x (7 + length weak) y) room ∙ written)
-      ∙ ap₂ (λ (k : ℕ) (x : List ℕ). round ∷ source ∷ strong ∷ timeouts ∷ noVotes ∷ tag ∷ k ∷ x) (sym (length-append weak (y ∷ [])))
+      ap (λ (x : List ℕ). set x (bodyPlace + weakCountPlace) (length weak + 1)) (ap (λ (x : List ℕ). set x (slotsPlace + length weak) y) room ∙ written)
+      ∙ ap₂ (λ (k : ℕ) (x : List ℕ). take (bodyPlace + weakCountPlace) (whole weak) ++ k ∷ x) (sym (length-append weak (y ∷ [])))
       (sym (append-assoc weak (y ∷ []) (replicate (weakSlots - length (weak ++ y ∷ [])) 0) ∙ ap (λ (x : List ℕ). weak ++ y ∷ x) rest))
     where
+      slotsPlace : ℕ
+      slotsPlace = bodyPlace + weakPlace
+
       front : List ℕ
-      front = round ∷ source ∷ strong ∷ timeouts ∷ noVotes ∷ tag ∷ length weak ∷ weak
+      front = take slotsPlace (whole weak) ++ weak
 
       tail : List ℕ
       tail = replicate (weakSlots - suc (length weak)) 0
@@ -80,11 +83,11 @@ module _ (round source strong timeouts noVotes tag : ℕ) where
       room : whole weak ≡ front ++ 0 ∷ tail
       room = let e : weakSlots - length weak ≡ suc (weakSlots - suc (length weak)) = omega arith in ap (λ (k : ℕ). front ++ replicate k 0) e
 
-      written : set (front ++ 0 ∷ tail) (7 + length weak) y ≡ front ++ y ∷ tail
-      written = set-at front 0 tail y (7 + length weak) long
+      written : set (front ++ 0 ∷ tail) (slotsPlace + length weak) y ≡ front ++ y ∷ tail
+      written = set-at front 0 tail y (slotsPlace + length weak) long
         where
-          long : length front ≡ 7 + length weak
-          long = omega arith
+          long : length front ≡ slotsPlace + length weak
+          long = length-append (take slotsPlace (whole weak)) weak
 
       rest : _≡_ {A = List ℕ} (replicate (weakSlots - length (weak ++ y ∷ [])) 0) tail
       rest =

@@ -2,16 +2,16 @@
 use mathlib.Core.Path.{_≡_, refl, sym, ap, _∙_}
 use mathlib.Core.Bool.{true}
 use mathlib.Core.Logic.{⊎-elim}
-use mathlib.Core.List.{List, [], _∷_, _++_}
+use mathlib.Core.List.{List, _++_}
 use Prim.Native.Nat.{ℕ, zero, suc, _+_, _-_, _≤_, _<_}
 use native.Mathlib.Omega.{arith}
 use lib.Dec.{leb, ltb}
-use lib.ListN.{length, getD, replicate, length-append, length-replicate, getD-replicate, List·getD-append}
+use lib.ListN.{length, getD, take, replicate, length-append, length-replicate, getD-replicate, List·getD-append}
 use lib.Seq.{getD-append-add}
 use borrow.Author.Tests.{leb-true, le-leb, lt-ltb, ltb-true, ltb-false, eq-eqb, ne-eqb}
 use Rattle.record.specs.Members.{faulty, meets}
 use Rattle.record.specs.Refusals.{numberOf}
-use Rattle.record.specs.Layout.{bodySize, weakSlots, bodyOf, strongOf, timeoutsOf, noVotesOf, weakCountOf, weakOf, recordWords}
+use Rattle.record.specs.Layout.{bodySize, weakPlace, weakSlots, bodyOf, strongOf, timeoutsOf, noVotesOf, weakCountOf, weakOf, recordWords}
 use Rattle.record.specs.Questions.{masksOk, strongOk, lacksLeader, timeoutsOk, noVotesOk, weakIdOk, rises, slotOk, weakOk, signerQuestions}
 use Rattle.record.specs.Questions.{recordQuestions}
 use Rattle.record.specs.Admitted.{Composed, ComposedLaw}
@@ -83,7 +83,7 @@ module _ (n round source strong timeouts noVotes tag : ℕ) (weak : List ℕ) wh
 
   weak-is : (i : ℕ) → weakOf body i ≡ getD (slotsOf weak) i 0
   unfolding weakOf
-  weak-is i = getD-append-add (strong ∷ timeouts ∷ noVotes ∷ tag ∷ length weak ∷ []) (slotsOf weak) i 0
+  weak-is i = getD-append-add (take weakPlace body) (slotsOf weak) i 0
 
   -- a slot that is used has its weak id
   pub weak-slot : (i : ℕ) → i < length weak → weakOf body i ≡ getD weak i 0
@@ -91,7 +91,7 @@ module _ (n round source strong timeouts noVotes tag : ℕ) (weak : List ℕ) wh
 
   module _ (c : Composed n round source strong timeouts noVotes weak) where
     long : length body ≡ bodySize
-    long = ap (λ (k : ℕ). suc (suc (suc (suc (suc k))))) (slots-long weak (c .weak-fit))
+    long = length-append (take weakPlace body) (slotsOf weak) ∙ ap (λ (k : ℕ). weakPlace + k) (slots-long weak (c .weak-fit))
 
     masks : masksOk n body ≡ true
     unfolding masksOk

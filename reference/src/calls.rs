@@ -25,7 +25,8 @@ pub fn open(state: &mut [u32], n: u32, own: u32) -> Answer {
     Answer::default()
 }
 
-/// Takes a vertex that reliable broadcast has delivered. Asks 1 and 3 to 14.
+/// Takes a vertex that reliable broadcast has delivered. Asks 1 and 3 to 14. Admitted, its timeout
+/// mask joins the timeouts of the round before, ahead of the round rule.
 pub fn take_vertex(state: &mut [u32], record: &[u32]) -> Answer {
     change(state, |next| {
         let record = checked_record(next, record)?;
@@ -41,6 +42,7 @@ pub fn take_vertex(state: &mut [u32], record: &[u32]) -> Answer {
             return Err(Answer::missing_parent(id));
         }
         next.vertices.insert(record.id(), record);
+        next.timeouts.join(record.round - 1, record.timeouts);
         next.advance_current_round();
         next.commit_all();
         Ok(())

@@ -47,6 +47,11 @@ impl RoundMasks {
         *self.0.entry(round).or_insert(0) |= bit(member);
     }
 
+    /// Adds the members of a mask. An empty mask adds nothing, so the round may then be 0.
+    pub fn join(&mut self, round: u32, mask: u32) {
+        members(mask).for_each(|member| self.add(round, member));
+    }
+
     fn decode(state: &[u32], which: usize) -> RoundMasks {
         RoundMasks(
             (1..=LAST_ROUND)

@@ -1,5 +1,6 @@
-//! Simulated groups: after every call the state is well formed and its lists equal the model's,
-//! and the lists of two replicas are prefixes of one another.
+//! Simulated groups: after every call the state is well formed and its lists equal the model's, an
+//! admitted vertex leaves a current round of its own round or above, and the lists of two replicas
+//! are prefixes of one another.
 
 mod common;
 
@@ -7,6 +8,7 @@ use std::collections::{BTreeMap, BTreeSet};
 
 use common::*;
 use reference::group::{has, Group};
+use reference::layout::{mask_place, CURRENT_ROUND, HELD, LAST_ROUND, TIMEOUTS};
 use reference::model::Lists;
 use reference::record::Record;
 use reference::simulate::{simulate, Options, Run};
@@ -25,6 +27,8 @@ struct Seen {
     skipped: u32,
     /// Admitted vertices with weak ids.
     weak: usize,
+    /// Rounds ended by the certificate of a vertex, which the notes alone had not ended.
+    by_certificate: usize,
     /// States with every cell of the group held.
     full: usize,
 }
@@ -42,7 +46,9 @@ fn follow(calls: &[Call], against_model: bool, seen: &mut Seen) -> State {
         if answer.number == 0 {
             check_growth(call, &before, &state, answer);
             seen.several_leaders += usize::from(answer.leaders > 1);
-            seen.weak += usize::from(matches!(call, Call::Vertex(words) if words[6] > 0));
+            if let Call::Vertex(words) = call {
+                check_vertex(words, &before, &state, seen);
+            }
             expected = model.lists();
         } else {
             assert_eq!(state, before, "{call:?}");
@@ -81,6 +87,36 @@ fn check_growth(call: &Call, before: &State, after: &State, answer: Answer) {
     );
     assert_eq!(after[3] - before[3], answer.leaders, "{call:?}");
     assert_eq!(after[4] - before[4], answer.journal, "{call:?}");
+}
+
+/// The current round after one, by the round rule over the words.
+fn round_after(current: u32, state: &State) -> u32 {
+    let group = Group::new(state[0]).expect("the size is legal");
+    let is_ended = |&round: &u32| {
+        let [held, timeouts] = [HELD, TIMEOUTS].map(|which| state[mask_place(round, which)]);
+        group.is_quorum(held) && (has(held, group.leader(round)) || group.is_quorum(timeouts))
+    };
+    let highest = (1..=LAST_ROUND).rev().find(is_ended);
+    highest.map_or(current, |round| current.max(round + 1))
+}
+
+/// An admitted vertex adds its certificate to the round before and then raises the current round,
+/// to its own round at least. A vertex that raises it to just that does so by its certificate.
+fn check_vertex(words: &[u32], before: &State, after: &State, seen: &mut Seen) {
+    let round = words[0];
+    let mut notes_alone = after.clone();
+    if round > 1 {
+        let at = mask_place(round - 1, TIMEOUTS);
+        assert_eq!(after[at], before[at] | words[3], "{words:?}");
+        notes_alone[at] = before[at];
+    }
+    let [old, new] = [before, after].map(|state| state[CURRENT_ROUND]);
+    assert_eq!(new, round_after(old, after), "{words:?}");
+    assert!(new >= round, "{words:?}");
+    let by_certificate = round_after(old, &notes_alone) < new;
+    assert_eq!(by_certificate, old < new && new == round, "{words:?}");
+    seen.by_certificate += usize::from(by_certificate);
+    seen.weak += usize::from(words[6] > 0);
 }
 
 fn note_end(state: &State, seen: &mut Seen) {
@@ -184,6 +220,7 @@ fn typical_groups_commit_and_agree() {
     assert!(seen.several_leaders > 20, "{}", seen.several_leaders);
     assert!(seen.skipped > 20, "{}", seen.skipped);
     assert!(seen.weak > 100, "{}", seen.weak);
+    assert!(seen.by_certificate > 50, "{}", seen.by_certificate);
     let own_calls = 16..=17;
     let expected: BTreeSet<u32> = [0, 2].into_iter().chain(4..=14).chain(own_calls).collect();
     assert_eq!(seen.numbers, expected);
@@ -194,6 +231,27 @@ fn rough_groups_agree() {
     let seen = run_groups(&Options::rough(), 0..4);
     assert!(seen.committed > 200, "{}", seen.committed);
     assert!(seen.skipped > 50, "{}", seen.skipped);
+    assert!(seen.by_certificate > 50, "{}", seen.by_certificate);
+}
+
+#[test]
+fn groups_without_timeouts_go_on_by_certificates() {
+    let options = Options {
+        lost_timeouts: 100,
+        ..Options::typical()
+    };
+    let seen = run_groups(&options, 0..2);
+    assert!(seen.by_certificate > 40, "{}", seen.by_certificate);
+    for calls in simulate(0, 4, &options).replicas {
+        let mut state = vec![0; STATE_WORDS];
+        for call in calls {
+            let number = call.apply(&mut state).number;
+            assert!(
+                !(matches!(call, Call::Timeout(..)) && number == 0),
+                "{call:?}"
+            );
+        }
+    }
 }
 
 #[test]
@@ -208,6 +266,7 @@ fn wild_groups_keep_states_well_formed() {
     }
     assert!(seen.committed > 100, "{}", seen.committed);
     assert!(seen.several_leaders > 10, "{}", seen.several_leaders);
+    assert!(seen.by_certificate > 50, "{}", seen.by_certificate);
 }
 
 #[test]

@@ -1,5 +1,6 @@
-//! Groups driven by made records alone: what A1 says of every made record and signed no-vote, and
-//! that such groups go on, commit and agree.
+//! Groups driven by made records alone: what A1 says of every made record and signed no-vote, that
+//! a member whom no timeouts reach goes on by carried certificates (A2), and that such groups go
+//! on, commit and agree.
 
 mod common;
 
@@ -31,6 +32,8 @@ struct Seen {
     /// Vertices given before their parents were held, and again after they were admitted.
     early: usize,
     again: usize,
+    /// Rounds ended by the certificate of a vertex, which the notes alone had not ended.
+    by_certificate: usize,
     committed: u32,
     skipped: u32,
 }
@@ -169,7 +172,8 @@ impl Member<'_> {
         0
     }
 
-    /// A vertex is admitted if its parents are held and it is new.
+    /// A vertex is admitted if its parents are held and it is new. The current round is then the
+    /// vertex's or above. A vertex that raises it to just that does so by its certificate.
     fn take(&mut self, before: &State, words: &[u32]) -> u32 {
         let record = Record::from_words(words).expect("a record has 12 words");
         let number = take_vertex(&mut self.state, words).number;
@@ -179,6 +183,9 @@ impl Member<'_> {
         } else if record.parents().all(|id| holds(before, id)) {
             assert_eq!(number, 0, "{record:?}");
             self.vertices.insert(record.id(), record);
+            let [old, new] = [before, &self.state].map(|state| state[CURRENT_ROUND]);
+            assert!(new >= record.round, "{record:?}");
+            self.seen.by_certificate += usize::from(old < new && new == record.round);
         } else {
             self.seen.early += 1;
             assert_eq!(number, 14);
@@ -245,6 +252,7 @@ fn calm_groups_vote_for_every_leader() {
     assert!((most * 9 / 10..=most).contains(&seen.made), "{}", seen.made);
     assert_eq!((seen.with_timeouts, seen.signed, seen.skipped), (0, 0, 0));
     assert_eq!(seen.committed, 31 * members);
+    assert_eq!(seen.by_certificate, 0);
     assert!(seen.again > 100, "{}", seen.again);
 }
 
@@ -259,6 +267,7 @@ fn groups_with_silent_leaders_go_on() {
         ("no-votes", seen.with_no_votes),
         ("signed", seen.signed),
         ("early", seen.early),
+        ("by certificate", seen.by_certificate),
     ] {
         assert!(count > 50, "{what} {count}");
     }
@@ -273,9 +282,23 @@ fn groups_with_slow_messages_go_on() {
     let seen = run_groups(&Options::rough(), &[(4, 6), (7, 3), (16, 1)]);
     assert!(seen.with_weak > 500, "{}", seen.with_weak);
     assert!(seen.left_out > 2, "{}", seen.left_out);
+    assert!(seen.by_certificate > 50, "{}", seen.by_certificate);
     let members = 6 * 4 + 3 * 7 + 16;
     assert!(seen.committed > 25 * members, "{}", seen.committed);
     assert!(seen.skipped > 5 * members, "{}", seen.skipped);
+}
+
+/// In every round but the last, one member alone gets the timeouts of the others.
+#[test]
+fn groups_with_lost_timeouts_go_on() {
+    let options = Options {
+        lost_timeouts: 100,
+        ..Options::typical()
+    };
+    let seen = run_groups(&options, &[(4, 3), (7, 2)]);
+    assert!(seen.by_certificate > 150, "{}", seen.by_certificate);
+    let members = 3 * 4 + 2 * 7;
+    assert!(seen.committed > 25 * members, "{}", seen.committed);
 }
 
 #[test]

@@ -150,6 +150,29 @@ fn votes_and_heard() {
     keeps(&state, &[(mask(7, 3), 15), (mask(8, 4), 15)]);
 }
 
+/// The timeouts of a round need not have the certificates that held vertices carry for it.
+#[test]
+fn carried_certificates_and_timeouts() {
+    let state = rich_state();
+    assert_eq!((state[cell(2, 3) + 1], state[mask(1, 3)]), (7, 7));
+    for timeouts in 0..16 {
+        keeps(&state, &[(mask(1, 3), timeouts)]);
+        keeps(&state, &[(mask(1, 3), timeouts), (1, 1)]);
+        let mut changed = state.clone();
+        changed[mask(1, 3)] = timeouts;
+        for (call, number) in [
+            (Call::Vertex(plain(2, 2, 15).words().to_vec()), 0),
+            (Call::First(plain(1, 3, 0).words().to_vec()), 0),
+            (Call::Timeout(2, 3), 0),
+            (Call::NoVote(2, 3), 0),
+            (Call::Propose(0), 16),
+            (Call::SignNoVote, 16),
+        ] {
+            assert_eq!(call.apply(&mut changed).number, number, "{call:?}");
+        }
+    }
+}
+
 #[test]
 fn ordered_within_held() {
     let state = rich_state();

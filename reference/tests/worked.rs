@@ -1,4 +1,5 @@
-//! The rows of "Worked on four members", starred and unstarred, in the paper's order.
+//! The rows of "Worked on four members", starred and unstarred, in the paper's order; beside the
+//! row of timeout notes stands the same round with a carried certificate (02, request A2).
 
 mod common;
 
@@ -87,6 +88,23 @@ fn current_round_by_timeouts() {
     for (signer, current_round) in [(0, 1), (1, 1), (2, 2)] {
         assert_eq!(take_timeout(&mut state, 1, signer).number, 0);
         assert_eq!(status(&state).current_round, current_round);
+    }
+}
+
+#[test]
+fn current_round_by_a_carried_certificate() {
+    let mut state = opened(4);
+    vertices(
+        &mut state,
+        &[plain(1, 1, 0), plain(1, 2, 0), plain(1, 3, 0)],
+    );
+    assert_eq!(status(&state).current_round, 1);
+    let answer = take_vertex(&mut state, &record(2, 0, 14, 7, 0).words());
+    assert_eq!(answer, Answer::default());
+    assert_eq!((status(&state).current_round, state[11]), (2, 7));
+    for (signer, number, timeouts) in [(0, 12, 7), (1, 12, 7), (2, 12, 7), (3, 0, 15)] {
+        assert_eq!(take_timeout(&mut state, 1, signer).number, number);
+        assert_eq!((status(&state).current_round, state[11]), (2, timeouts));
     }
 }
 

@@ -13,7 +13,7 @@ fn changed_by(state: &mut State, call: Call) -> Vec<(usize, u32)> {
 }
 
 #[test]
-fn a_vertex_writes_its_cell_and_mark() {
+fn a_vertex_writes_its_cell_its_mark_and_its_certificate() {
     let mut state = state_s();
     vertices(
         &mut state,
@@ -24,6 +24,7 @@ fn a_vertex_writes_its_cell_and_mark() {
     let cell = 744 + 10 * (16 + 3);
     let expected = vec![
         (1, 3),
+        (11, 7),
         (14, 0b1011),
         (cell, 14),
         (cell + 1, 7),
@@ -81,17 +82,17 @@ fn notes_set_their_bit() {
 }
 
 #[test]
-fn carried_timeouts_do_not_reach_the_mask() {
+fn carried_timeouts_reach_the_mask_ahead_of_the_round_rule() {
     let mut state = opened(4);
     vertices(
         &mut state,
         &[plain(1, 1, 0), plain(1, 2, 0), plain(1, 3, 0)],
     );
-    vertices(
-        &mut state,
-        &[record(2, 0, 14, 15, 0), record(2, 2, 14, 15, 0)],
-    );
     assert_eq!((state[11], status(&state).current_round), (0, 1));
+    vertices(&mut state, &[record(2, 0, 14, 7, 0)]);
+    assert_eq!((state[11], status(&state).current_round), (7, 2));
+    vertices(&mut state, &[record(2, 2, 14, 13, 0)]);
+    assert_eq!((state[11], status(&state).current_round), (15, 2));
 }
 
 #[test]

@@ -23,7 +23,8 @@ use Rattle.protocol.specs.Chain.{leaders}
 use Rattle.protocol.specs.Journal.{journal}
 use Rattle.replica.proofs.Opened.{opened-members, opened-word, opened-leaders, opened-journal, opened-vertices, opened-firsts, opened-formed}
 use Rattle.commits.specs.Commit.{raiseRound, commitAll}
-use Rattle.ordering.specs.Calls.{putVertex, hear, vertexQuestions, firstQuestions, noteRefusal, takeBody, takeFirstBody, takeTimeout, takeNoVote}
+use Rattle.ordering.specs.Calls.{hear, vertexQuestions, firstQuestions, noteRefusal, takeBody, takeFirstBody, takeTimeout, takeNoVote}
+use Rattle.ordering.proofs.Carried.{written}
 use Rattle.commits.proofs.Steps.{not-led}
 use Rattle.ordering.proofs.Marks.{formed-raise}
 use Rattle.ordering.proofs.Kept.{formed-noted}
@@ -145,7 +146,7 @@ module _ (n : ℕ) (a b : Model) (honest : ℕ → Bool) (g : legal n ≡ true) 
       why = firstNo (vertexQuestions l (roundOf rec) (sourceOf rec) (bodyOf rec))
 
       after : List ℕ
-      after = commitAll (raiseRound (putVertex l (roundOf rec) (sourceOf rec) (bodyOf rec)))
+      after = commitAll (raiseRound (written l (roundOf rec) (sourceOf rec) (bodyOf rec)))
 
       go : (numberOf why ≡ 0) ⊎ (numberOf why ≡ 0 → ⊥) → Either a b (admit (vertex rec) (outcome why l after .number) m)
           → Follows n (outcome why l after .words) (admit (vertex rec) (outcome why l after .number) m)

@@ -10,7 +10,7 @@ use lib.ListN.{length}
 use borrow.Author.Tests.{ltb-true, ltb-false}
 use Rattle.record.specs.Members.{legal, has, isRound, rounds, slots, votedRounds}
 use Rattle.record.specs.Refusals.{numberOf, firstNo}
-use Rattle.record.specs.Layout.{roundOf, sourceOf, bodyOf, bodySize}
+use Rattle.record.specs.Layout.{roundOf, sourceOf, bodyOf, timeoutsOf, bodySize}
 use Rattle.record.specs.Admitted.{Admitted}
 use Rattle.record.proofs.Booleans.{which, never, and-fails-right, cond-false}
 use Rattle.record.proofs.Below.{least-sat, least-off}
@@ -27,11 +27,12 @@ use Rattle.replica.proofs.Formed.{WellFormed}
 use Rattle.replica.proofs.Dags.{held-vertex, dag-well-formed}
 use Rattle.commits.specs.Commit.{commit, committable, lowest, commitUpTo, raiseRound}
 use Rattle.ordering.specs.Calls.{putVertex, hear, vertexQuestions, firstQuestions}
+use Rattle.ordering.proofs.Carried.{written, VertexWritten, vertex-written, carry-calm, carry-alike}
 use Rattle.commits.proofs.Steps.{committable-at}
 use Rattle.commits.proofs.Frame.{Alike, vertices-same, firsts-same}
 use Rattle.commits.proofs.Frames.{lists-members}
 use Rattle.commits.proofs.Growing.{grown, commit-vertices, commit-firsts, commit-round, commit-leaders, commit-journal}
-use Rattle.ordering.proofs.Marks.{formed-raise, formed-put, formed-hear}
+use Rattle.ordering.proofs.Marks.{formed-raise, formed-hear}
 use Rattle.ordering.proofs.Kept.{formed-commit, committable-round}
 use Rattle.runs.proofs.Asked.{vertex-yes, first-yes}
 use Rattle.agreement.specs.Model.{Model, dagOf}
@@ -40,7 +41,7 @@ use Rattle.agreement.proofs.Records.{records-here, records-there, by-re
 use Rattle.agreement.proofs.Family.{Either, Part, partDag, family}
 use Rattle.agreement.proofs.Tracking.{At, at-grow, at-commit}
 use Rattle.ordering.proofs.Writing.{Calm, calm-members, calm-committed, calm-leaders, calm-journal, raise-calm, raise-alike, hear-calm, hear-vertices}
-use Rattle.ordering.proofs.Writing.{hear-other, hear-here, hear-vote, put-calm, put-firsts, put-here, put-other}
+use Rattle.ordering.proofs.Writing.{hear-other, hear-here, hear-vote, put-firsts, put-here, put-other}
 
 -- the state l holds what the model m does
 pub record Holds (n : ℕ) (l : List ℕ) (m : Model) : Type 0 where
@@ -172,22 +173,24 @@ module _ (n : ℕ) (a b : Model) (honest : ℕ → Bool) (g : legal n ≡ true) 
     abbrev put : List ℕ
     put = putVertex l (roundOf rec) (sourceOf rec) (bodyOf rec)
 
-    -- what admission says of it
+    -- what admission says of it, and of what it writes
+    W : VertexWritten l (roundOf rec) (sourceOf rec) (bodyOf rec)
+    W = vertex-written l (roundOf rec) (sourceOf rec) (bodyOf rec) ok
+
     A : Admitted (memberCount l) (roundOf rec) (sourceOf rec) (bodyOf rec)
-    A = admitted (memberCount l) (roundOf rec) (sourceOf rec) (bodyOf rec) (vertex-yes l (roundOf rec) (sourceOf rec) (bodyOf rec) ok .0)
+    A = W .admit
 
     -- its source is a member
     few : sourceOf rec < slots
-    few = omega (arith, A .source-low, h .formed .front .high)
+    few = W .few
 
     -- the state stays formed
     put-formed : WellFormed put
-    put-formed = let w = vertex-yes l (roundOf rec) (sourceOf rec) (bodyOf rec) ok in formed-put l (h .formed) (roundOf rec) (sourceOf rec) (bodyOf rec)
-        (w .0) (w .2)
+    put-formed = W .put
 
     -- the lists stay
     calm : Calm l put
-    calm = put-calm l (roundOf rec) (sourceOf rec) (bodyOf rec) (h .formed .size) (A .round-low) (A .round-high) few (A .size)
+    calm = W .put-calm
 
     -- there was none of its round and source
     new : held (recordsOf (m .vertices)) (roundOf rec) (sourceOf rec) ≡ false
@@ -224,10 +227,19 @@ module _ (n : ℕ) (a b : Model) (honest : ℕ → Bool) (g : legal n ≡ true) 
         stay : (s q : ℕ) → firsts put s q ≡ firsts l s q
         stay = put-firsts l (roundOf rec) (sourceOf rec) (bodyOf rec) (h .formed .size) (A .round-low) (A .round-high) few (A .size)
 
+    -- the timeout mask that it carries leaves the lists and the records as they were
+    abbrev carried : List ℕ
+    carried = written l (roundOf rec) (sourceOf rec) (bodyOf rec)
+
+    carried-holds : Either a b m → Either a b more → Holds n carried more
+    carried-holds i j = holds-alike n put carried more (carry-calm put (roundOf rec) (timeoutsOf (bodyOf rec)) (A .round-high)) (W .formed)
+        (carry-alike put (roundOf rec) (timeoutsOf (bodyOf rec)) (A .round-high)) (vertex-holds i j)
+
     -- and follows the model after all commits
-    pub vertex-follows : Either a b m → Either a b more → Follows n (commitUpTo (raiseRound put) votedRounds) more
-    vertex-follows i j = commits votedRounds (raiseRound put) more j
-        (holds-alike n put (raiseRound put) more (raise-calm put) (formed-raise put put-formed) (raise-alike put) (vertex-holds i j)) (omega arith)
+    pub vertex-follows : Either a b m → Either a b more → Follows n (commitUpTo (raiseRound carried) votedRounds) more
+    vertex-follows i j = commits votedRounds (raiseRound carried) more j
+        (holds-alike n carried (raiseRound carried) more (raise-calm carried) (formed-raise carried (W .formed)) (raise-alike carried) (carried-holds i j))
+        (omega arith)
 
   -- ---- an admitted first message
 

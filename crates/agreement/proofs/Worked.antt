@@ -23,7 +23,7 @@ use Rattle.protocol.specs.Dag.{committed}
 use Rattle.protocol.specs.Paths.{path, historyUpTo}
 use Rattle.protocol.specs.Chain.{chain, walk}
 use Rattle.replica.specs.Layout.{stateSize, watcher}
-use Rattle.replica.specs.State.{currentRound, committedRound, leaderList, journalList, vertices, firsts, addMember}
+use Rattle.replica.specs.State.{currentRound, committedRound, leaderList, journalList, vertices, firsts, addMember, addMembers}
 use Rattle.replica.specs.Parents.{isParent, missing, parentsHeld}
 use Rattle.replica.specs.WellFormed.{wellFormed}
 use Rattle.replica.specs.Outcome.{Outcome, outcome}
@@ -33,7 +33,7 @@ use Rattle.replica.proofs.Formed.{WellFormed, well-formed}
 use Rattle.replica.proofs.Opened.{opened-formed}
 use Rattle.commits.specs.Commit.{passable, highestPassable, raiseRound, appendLeader, appendLeaders, enter, enterAll, orderLeader, orderLeaders}
 use Rattle.commits.specs.Commit.{committable}
-use Rattle.ordering.specs.Calls.{sameBody, putVertex, hear}
+use Rattle.ordering.specs.Calls.{sameBody, putVertex, carryTimeouts, hear}
 use Rattle.runs.specs.Call.{Call, opening, outcomeOf, Given, nothing, givenOf, run}
 use Rattle.runs.proofs.Asked.{four, open-yes, open-taken}
 use Rattle.runs.proofs.Short.{line, listed, byList, commitBy, shortCommits, shortVertex, shortFirst, shortNote, shortList, shortSpan, shortOf, shortGiven}
@@ -147,7 +147,7 @@ unfolding later rows computed shortAdmitted shortEnd shortSeen shortOf shortGive
     slotOk weakOk signerQuestions recordQuestions
     all any count select least committed path historyUpTo chain walk vertices firsts isParent missing parentsHeld passable
     highestPassable raiseRound appendLeader appendLeaders enter enterAll orderLeader orderLeaders line listed byList commitBy shortCommits
-    committable addMember sameBody putVertex hear ones onesIn
+    committable addMember addMembers sameBody putVertex carryTimeouts hear ones onesIn
 ends = refl
 
 -- what is seen after an opening with answer 0

@@ -1,4 +1,5 @@
--- Document 01's worked cases on four members, those marked *: one table of rows, and one claim about all of them.
+-- The worked cases on four members, those that document 01 marks * and those of document 02's requests: one table of rows, and one claim about all
+-- of them.
 use mathlib.Core.Path.{_≡_}
 use mathlib.Core.Bool.{Bool, true, _&&_}
 use mathlib.Core.List.{List, [], _∷_, _++_, List·Memᴰ}
@@ -104,6 +105,10 @@ fresh = opening 4 watcher ∷ []
 abbrev pub s : List Call
 s = opening 4 watcher ∷ v1 0 10 ∷ v1 1 11 ∷ v1 2 12 ∷ []
 
+-- round 1 from 1, 2, 3 only
+abbrev pub withoutLeader : List Call
+withoutLeader = opening 4 watcher ∷ v1 1 11 ∷ v1 2 12 ∷ v1 3 13 ∷ []
+
 -- ---- the table
 
 unfoldable pub rows : List Row
@@ -128,8 +133,8 @@ rows =
     ∷ row s (vt 2 1 14 7) 10 0 2 0 [] []
     -- Round 1 from 1, 2, 3 only: current round 1; timeout notes from 0 and 1: still 1; from 2: current round 2.
     ∷ row (fresh ++ v1 1 11 ∷ v1 2 12 ∷ []) (v1 3 13) 0 0 1 0 [] []
-    ∷ row (fresh ++ v1 1 11 ∷ v1 2 12 ∷ v1 3 13 ∷ timeout 1 0 ∷ []) (timeout 1 1) 0 0 1 0 [] []
-    ∷ row (fresh ++ v1 1 11 ∷ v1 2 12 ∷ v1 3 13 ∷ timeout 1 0 ∷ timeout 1 1 ∷ []) (timeout 1 2) 0 0 2 0 [] []
+    ∷ row (withoutLeader ++ timeout 1 0 ∷ []) (timeout 1 1) 0 0 1 0 [] []
+    ∷ row (withoutLeader ++ timeout 1 0 ∷ timeout 1 1 ∷ []) (timeout 1 2) 0 0 2 0 [] []
     -- S, vertices 2/0 and 2/1, strong 7: committed 0. Then 2/2, strong 7: committed 1.
     ∷ row (s ++ v 2 0 7 ∷ []) (v 2 1 7) 0 0 2 0 [] []
     ∷ row (s ++ v 2 0 7 ∷ v 2 1 7 ∷ []) (v 2 2 7) 0 0 3 1 (16 ∷ []) (16 ∷ [])
@@ -146,6 +151,13 @@ rows =
     ∷ giving fresh (handJournalList 0) 0 0 (part (span 0 journalAt 0) []) 1 0 [] []
     ∷ row fresh (askJournalList 1) 15 0 1 0 [] []
     ∷ giving fresh (handJournalList 1) 15 0 (part (span 15 0 0) []) 1 0 [] []
+    -- Request A2. Round 1 from 1, 2, 3 only, then vertex 2/0, strong 14, timeouts 7: current round 2 at once. Then timeout notes of round 1, from 0:
+    -- 12, from 3: 0; of round 2, from 0: 0. In place of 2/0, vertex 2/1, which lacks no-votes: 10, still round 1.
+    ∷ row withoutLeader (vt 2 0 14 7) 0 0 2 0 [] []
+    ∷ row (withoutLeader ++ vt 2 0 14 7 ∷ []) (timeout 1 0) 12 0 2 0 [] []
+    ∷ row (withoutLeader ++ vt 2 0 14 7 ∷ []) (timeout 1 3) 0 0 2 0 [] []
+    ∷ row (withoutLeader ++ vt 2 0 14 7 ∷ []) (timeout 2 0) 0 0 2 0 [] []
+    ∷ row withoutLeader (vt 2 1 14 7) 10 0 1 0 [] []
     ∷ []
 
 -- THE CLAIM: every row of the table passes.

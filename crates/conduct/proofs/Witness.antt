@@ -17,7 +17,7 @@ use Rattle.record.proofs.Booleans.{which, cond-true, cond-false}
 use Rattle.protocol.specs.Dag.{committed}
 use Rattle.protocol.specs.Paths.{path, historyUpTo}
 use Rattle.protocol.specs.Chain.{chain, walk}
-use Rattle.replica.specs.State.{vertices, firsts, addMember}
+use Rattle.replica.specs.State.{vertices, firsts, addMember, addMembers}
 use Rattle.replica.specs.Parents.{isParent, missing, parentsHeld}
 use Rattle.replica.specs.Outcome.{Outcome, outcome}
 use Rattle.replica.specs.Opening.{opened, openState}
@@ -25,7 +25,7 @@ use Rattle.replica.proofs.Formed.{WellFormed}
 use Rattle.replica.proofs.Opened.{opened-size, opened-formed}
 use Rattle.commits.specs.Commit.{passable, highestPassable, raiseRound, appendLeader, appendLeaders, enter, enterAll, orderLeader, orderLeaders}
 use Rattle.commits.specs.Commit.{committable}
-use Rattle.ordering.specs.Calls.{sameBody, putVertex}
+use Rattle.ordering.specs.Calls.{sameBody, putVertex, carryTimeouts}
 use Rattle.proposing.specs.Own.{marksRound, markRound}
 use Rattle.proposing.specs.Making.{parentsIn, madeStrong, madeTimeouts, madeNoVotes, isUnreached, madeRecord, makingQuestions, proposeVertex}
 use Rattle.proposing.specs.Signing.{signingRound, maySign, putOwnNoVote}
@@ -156,7 +156,7 @@ unfolding both shortRecords shortRounds shortRecord shortRound calls shortOf sho
     slotOk weakOk signerQuestions recordQuestions
     all any count select least committed path historyUpTo chain walk vertices firsts isParent missing parentsHeld passable
     highestPassable raiseRound appendLeader appendLeaders enter enterAll orderLeader orderLeaders line listed byList commitBy shortCommits
-    committable addMember sameBody putVertex ones onesIn
+    committable addMember addMembers sameBody putVertex carryTimeouts ones onesIn
     marksRound markRound parentsIn madeStrong madeTimeouts madeNoVotes isUnreached madeRecord makingQuestions maySign putOwnNoVote
 computed = refl
 

@@ -31,14 +31,15 @@ use Rattle.replica.proofs.Formed.{WellFormed, Leaders, Journal, Led, led-append
 use Rattle.replica.proofs.Dags.{held-id, in-mask}
 use Rattle.replica.proofs.Keeping.{Keeps, front-kept, masks-kept, cells-kept, held-kept, held-id-kept}
 use Rattle.commits.specs.Commit.{taken, commit, committable, lowest, commitUpTo, commitAll, raiseRound}
-use Rattle.ordering.specs.Calls.{putVertex, hear, takeBody, takeFirstBody, takeTimeout, takeNoVote, placeQuestions, vertexQuestions}
+use Rattle.ordering.specs.Calls.{hear, takeBody, takeFirstBody, takeTimeout, takeNoVote, vertexQuestions}
 use Rattle.ordering.specs.Calls.{firstQuestions, noteRefusal}
 use Rattle.ordering.specs.Kept.{LeavesWellFormed, KeepsWellFormed}
 use Rattle.commits.proofs.Ground.{room-limit}
 use Rattle.commits.proofs.Frames.{OffLists, off-front, off-own, off-mask, off-cells}
 use Rattle.commits.proofs.Growing.{Committed, grown, leaders-fit}
-use Rattle.ordering.proofs.Turns.{outcome-words, record-passed, parents-passed, note-passed}
-use Rattle.ordering.proofs.Marks.{formed-raise, formed-put, formed-hear, formed-note}
+use Rattle.ordering.proofs.Turns.{outcome-words, record-passed, note-passed}
+use Rattle.ordering.proofs.Marks.{formed-raise, formed-hear, formed-note}
+use Rattle.ordering.proofs.Carried.{written, vertex-written}
 
 -- ---- the leaders taken
 
@@ -177,11 +178,8 @@ leaves why l after S f = outcome-words (λ k. (length k ≡ stateSize) × (wellF
 module _ (l : List ℕ) (S : WellFormed l) where
   -- after an admitted vertex
   pub formed-vertex : (r p : ℕ) (body : List ℕ) → numberOf (firstNo (vertexQuestions l r p body)) ≡ 0
-      → WellFormed (commitAll (raiseRound (putVertex l r p body)))
-  formed-vertex r p body e =
-      let w = record-passed l r p body (placeQuestions l r p body) e in
-      formed-commits votedRounds (raiseRound (putVertex l r p body))
-      (formed-raise (putVertex l r p body) (formed-put l S r p body (w .2) (parents-passed l r p body (w .3))))
+      → WellFormed (commitAll (raiseRound (written l r p body)))
+  formed-vertex r p body e = formed-commits votedRounds _ (formed-raise _ (vertex-written l r p body e .formed))
 
   -- after an admitted first message
   pub formed-first : (r p : ℕ) (body : List ℕ) → numberOf (firstNo (firstQuestions l r p body)) ≡ 0 → WellFormed (commitAll (hear l r p body))

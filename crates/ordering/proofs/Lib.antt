@@ -3,8 +3,10 @@ pub mod Missing
 pub mod Turns
 pub mod Writing
 pub mod Marks
+pub mod Carried
 pub mod Kept
 pub mod Own
+pub mod Reached
 pub mod Counts
 pub mod Heard
 pub mod Taking

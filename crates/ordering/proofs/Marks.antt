@@ -5,6 +5,7 @@ use mathlib.Core.Logic.{_⊎_, inl, inr, ⊎-elim}
 use mathlib.Core.List.{List}
 use Prim.Native.Nat.{ℕ, zero, suc, _+_, _-_, _^_, _≤_, _<_}
 use native.Mathlib.Omega.{arith}
+use lib.Bits.{bitOr, or-lt}
 use lib.Dec.{eqb, ltb}
 use lib.ListN.{length, getD, set, length-set}
 use lib.Seq.{getD-set-same, getD-set-other, length-paste}
@@ -22,7 +23,7 @@ use Rattle.record.specs.Layout.{bodySize, weakSlots}
 use Rattle.replica.specs.Layout.{votesKind, timeoutsKind, noVotesKind, orderedKind, currentRoundAt}
 use Rattle.replica.specs.Layout.{masksAt, heldAt, heardAt, votesAt, timeoutsAt, noVotesAt, cellAt, kinds, memberCountAt, ownAt, madeAt}
 use Rattle.replica.specs.Layout.{signedAt, heardKind}
-use Rattle.replica.specs.State.{memberCount, currentRound, heldMask, heardMask, votesMask, cell, heldId, addMember}
+use Rattle.replica.specs.State.{memberCount, currentRound, heldMask, heardMask, votesMask, timeoutsMask, cell, heldId, addMember, addMembers}
 use Rattle.replica.specs.Parents.{parentsHeld}
 use Rattle.replica.proofs.Formed.{Front, Masks, Cells, WellFormed}
 use Rattle.replica.proofs.Keeping.{Keeps, keeps-set, keeps-part, parents-more, front-kept, cells-kept, held-kept, held-id-kept}
@@ -148,6 +149,23 @@ formed-notes l l′ p M S = record {
     held : (s : ℕ) → 1 ≤ s → s ≤ rounds → OffNotes (heldAt s)
     held s h k r i a b c d e = omega arith
 
+-- the votes are within heard
+abbrev VotesHeard : List ℕ → Type 0
+VotesHeard l = (s q : ℕ) → 1 ≤ s → s ≤ rounds → has (votesMask l s) q ≡ true → has (heardMask l s) q ≡ true
+
+-- where they are, and no word passes the bound of a mask, the masks are as they should be
+masks-low : (l l′ : List ℕ) → Masks l → ((j : ℕ) → getD l j 0 < 2 ^ memberCount l → getD l′ j 0 < 2 ^ memberCount l′)
+    → VotesHeard l′ → votesMask l′ 1 ≡ 0 → Masks l′
+masks-low l l′ M low f g = record {
+  held-low = λ s a b. low (heldAt s) (M .held-low s a b);
+  heard-low = λ s a b. low (heardAt s) (M .heard-low s a b);
+  votes-low = λ s a b. low (votesAt s) (M .votes-low s a b);
+  timeouts-low = λ s a b. low (timeoutsAt s) (M .timeouts-low s a b);
+  no-votes-low = λ s a b. low (noVotesAt s) (M .no-votes-low s a b);
+  votes-heard = f;
+  votes-first = g;
+}
+
 module _ (l : List ℕ) (S : WellFormed l) (r p : ℕ) (low : 1 ≤ r) (high : r ≤ rounds) (few : p < memberCount l) where
   module _ (i : ℕ) (from : 1 ≤ i) (to : i < weakSlots) where
     note-fits : masksAt r + i < length l
@@ -163,19 +181,8 @@ module _ (l : List ℕ) (S : WellFormed l) (r p : ℕ) (low : 1 ≤ r) (high : r
     note-low : (j : ℕ) → getD l j 0 < 2 ^ memberCount l → getD (addMember l (masksAt r + i) p) j 0 < 2 ^ memberCount (addMember l (masksAt r + i) p)
     note-low j h = rw note-members (add-low l (masksAt r + i) p note-fits (memberCount l) j few h)
 
-    -- where the votes are within heard, the masks are as they should be
-    note-masks : ((s q : ℕ) → 1 ≤ s → s ≤ rounds → has (votesMask (addMember l (masksAt r + i) p) s) q ≡ true
-        → has (heardMask (addMember l (masksAt r + i) p) s) q ≡ true)
-        → votesMask (addMember l (masksAt r + i) p) 1 ≡ 0 → Masks (addMember l (masksAt r + i) p)
-    note-masks f g = record {
-      held-low = λ s a b. note-low (heldAt s) (S .masks .held-low s a b);
-      heard-low = λ s a b. note-low (heardAt s) (S .masks .heard-low s a b);
-      votes-low = λ s a b. note-low (votesAt s) (S .masks .votes-low s a b);
-      timeouts-low = λ s a b. note-low (timeoutsAt s) (S .masks .timeouts-low s a b);
-      no-votes-low = λ s a b. note-low (noVotesAt s) (S .masks .no-votes-low s a b);
-      votes-heard = f;
-      votes-first = g;
-    }
+    note-masks : VotesHeard (addMember l (masksAt r + i) p) → votesMask (addMember l (masksAt r + i) p) 1 ≡ 0 → Masks (addMember l (masksAt r + i) p)
+    note-masks = masks-low l (addMember l (masksAt r + i) p) (S .masks) note-low
 
     -- a member in any of the four masks but votes
     pub formed-note : (i ≡ 2 → ⊥) → WellFormed (addMember l (masksAt r + i) p)
@@ -224,6 +231,33 @@ formed-hear l S r p body A = go (which (votes (memberCount l) (r - 1) body))
         rw e (formed-votes (addMember l (heardAt r) p) H r p (A .round-low) (A .round-high) (rw members (A .source-low)) (later e)
         (add-there l (heardAt r) p fits))
     go (inr e) = rw e H
+
+-- ---- a mask of members that joins the timeouts of a round
+
+module _ (l : List ℕ) (S : WellFormed l) (r m : ℕ) (low : 1 ≤ r) (high : r ≤ rounds) (small : m < 2 ^ memberCount l) where
+  pub joined-here : timeoutsMask (addMembers l (timeoutsAt r) m) r ≡ bitOr (timeoutsMask l r) m
+  unfolding addMembers
+  joined-here = getD-set-same l (timeoutsAt r) (bitOr (timeoutsMask l r) m) 0 (omega (arith, S .size))
+
+  joined-other : (j : ℕ) → (j ≡ timeoutsAt r → ⊥) → getD (addMembers l (timeoutsAt r) m) j 0 ≡ getD l j 0
+  unfolding addMembers
+  joined-other j h = getD-set-other l (timeoutsAt r) j (bitOr (timeoutsMask l r) m) 0 h
+
+  joined-low : (j : ℕ) → getD l j 0 < 2 ^ memberCount l → getD (addMembers l (timeoutsAt r) m) j 0 < 2 ^ memberCount (addMembers l (timeoutsAt r) m)
+  joined-low j h = rw (joined-other memberCountAt (λ e. omega arith)) (⊎-elim
+      (λ d. let e = eqb-true j (timeoutsAt r) d in rw e (rw joined-here (or-lt (memberCount l) (timeoutsMask l r) m (rw e at h) small)))
+      (λ d. rw (joined-other j (eqb-false j (timeoutsAt r) d)) h)
+      (which (eqb j (timeoutsAt r))))
+
+  pub formed-joined : WellFormed (addMembers l (timeoutsAt r) m)
+  formed-joined = formed-notes l (addMembers l (timeoutsAt r) m) keeps (masks-low l (addMembers l (timeoutsAt r) m) (S .masks) joined-low
+      (λ s q a b e. ap (λ (x : ℕ). has x q) (joined-other (heardAt s) (λ d. omega arith))
+      ∙ S .masks .votes-heard s q a b (rw (joined-other (votesAt s) (λ d. omega arith)) at e))
+      (joined-other (votesAt 1) (λ d. omega arith) ∙ S .masks .votes-first)) S
+    where
+      keeps : Keeps OffNotes l (addMembers l (timeoutsAt r) m)
+      keeps = unfold addMembers in
+          keeps-set OffNotes l (timeoutsAt r) (bitOr (timeoutsMask l r) m) (λ j k e. k r timeoutsKind low high (omega arith) (omega arith) e)
 
 -- ---- a vertex
 
@@ -287,7 +321,7 @@ module _ (l : List ℕ) (S : WellFormed l) (r p : ℕ) (body : List ℕ) (ok : n
   unfolding marked
   mask-word s a b = word (heldAt s) (λ c d. omega arith)
 
-  put-more : (s q : ℕ) → 1 ≤ s → s ≤ rounds → has (heldMask l s) q ≡ true → has (heldMask (putVertex l r p body) s) q ≡ true
+  pub put-more : (s q : ℕ) → 1 ≤ s → s ≤ rounds → has (heldMask l s) q ≡ true → has (heldMask (putVertex l r p body) s) q ≡ true
   put-more s q a b h = ap (λ (m : ℕ). has m q) (mask-word s a b) ∙ add-more l (heldAt r) p mark-fits (heldAt s) q h
 
   put-new : (s q : ℕ) → 1 ≤ s → s ≤ rounds → has (heldMask (putVertex l r p body) s) q ≡ true → (has (heldMask l s) q ≡ true) ⊎ ((s ≡ r) × (p ≡ q))

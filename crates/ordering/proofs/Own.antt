@@ -3,26 +3,28 @@ use mathlib.Core.Path.{_≡_}
 use mathlib.Core.Bool.{true, false}
 use mathlib.Core.Logic.{_⊎_, inl, inr}
 use mathlib.Core.List.{List}
-use Prim.Native.Nat.{ℕ, zero, suc, _+_, _≤_, _<_}
+use Prim.Native.Nat.{ℕ, zero, suc, _+_, _-_, _≤_, _<_}
 use native.Mathlib.Omega.{arith}
 use lib.Dec.{ltb}
 use lib.ListN.{getD}
 use borrow.Author.Tests.{ltb-true}
-use Rattle.record.specs.Members.{add, rounds, slots, votedRounds}
+use Rattle.record.specs.Members.{add, rounds, votedRounds}
 use Rattle.record.specs.Refusals.{numberOf, firstNo}
+use Rattle.record.specs.Layout.{timeoutsOf}
 use Rattle.record.proofs.Booleans.{which}
 use Rattle.record.proofs.Below.{least-sat}
-use Rattle.replica.specs.Layout.{masksAt, headSize, memberCountAt, currentRoundAt, ownAt, timeoutsKind, noVotesKind}
-use Rattle.replica.specs.State.{currentRound, addMember}
+use Rattle.replica.specs.Layout.{masksAt, headSize, memberCountAt, currentRoundAt, ownAt, timeoutsAt, timeoutsKind, noVotesKind}
+use Rattle.replica.specs.State.{currentRound, addMember, addMembers}
 use Rattle.replica.proofs.Formed.{WellFormed}
 use Rattle.replica.proofs.Keeping.{Keeps, keeps-refl, keeps-trans, keeps-less, keeps-set}
 use Rattle.commits.specs.Commit.{highestPassable, raiseRound, commit, committable, lowest, commitUpTo, commitAll}
 use Rattle.commits.proofs.Frames.{OffLists, off-front, off-own}
 use Rattle.commits.proofs.Growing.{grown}
-use Rattle.ordering.specs.Calls.{putVertex, hear, placeQuestions, vertexQuestions, firstQuestions, takeBody, takeFirstBody, takeTimeout, takeNoVote}
-use Rattle.ordering.proofs.Turns.{outcome-words, record-passed, parents-passed}
-use Rattle.ordering.proofs.Writing.{put-head, put-calm, hear-head, hear-calm}
-use Rattle.ordering.proofs.Marks.{formed-raise, formed-put, formed-hear}
+use Rattle.ordering.specs.Calls.{putVertex, carryTimeouts, hear, vertexQuestions, firstQuestions, takeBody, takeFirstBody, takeTimeout, takeNoVote}
+use Rattle.ordering.proofs.Turns.{outcome-words, record-passed}
+use Rattle.ordering.proofs.Writing.{put-head, hear-head, hear-calm}
+use Rattle.ordering.proofs.Marks.{formed-raise, formed-hear}
+use Rattle.ordering.proofs.Carried.{carry-as, written, vertex-written}
 use Rattle.ordering.proofs.Kept.{committable-round, formed-commit}
 
 -- word j of the head is neither the current round nor one that commits write
@@ -56,40 +58,46 @@ pub fixed-note : (l : List ℕ) (r i p : ℕ) → Keeps Fixed l (addMember l (ma
 unfolding addMember
 fixed-note l r i p = keeps-set Fixed l (masksAt r + i) (add (getD l (masksAt r + i) 0) p) (λ j k e. omega (arith, k .head))
 
--- all commits
-fixed-commits : (k : ℕ) (l : List ℕ) → WellFormed l → Keeps Fixed l (commitUpTo l k)
+-- the timeout mask of a vertex
+fixed-carried : (l : List ℕ) (r m : ℕ) → Keeps Fixed l (carryTimeouts l r m)
+unfolding addMembers
+fixed-carried l r m = carry-as l r m (Keeps Fixed l) (keeps-refl Fixed l)
+    (λ h. keeps-set Fixed l (timeoutsAt (r - 1)) _ (λ j k e. omega (arith, k .head)))
+
+-- all commits: the lists, their counts, the committed round and the ordered masks
+pub commits-keep : (k : ℕ) (l : List ℕ) → WellFormed l → Keeps OffLists l (commitUpTo l k)
 unfolding commitUpTo
-fixed-commits zero l S = keeps-refl Fixed l
-fixed-commits (suc k) l S = go (which (ltb (lowest l) rounds)) (fixed-commits k (commit l (lowest l)))
+commits-keep zero l S = keeps-refl OffLists l
+commits-keep (suc k) l S = go (which (ltb (lowest l) rounds)) (commits-keep k (commit l (lowest l)))
   where
     go : (ltb (lowest l) rounds ≡ true) ⊎ (ltb (lowest l) rounds ≡ false)
-        → (WellFormed (commit l (lowest l)) → Keeps Fixed (commit l (lowest l)) (commitUpTo (commit l (lowest l)) k)) → Keeps Fixed l (commitUpTo l (suc k))
+        → (WellFormed (commit l (lowest l)) → Keeps OffLists (commit l (lowest l)) (commitUpTo (commit l (lowest l)) k))
+        → Keeps OffLists l (commitUpTo l (suc k))
     go (inl e) ih =
         let w = committable-round l (lowest l) (least-sat rounds (committable l) (ltb-true _ _ e)) in
-        rw e (keeps-trans Fixed l (commit l (lowest l)) (commitUpTo (commit l (lowest l)) k)
-        (keeps-less OffLists Fixed l (commit l (lowest l)) (λ j k. k .off-lists) (grown l S (lowest l) (w .0) (w .1) (w .3) .kept))
+        rw e (keeps-trans OffLists l (commit l (lowest l)) (commitUpTo (commit l (lowest l)) k)
+        (grown l S (lowest l) (w .0) (w .1) (w .3) .kept)
         (ih (formed-commit l S (lowest l) (w .0) (w .1) (w .3))))
-    go (inr e) ih = rw e (keeps-refl Fixed l)
+    go (inr e) ih = rw e (keeps-refl OffLists l)
+
+fixed-commits : (k : ℕ) (l : List ℕ) → WellFormed l → Keeps Fixed l (commitUpTo l k)
+fixed-commits k l S = keeps-less OffLists Fixed l (commitUpTo l k) (λ j h. h .off-lists) (commits-keep k l S)
 
 -- ---- the calls
 
 module _ (l : List ℕ) (S : WellFormed l) where
   -- an admitted vertex
   fixed-vertex : (r p : ℕ) (body : List ℕ) → numberOf (firstNo (vertexQuestions l r p body)) ≡ 0
-      → Keeps Fixed l (commitAll (raiseRound (putVertex l r p body)))
+      → Keeps Fixed l (commitAll (raiseRound (written l r p body)))
   fixed-vertex r p body e =
-      let w = record-passed l r p body (placeQuestions l r p body) e in
-      let A = w .1 in
-      let few : p < slots = omega (arith, A .source-low, S .front .high) in
-      let put = putVertex l r p body in
-      let T = formed-put l S r p body (w .2) (parents-passed l r p body (w .3)) in
-      keeps-trans Fixed l put (commitAll (raiseRound put))
-      (record {
-        size = put-calm l r p body (S .size) (A .round-low) (A .round-high) few (A .size) .size;
-        same = λ j k. put-head l r p body (S .size) (A .round-low) (A .round-high) few (A .size) j (k .head);
-      })
-      (keeps-trans Fixed put (raiseRound put) (commitAll (raiseRound put)) (fixed-raise put)
-      (fixed-commits votedRounds (raiseRound put) (formed-raise put T)))
+      let w = vertex-written l r p body e in
+      let A = w .admit in
+      let after = written l r p body in
+      keeps-trans Fixed l (putVertex l r p body) (commitAll (raiseRound after))
+      (record { size = w .put-calm .size; same = λ j k. put-head l r p body (S .size) (A .round-low) (A .round-high) (w .few) (A .size) j (k .head) })
+      (keeps-trans Fixed (putVertex l r p body) after (commitAll (raiseRound after)) (fixed-carried (putVertex l r p body) r (timeoutsOf body))
+      (keeps-trans Fixed after (raiseRound after) (commitAll (raiseRound after)) (fixed-raise after)
+      (fixed-commits votedRounds (raiseRound after) (formed-raise after (w .formed)))))
 
   -- an admitted first message
   fixed-first : (r p : ℕ) (body : List ℕ) → numberOf (firstNo (firstQuestions l r p body)) ≡ 0 → Keeps Fixed l (commitAll (hear l r p body))

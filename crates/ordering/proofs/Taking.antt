@@ -7,8 +7,8 @@ use native.Mathlib.Omega.{arith}
 use lib.ListN.{length, take, drop, getD, length-drop}
 use lib.Seq.{take-all, getD-drop}
 use Rattle.record.specs.Refusals.{numberOf, firstNo}
-use Rattle.record.specs.Layout.{roundOf, sourceOf, bodyOf, strongOf, recordSize, bodySize, bodyPlace, strongPlace}
-use Rattle.record.specs.Questions.{bodyRefusal}
+use Rattle.record.specs.Layout.{roundOf, sourceOf, bodyOf, strongOf, timeoutsOf, recordSize, bodySize, bodyPlace, strongPlace}
+use Rattle.record.specs.Layout.{timeoutsPlace}
 use Rattle.record.specs.Admitted.{Admitted}
 use Rattle.record.specs.declared.refusal.Refusal.{Refusal}
 use Rattle.record.specs.Members.{rounds, slots}
@@ -19,13 +19,14 @@ use Rattle.replica.specs.Outcome.{Outcome, told, nothingAdded, admitted}
 use Rattle.replica.specs.declared.answer.Answer.{Answer}
 use Rattle.replica.proofs.Formed.{WellFormed, well-formed}
 use Rattle.commits.specs.Commit.{raiseRound, commitAll}
-use Rattle.ordering.specs.Calls.{placeQuestions, vertexQuestions, putVertex, takeBody, takeVertex, firstQuestions, hear}
+use Rattle.ordering.specs.Calls.{vertexQuestions, putVertex, carryTimeouts, takeBody, takeVertex, firstQuestions, hear}
 use Rattle.ordering.specs.Calls.{takeFirstBody, takeFirstMessage, noteRefusal, takeNote, takeTimeout}
-use Rattle.ordering.proofs.Turns.{outcome-zero, outcome-refused, outcome-admitted, record-passed, parents-passed, note-passed}
+use Rattle.ordering.proofs.Turns.{outcome-zero, outcome-refused, outcome-admitted, record-passed, note-passed}
 use Rattle.ordering.proofs.Heard.{hear-body}
 use Rattle.ordering.proofs.Counts.{same-growth, no-growth}
-use Rattle.ordering.proofs.Writing.{Calm, calm-then, raise-calm, put-calm, hear-calm, note-calm}
-use Rattle.ordering.proofs.Marks.{formed-put, formed-raise, formed-hear}
+use Rattle.ordering.proofs.Writing.{Calm, calm-then, raise-calm, hear-calm, note-calm}
+use Rattle.ordering.proofs.Marks.{formed-raise, formed-hear}
+use Rattle.ordering.proofs.Carried.{written, VertexWritten, vertex-written}
 
 -- an answer with a refusal, where the words stay
 told-refused : (l : List ℕ) (a : Answer) (why : Refusal) → a ≡ nothingAdded why → told a l ≡ told (nothingAdded why) l
@@ -56,6 +57,13 @@ ready n l S e = record { size = S .size; formed = well-formed l S; members = e; 
 
 -- ---- a vertex
 
+-- the words m once the vertex is put in its place, and r after its timeout mask and the round rule, as the code reads its record
+abbrev Put : List ℕ → List ℕ → List ℕ → Type 0
+Put l rec m = m ≡ putVertex l (roundOf rec) (sourceOf rec) (take bodySize (drop bodyPlace rec))
+
+abbrev Advanced : List ℕ → List ℕ → List ℕ → Type 0
+Advanced rec m r = r ≡ raiseRound (carryTimeouts m (roundOf rec) (getD rec (bodyPlace + timeoutsPlace) 0))
+
 -- what each later step may use of a vertex that no question stopped
 pub record VertexTaken (l rec : List ℕ) : Type 0 where
   pub formed : WellFormed l
@@ -63,10 +71,9 @@ pub record VertexTaken (l rec : List ℕ) : Type 0 where
   pub long : length rec ≡ recordSize
   pub few : sourceOf rec < slots
   pub part : length (take bodySize (drop bodyPlace rec)) ≡ bodySize
-  pub put : (m : List ℕ) → m ≡ putVertex l (roundOf rec) (sourceOf rec) (take bodySize (drop bodyPlace rec)) → Ready (memberCount l) m
-  pub raised : (m r : List ℕ) → m ≡ putVertex l (roundOf rec) (sourceOf rec) (take bodySize (drop bodyPlace rec)) → r ≡ raiseRound m → Ready (memberCount l) r
-  pub done : (m r : List ℕ) (o : Outcome) → m ≡ putVertex l (roundOf rec) (sourceOf rec) (take bodySize (drop bodyPlace rec)) → r ≡ raiseRound m
-      → o ≡ admitted r (commitAll r) → o ≡ takeVertex l rec
+  pub put : (m : List ℕ) → Put l rec m → Ready (memberCount l) m
+  pub advanced : (m r : List ℕ) → Put l rec m → Advanced rec m r → Ready (memberCount l) r
+  pub done : (m r : List ℕ) (o : Outcome) → Put l rec m → Advanced rec m r → o ≡ admitted r (commitAll r) → o ≡ takeVertex l rec
 
 module _ (l rec : List ℕ) (why : Refusal) (e : why ≡ firstNo (vertexQuestions l (roundOf rec) (sourceOf rec) (bodyOf rec))) where
   pub vertex-refused : (numberOf why ≡ 0 → ⊥) → (a : Answer) → a ≡ nothingAdded why → told a l ≡ takeVertex l rec
@@ -74,42 +81,36 @@ module _ (l rec : List ℕ) (why : Refusal) (e : why ≡ firstNo (vertexQuestion
   vertex-refused h a d = told-refused l a why d ∙ outcome-refused why _ l _ e h
 
   module _ (h : numberOf why ≡ 0) where
-    passed : WellFormed l × Admitted (memberCount l) (roundOf rec) (sourceOf rec) (bodyOf rec)
-        × (numberOf (bodyRefusal (memberCount l) (roundOf rec) (sourceOf rec) (bodyOf rec)) ≡ 0)
-        × (numberOf (firstNo (placeQuestions l (roundOf rec) (sourceOf rec) (bodyOf rec))) ≡ 0)
-    passed = record-passed l (roundOf rec) (sourceOf rec) (bodyOf rec) (placeQuestions l (roundOf rec) (sourceOf rec) (bodyOf rec)) (sym (ap numberOf e) ∙ h)
+    passed : VertexWritten l (roundOf rec) (sourceOf rec) (bodyOf rec)
+    passed = vertex-written l (roundOf rec) (sourceOf rec) (bodyOf rec) (sym (ap numberOf e) ∙ h)
 
-    few : sourceOf rec < slots
-    few = omega (arith, passed .1 .source-low, passed .0 .front .high)
+    abbrev after : List ℕ
+    after = written l (roundOf rec) (sourceOf rec) (bodyOf rec)
 
+    -- the code's reads of the record
     whole : take bodySize (drop bodyPlace rec) ≡ bodyOf rec
-    whole = take-all bodySize (drop bodyPlace rec) (omega (arith, passed .1 .size))
+    whole = take-all bodySize (drop bodyPlace rec) (omega (arith, passed .admit .size))
 
-    calm : Calm l (putVertex l (roundOf rec) (sourceOf rec) (bodyOf rec))
-    calm = put-calm l (roundOf rec) (sourceOf rec) (bodyOf rec) (passed .0 .size) (passed .1 .round-low) (passed .1 .round-high) few (passed .1 .size)
+    mask : getD rec (bodyPlace + timeoutsPlace) 0 ≡ timeoutsOf (bodyOf rec)
+    mask = unfold timeoutsOf in sym (getD-drop bodyPlace rec timeoutsPlace 0)
 
-    put-formed : WellFormed (putVertex l (roundOf rec) (sourceOf rec) (bodyOf rec))
-    put-formed = formed-put l (passed .0) (roundOf rec) (sourceOf rec) (bodyOf rec) (passed .2) (parents-passed l (roundOf rec) (sourceOf rec)
-        (bodyOf rec) (passed .3))
+    calm-raised : Calm l (raiseRound after)
+    calm-raised = calm-then (passed .calm) (raise-calm after)
 
-    calm-raised : Calm l (raiseRound (putVertex l (roundOf rec) (sourceOf rec) (bodyOf rec)))
-    calm-raised = calm-then calm (raise-calm _)
-
-    done : takeVertex l rec ≡ admitted (raiseRound (putVertex l (roundOf rec) (sourceOf rec) (bodyOf rec)))
-        (commitAll (raiseRound (putVertex l (roundOf rec) (sourceOf rec) (bodyOf rec))))
+    done : takeVertex l rec ≡ admitted (raiseRound after) (commitAll (raiseRound after))
     unfolding takeBody
     done = sym (calm-growth calm-raised _ ∙ outcome-admitted why _ l _ e h)
 
     pub vertex-taken : VertexTaken l rec
     vertex-taken = record {
-      formed = passed .0;
-      admit = passed .1;
-      long = omega (arith, passed .1 .size, length-drop bodyPlace rec);
-      few = few;
-      part = rw whole (passed .1 .size);
-      put = λ m d. rw (d, whole) (ready _ _ put-formed (calm-count calm));
-      raised = λ m r d f. rw (f, d, whole) (ready _ _ (formed-raise _ put-formed) (calm-count calm-raised));
-      done = λ m r o d f g. g ∙ rw (f, d, whole) (sym done);
+      formed = passed .first;
+      admit = passed .admit;
+      long = omega (arith, passed .admit .size, length-drop bodyPlace rec);
+      few = passed .few;
+      part = rw whole (passed .admit .size);
+      put = λ m d. rw (d, whole) (ready _ _ (passed .put) (calm-count (passed .put-calm)));
+      advanced = λ m r d f. rw (f, mask, d, whole) (ready _ _ (formed-raise after (passed .formed)) (calm-count calm-raised));
+      done = λ m r o d f g. g ∙ rw (f, mask, d, whole) (sym done);
     }
 
 -- ---- a first message

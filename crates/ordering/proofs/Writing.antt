@@ -35,7 +35,7 @@ pub record Calm (l m : List ℕ) : Type 0 where
   pub lists : (j : ℕ) → leadersAt ≤ j → j < cellsAt → getD m j 0 ≡ getD l j 0
 
 -- nothing changed
-calm-self : (l : List ℕ) → Calm l l
+pub calm-self : (l : List ℕ) → Calm l l
 calm-self l = record { size = refl; head = λ j a b. refl; lists = λ j a b. refl }
 
 -- one change after another
@@ -63,7 +63,7 @@ calm-spare l i x s = record {
     apart (suc (suc (suc (suc (suc j))))) a b e = absurd (omega arith)
 
 -- a word of the masks
-calm-mask : (l : List ℕ) (i x : ℕ) → headSize ≤ i → i < leadersAt → Calm l (set l i x)
+pub calm-mask : (l : List ℕ) (i x : ℕ) → headSize ≤ i → i < leadersAt → Calm l (set l i x)
 calm-mask l i x low high = record {
   size = length-set l i x;
   head = λ j a b. getD-set-other l i j x 0 (λ e. omega arith);

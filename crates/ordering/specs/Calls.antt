@@ -2,19 +2,19 @@
 use mathlib.Core.Bool.{Bool, cond, not, _&&_}
 use mathlib.Core.List.{List, [], _∷_, _++_}
 use Prim.Native.Nat.{ℕ, _+_, _-_}
-use lib.Dec.{eqb}
+use lib.Dec.{eqb, ltb}
 use lib.ListN.{getD}
 use lib.Seq.{paste}
 use Rattle.record.specs.Below.{all, least}
 use Rattle.record.specs.Members.{has, idLimit}
 use Rattle.record.specs.Refusals.{Question, firstNo}
-use Rattle.record.specs.Layout.{bodySize, roundOf, sourceOf, bodyOf}
+use Rattle.record.specs.Layout.{bodySize, roundOf, sourceOf, bodyOf, timeoutsOf}
 use Rattle.record.specs.Questions.{signerQuestions, recordQuestions}
 use Rattle.record.specs.declared.refusal.Refusal.{Refusal}
 use Rattle.record.specs.declared.refusal.Refusal.the-variants.{Duplicate, Conflict, MissingParent}
 use Rattle.protocol.specs.Dag.{votes}
 use Rattle.replica.specs.Layout.{heldAt, heardAt, votesAt, timeoutsAt, cellAt, timeoutsKind, noVotesKind, maskAt}
-use Rattle.replica.specs.State.{memberCount, heldMask, heardMask, addMember, maskOf}
+use Rattle.replica.specs.State.{memberCount, heldMask, heardMask, addMember, addMembers, maskOf}
 use Rattle.replica.specs.Parents.{missing, parentsHeld}
 use Rattle.replica.specs.Outcome.{Outcome, outcome}
 use Rattle.replica.specs.Status.{stateQuestions}
@@ -45,8 +45,14 @@ vertexRefusal l rec = firstNo (vertexQuestions l (roundOf rec) (sourceOf rec) (b
 unfoldable pub putVertex : List ℕ → ℕ → ℕ → List ℕ → List ℕ
 putVertex l r p body = paste (addMember l (heldAt r) p) (cellAt r p) body bodySize
 
+-- the timeout mask of a vertex of round r joins the timeouts of the round before; before round 1 there is none
+unfoldable pub carryTimeouts : List ℕ → ℕ → ℕ → List ℕ
+carryTimeouts l r mask = cond (ltb 1 r) (addMembers l (timeoutsAt (r - 1)) mask) l
+
+-- it is put in its place, its timeout mask counts, and then come the round rule and the commits
 unfoldable pub takeBody : List ℕ → ℕ → ℕ → List ℕ → Outcome
-takeBody l r p body = outcome (firstNo (vertexQuestions l r p body)) l (commitAll (raiseRound (putVertex l r p body)))
+takeBody l r p body =
+    outcome (firstNo (vertexQuestions l r p body)) l (commitAll (raiseRound (carryTimeouts (putVertex l r p body) r (timeoutsOf body))))
 
 abbrev pub takeVertex : List ℕ → List ℕ → Outcome
 takeVertex l rec = takeBody l (roundOf rec) (sourceOf rec) (bodyOf rec)

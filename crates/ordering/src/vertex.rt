@@ -6,8 +6,10 @@ ghost use Rattle.record.specs.Refusals.{firstNo};
 ghost use Rattle.record.specs.Members.{rounds, slots};
 ghost use Rattle.record.specs.Layout.{bodySize};
 ghost use Rattle.replica.specs.Layout.{stateSize};
+ghost use Rattle.replica.specs.State.{memberCount};
 ghost use Rattle.replica.specs.Outcome.{told};
-ghost use Rattle.ordering.specs.Calls.{sameBody, placeQuestions, vertexRefusal, putVertex, takeVertex};
+ghost use Rattle.commits.specs.Commit.{raiseRound};
+ghost use Rattle.ordering.specs.Calls.{sameBody, placeQuestions, vertexRefusal, putVertex, carryTimeouts, takeVertex};
 ghost use Rattle.ordering.specs.Inner.{Placing};
 use super::search::NONE;
 use super::search::first_missing;
@@ -18,6 +20,7 @@ use record::layout::BODY_SIZE;
 use record::layout::RECORD_SIZE;
 use record::layout::ROUND;
 use record::layout::SOURCE;
+use record::layout::TIMEOUTS as RECORD_TIMEOUTS;
 use record::members::has_bit;
 use record::questions::check;
 use record::refusal::Refusal;
@@ -26,9 +29,11 @@ use replica::answer::Answer;
 use replica::answer::refuse;
 use replica::layout::HELD;
 use replica::layout::MEMBER_COUNT;
+use replica::layout::TIMEOUTS;
 use replica::layout::cell_at;
 use replica::layout::masks_at;
 use replica::masks::add_member;
+use replica::masks::add_members;
 use replica::masks::mask_of;
 use replica::status::check_state;
 
@@ -70,6 +75,27 @@ fn put_vertex(state: &mut [u32], round: u32, member: u32, body: &[u32])
     let at = cell_at(round, member);
     let end = at + BODY_SIZE;
     write_body(&mut state[at..end], body);
+}
+
+// The timeout mask of a vertex joins the timeouts of the round before; before round 1 there is none.
+fn carry_timeouts(state: &mut [u32], round: u32, mask: u32)
+    requires { ⌜ (length (now state) ≡ stateSize) × (1 ≤ round) × (round ≤ rounds) ⌝ }
+    ensures { λ _. ⌜ now (state .exit) ≡ carryTimeouts (now (state .entry)) round mask ⌝ }
+{
+    if round < 2 {
+        return;
+    }
+    let at = masks_at(round - 1) + TIMEOUTS;
+    add_members(state, at, mask);
+}
+
+// The timeout mask of a vertex counts, and then the round rule.
+fn advance(state: &mut [u32], n: u32, round: u32, mask: u32)
+    requires { ⌜ (length (now state) ≡ stateSize) × (n ≡ memberCount (now state)) × (0 < n) × (1 ≤ round) × (round ≤ rounds) ⌝ }
+    ensures { λ _. ⌜ now (state .exit) ≡ raiseRound (carryTimeouts (now (state .entry)) round mask) ⌝ }
+{
+    carry_timeouts(state, round, mask);
+    raise_round(state, n);
 }
 
 // Questions 12 to 14, of a vertex that the record's questions admit.
@@ -116,6 +142,6 @@ pub fn take_vertex(state: &mut [u32], rec: &[u32]) -> Answer
     }
     let n = state[MEMBER_COUNT];
     put_vertex(state, rec[ROUND], rec[SOURCE], &rec[BODY..RECORD_SIZE]);
-    raise_round(state, n);
+    advance(state, n, rec[ROUND], rec[BODY + RECORD_TIMEOUTS]);
     settle(state, n)
 }

@@ -2,6 +2,7 @@
 use mathlib.Core.Bool.{Bool, cond, _&&_}
 use mathlib.Core.List.{List, [], _∷_}
 use Prim.Native.Nat.{ℕ, _+_, _-_, _^_}
+use lib.Bits.{bitOr}
 use lib.ListN.{getD, set, take, drop}
 use Rattle.record.specs.Members.{leader, has, add, idRound, idMember, isRound}
 use Rattle.record.specs.Layout.{bodySize}
@@ -61,6 +62,10 @@ orderedMask l = maskOf l orderedKind
 -- the words with member p added to the mask in the word at
 unfoldable pub addMember : List ℕ → ℕ → ℕ → List ℕ
 addMember l at p = set l at (add (getD l at 0) p)
+
+-- and with the members of the mask m
+unfoldable pub addMembers : List ℕ → ℕ → ℕ → List ℕ
+addMembers l at m = set l at (bitOr (getD l at 0) m)
 
 -- the lists' words, and the lists
 abbrev pub leaderWord : List ℕ → ℕ → ℕ

@@ -3,7 +3,7 @@ ghost use mathlib.Core.Path.{_≡_};
 ghost use Prim.Native.Nat.{_<_, _≤_};
 ghost use lib.ListN.{length};
 ghost use Rattle.replica.specs.Layout.{stateSize, kinds};
-ghost use Rattle.replica.specs.State.{maskOf, addMember, markedId};
+ghost use Rattle.replica.specs.State.{maskOf, addMember, addMembers, markedId};
 ghost use Rattle.record.specs.Members.{rounds};
 use super::layout::MEMBER_COUNT;
 use super::layout::is_id;
@@ -43,4 +43,12 @@ pub fn add_member(state: &mut [u32], at: usize, p: u32)
     };
     let more = members.with(p);
     state[at] = more.bits;
+}
+
+// The members of a mask are added to the mask in the word.
+pub fn add_members(state: &mut [u32], at: usize, mask: u32)
+    requires { ⌜ at < length (now state) ⌝ }
+    ensures { λ _. ⌜ now (state .exit) ≡ addMembers (now (state .entry)) at mask ⌝ }
+{
+    state[at] |= mask;
 }

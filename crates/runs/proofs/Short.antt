@@ -33,7 +33,8 @@ use Rattle.replica.specs.declared.answer.Status.{Status}
 use Rattle.replica.proofs.Formed.{WellFormed, formed, well-formed}
 use Rattle.replica.proofs.Opened.{opened-formed}
 use Rattle.commits.specs.Commit.{raiseRound, appendLeaders, orderLeaders, commit, lowest, commitUpTo}
-use Rattle.ordering.specs.Calls.{placeQuestions, putVertex, takeBody, hear, takeFirstBody, takeTimeout, takeNoVote}
+use Rattle.ordering.specs.Calls.{placeQuestions, takeBody, hear, takeFirstBody, takeTimeout, takeNoVote}
+use Rattle.ordering.proofs.Carried.{written}
 use Rattle.ordering.proofs.Kept.{keeps}
 use Rattle.proposing.specs.Own.{isMember, markRound}
 use Rattle.proposing.specs.Making.{makingQuestions, madeRecord, noRecord, proposeVertex}
@@ -134,7 +135,7 @@ shortSigning l = firstNo ((isMember l, Watcher) ∷ signingQuestions l)
 -- the outcomes
 unfoldable pub shortOf : Call → List ℕ → Outcome
 shortOf (opening n own) l = outcome (firstNo ((legal n, MemberCount) ∷ (leb own n, Source) ∷ [])) l (opened n own)
-shortOf (vertex rec) l = outcome (shortVertex l rec) l (shortCommits (raiseRound (putVertex l (roundOf rec) (sourceOf rec) (bodyOf rec))) 31)
+shortOf (vertex rec) l = outcome (shortVertex l rec) l (shortCommits (raiseRound (written l (roundOf rec) (sourceOf rec) (bodyOf rec))) 31)
 shortOf (firstMessage rec) l = outcome (shortFirst l rec) l (shortCommits (hear l (roundOf rec) (sourceOf rec) (bodyOf rec)) 31)
 shortOf (timeout r p) l = outcome (shortNote l r p (timeoutsMask l r)) l (raiseRound (addMember l (timeoutsAt r) p))
 shortOf (noVote r p) l = outcome (shortNote l r p (noVotesMask l r)) l (addMember l (noVotesAt r) p)

@@ -18,6 +18,9 @@ pub struct Options {
     /// That a replica never gets a first message, timeout or no-vote; of made records alone, a
     /// first message.
     pub lost_messages: u32,
+    /// That a replica never gets anybody's timeout for a round: vertices that carry the certificate
+    /// are then all that ends the round for it.
+    pub lost_timeouts: u32,
     /// That a replica never gets a vertex, in a thousand; what builds on it is then refused.
     pub lost_vertices: u32,
     /// How far messages are delayed, in hundredths of a round.
@@ -46,6 +49,7 @@ impl Options {
             slow: 0,
             missed: 3,
             lost_messages: 10,
+            lost_timeouts: 0,
             lost_vertices: 0,
             spread: 80,
             eager: 10,
@@ -64,6 +68,7 @@ impl Options {
             slow: 10,
             missed: 6,
             lost_messages: 20,
+            lost_timeouts: 40,
             spread: 150,
             eager: 40,
             noise: 20,
@@ -79,6 +84,7 @@ impl Options {
             slow: 30,
             missed: 15,
             lost_messages: 50,
+            lost_timeouts: 60,
             lost_vertices: 2,
             spread: 400,
             noise: 50,

@@ -64,6 +64,8 @@ struct Network<'a> {
     /// The members that leave out vertices, and the ids of these.
     silent: u32,
     left_out: BTreeSet<u32>,
+    /// By round from 1, the members that get nobody else's timeout.
+    cut_off: Vec<u32>,
     replicas: Vec<Member>,
     queue: BTreeMap<Key, (u32, Event)>,
     planned: usize,
@@ -75,6 +77,7 @@ impl<'a> Network<'a> {
         let silent = rng.top_up(0, group.all(), options.faulty.min(group.f()));
         let mut network = Network {
             left_out: draw_left_out(&mut rng, group, silent, options),
+            cut_off: draw_cut_off(&mut rng, group, silent, options),
             replicas: (0..group.n()).map(|own| Member::new(group, own)).collect(),
             rng,
             group,
@@ -190,7 +193,8 @@ impl<'a> Network<'a> {
         }
         if !has(member.mask(round, TIMEOUTS), own) {
             member.give(Call::Timeout(round, own));
-            self.tell_others(own, &Call::Timeout(round, own));
+            let reached = self.group.all() & !self.cut_off[round as usize - 1];
+            self.tell(reached & !bit(own), &Call::Timeout(round, own));
             self.enter(own);
         }
     }
@@ -211,7 +215,7 @@ impl<'a> Network<'a> {
             return;
         }
         if member.give(Call::SignNoVote) == 0 {
-            self.tell_others(own, &Call::NoVote(round - 1, own));
+            self.tell(group.all() & !bit(own), &Call::NoVote(round - 1, own));
         }
     }
 
@@ -261,8 +265,9 @@ impl<'a> Network<'a> {
         1 + u32::from(self.rng.percent(REPEATED))
     }
 
-    fn tell_others(&mut self, own: u32, call: &Call) {
-        for to in members(self.group.all() & !bit(own)) {
+    /// A timeout or no-vote to some members.
+    fn tell(&mut self, mask: u32, call: &Call) {
+        for to in members(mask) {
             self.send(to, call.clone(), 0);
         }
     }
@@ -310,6 +315,20 @@ fn draw_left_out(rng: &mut Rng, group: Group, silent: u32, options: &Options) ->
         }
     }
     left_out
+}
+
+/// For each round, the members that its timeouts do not reach: none in the last round, since no
+/// vertex carries its certificate. One member is never among them. It makes a vertex in the next
+/// round and does not lead that round, so it waits for no no-votes, and brings the others the
+/// certificate.
+fn draw_cut_off(rng: &mut Rng, group: Group, silent: u32, options: &Options) -> Vec<u32> {
+    let mut cut_off = vec![0; LAST_ROUND as usize];
+    for round in 1..options.rounds.min(LAST_ROUND) {
+        let next_leader = bit(group.leader(round + 1));
+        let kept = rng.top_up(0, group.all() & !silent & !next_leader, 1);
+        cut_off[round as usize - 1] = rng.subset(group.all() & !kept, options.lost_timeouts, 0);
+    }
+    cut_off
 }
 
 /// A member's state and the calls made on it.

@@ -51,6 +51,9 @@ fn draw_messages(rng: &mut Rng, world: &World, options: &Options) -> Messages {
             draw_first_message(rng, world, options, (round, member), &mut messages);
             draw_notes(rng, world, options, (round, member), &mut messages);
         }
+        if rng.percent(options.lost_timeouts) {
+            messages.retain(|(_, call)| !matches!(call, Call::Timeout(of, _) if *of == round));
+        }
     }
     messages
 }

@@ -2,6 +2,7 @@
 //!
 //! States of every size and kind are lent, each with damaged words, and asked by every call.
 
+mod carried;
 pub mod damage;
 mod states;
 mod worked;
@@ -40,6 +41,7 @@ pub fn commands() -> Vec<Command> {
     list.openings();
     list.random_states();
     list.worked();
+    list.carried();
     list.record_lengths();
     list.notes();
     for n in LEGAL_SIZES {
@@ -131,6 +133,17 @@ impl Commands {
             self.fresh(n, 0);
             self.run(&[]);
             self.list.push(Command::AskJournal(1));
+        }
+    }
+
+    /// Carried timeout certificates, admitted and refused.
+    fn carried(&mut self) {
+        for row in carried::rows() {
+            self.fresh(row.n, 0);
+            self.run(&row.calls);
+            let set = |&(at, word): &(usize, u32)| Command::Set(at as u32, word);
+            self.list.extend(row.words.iter().map(set));
+            self.run(&row.next);
         }
     }
 

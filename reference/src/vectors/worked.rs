@@ -4,12 +4,17 @@ use crate::call::Call;
 use crate::record::Record;
 
 /// A vertex without weak ids.
-fn vertex(round: u32, source: u32, masks: [u32; 3]) -> Call {
+pub fn vertex(round: u32, source: u32, masks: [u32; 3]) -> Call {
     Call::Vertex(record(round, source, masks).words().to_vec())
 }
 
-fn first(round: u32, source: u32, masks: [u32; 3]) -> Call {
+pub fn first(round: u32, source: u32, masks: [u32; 3]) -> Call {
     Call::First(record(round, source, masks).words().to_vec())
+}
+
+pub fn with_weak(round: u32, source: u32, masks: [u32; 3], ids: &[u32]) -> Call {
+    let record = record(round, source, masks).with_weak(ids);
+    Call::Vertex(record.words().to_vec())
 }
 
 /// The record of a vertex as a first message.
@@ -128,11 +133,8 @@ fn weak_ids() -> Vec<Vec<Call>> {
         vertex(2, 2, [7, 0, 0]),
     ];
     let third = |ids: &[u32]| {
-        let mut record = record(3, 0, [7, 0, 0]);
-        record.weak_count = ids.len() as u32;
-        record.weak[..ids.len()].copy_from_slice(ids);
-        let words = record.words().to_vec();
-        [Call::Vertex(words.clone()), Call::First(words)]
+        let call = with_weak(3, 0, [7, 0, 0], ids);
+        [call.clone(), as_first(&call)]
     };
     [&[19][..], &[18, 19], &[20], &[32]]
         .into_iter()

@@ -37,25 +37,32 @@ part-put-vertex-end c = let k = known (search) in search needs
 put-vertex-requires : tie.Need-put-vertex-requires
 put-vertex-requires c κs = let k = known (search) in search needs
 
-raise-round-requires : tie.Need-raise-round-requires
-raise-round-requires c κs =
+shared-slice-read-advance : tie.Need-shared-slice-read-advance
+shared-slice-read-advance c = let k = known (search) in search needs
+
+shared-slice-read-advance-2 : tie.Need-shared-slice-read-advance-2
+shared-slice-read-advance-2 c = let k = known (search) in search needs
+
+advance-requires : tie.Need-advance-requires
+advance-requires c κs =
     let p : tie.After-put-vertex = search in
-    let ready = known (search) .put _ (p .put-vertex .ensures) in
+    let k = known (search) in
+    let ready = k .put _ (p .put-vertex .ensures) in
     search needs
 
 settle-requires : tie.Need-settle-requires
 settle-requires c κs =
     let p : tie.After-put-vertex = search in
-    let r : tie.After-raise-round = search in
-    let ready = known (search) .raised _ _ (p .put-vertex .ensures) (r .raise-round .ensures) in
+    let a : tie.After-advance = search in
+    let ready = known (search) .advanced _ _ (p .put-vertex .ensures) (a .advance .ensures) in
     search needs
 
 returns-2 : tie.Need-returns-2
 returns-2 c =
     let p : tie.After-put-vertex = search in
-    let r : tie.After-raise-round = search in
+    let a : tie.After-advance = search in
     let s : tie.After-settle = search in
-    known (search) .done _ _ _ (p .put-vertex .ensures) (r .raise-round .ensures) (s .settle .ensures)
+    known (search) .done _ _ _ (p .put-vertex .ensures) (a .advance .ensures) (s .settle .ensures)
 
 pub take-vertex-spec : {M : Type 1} → statement M
 take-vertex-spec =
@@ -73,7 +80,11 @@ take-vertex-spec =
     (search needs)
     part-put-vertex-end
     put-vertex-requires
-    raise-round-requires
+    shared-slice-read-advance
+    (search needs)
+    (search needs)
+    shared-slice-read-advance-2
+    advance-requires
     settle-requires
     (search needs)
     returns-2)

@@ -30,8 +30,8 @@ fn main() -> ExitCode {
         return ExitCode::FAILURE;
     }
     let unseen = tally.unseen();
-    for (call, number) in &unseen {
-        eprintln!("NEVER SEEN: {call} with {number}; seed {seed}, count {count}");
+    for what in &unseen {
+        eprintln!("NEVER SEEN: {what}; seed {seed}, count {count}");
     }
     if unseen.is_empty() {
         ExitCode::SUCCESS

@@ -7,7 +7,7 @@ use crate::failure::{Failure, Found, Step};
 use crate::op::{Op, Reply};
 use crate::pair::Pair;
 use crate::tally::Tally;
-use reference::layout::{LAST_ROUND, LEGAL_SIZES};
+use reference::layout::{CURRENT_ROUND, LAST_ROUND, LEGAL_SIZES};
 use reference::model::Lists;
 use reference::rng::Rng;
 use reference::simulate::{simulate, simulate_proposing, Options, Run};
@@ -258,11 +258,13 @@ impl<'a> Replica<'a> {
     /// Makes the calls, each followed by some beside it, and by both of our own if that is asked.
     fn follow(&mut self, session: &mut Session, proposes: bool) -> Outcome<()> {
         for call in self.calls {
+            let round = self.pair.words()[CURRENT_ROUND];
             let reply = self.on_state(session, Op::Change(call.clone()))?;
             self.model.feed(call, reply[0]);
             self.made.push(call.clone());
             if reply[0] == 0 {
-                session.tally.admitted(call, reply[2]);
+                let rounds = [round, self.pair.words()[CURRENT_ROUND]];
+                session.tally.admitted(call, reply[2], rounds);
             }
             if reply[2] > 0 {
                 self.lists(session)?;

@@ -3,6 +3,7 @@
 use std::fmt::{self, Display, Formatter};
 
 use crate::op::{record_of, Op, Reply, NAMES};
+use reference::layout::{mask_place, COMMITTED_ROUND, HELD, LAST_ROUND, LEADER_COUNT, N};
 use reference::record::Record;
 use reference::Call;
 
@@ -38,9 +39,12 @@ pub struct Tally {
     /// Calls that committed, and those of them that added several leaders.
     pub commits: u64,
     pub several_leaders: u64,
-    /// Admitted vertices with a no-vote certificate, and with weak ids.
+    /// Admitted vertices with a timeout certificate, with a no-vote certificate, and with weak ids.
+    pub timeout_certificates: u64,
     pub no_vote_certificates: u64,
     pub weak: u64,
+    /// Rounds that a vertex's certificate ended, and no notes before it.
+    pub ended_by_certificates: u64,
     /// Records made anywhere, those of them with a no-vote certificate, and with weak ids.
     pub made: u64,
     pub made_with_no_votes: u64,
@@ -70,36 +74,83 @@ impl Tally {
         }
     }
 
-    /// Notes what an admitted call of a group's own brought.
-    pub fn admitted(&mut self, call: &Call, leaders: u32) {
+    /// Notes what an admitted call of a group's own brought: how many leaders, and the current round
+    /// before and after it. Without its certificate a vertex ends no round but its own.
+    pub fn admitted(&mut self, call: &Call, leaders: u32, [before, after]: [u32; 2]) {
         self.commits += u64::from(leaders > 0);
         self.several_leaders += u64::from(leaders > 1);
-        if let Call::Vertex(record) = call {
-            self.no_vote_certificates += u64::from(record[4] != 0);
-            self.weak += u64::from(record[6] != 0);
+        if let Call::Vertex(words) = call {
+            let record = Record::from_words(words).expect("an admitted record has its size");
+            self.timeout_certificates += u64::from(record.timeouts != 0);
+            self.no_vote_certificates += u64::from(record.no_votes != 0);
+            self.weak += u64::from(record.weak_count != 0);
+            self.ended_by_certificates += u64::from(before < after && after == record.round);
         }
     }
 
     /// Notes a replica's last state: a well formed one.
     pub fn ended(&mut self, state: &[u32]) {
-        let held: u32 = (0..32).map(|round| state[8 + 6 * round].count_ones()).sum();
-        let full = held == 32 * state[0];
+        let held = |round| state[mask_place(round, HELD)].count_ones();
+        let full = (1..=LAST_ROUND).all(|round| held(round) == state[N]);
         self.replicas += 1;
         self.full += u64::from(full);
-        self.full_of_16 += u64::from(full && state[0] == 16);
-        self.committed += u64::from(state[2]);
-        self.skipped += u64::from(state[2] - state[3]);
+        self.full_of_16 += u64::from(full && state[N] == 16);
+        self.committed += u64::from(state[COMMITTED_ROUND]);
+        self.skipped += u64::from(state[COMMITTED_ROUND] - state[LEADER_COUNT]);
     }
 
-    /// Calls with a number that they can answer and never did.
-    pub fn unseen(&self) -> Vec<(&'static str, u32)> {
+    /// What a long run must have seen and this one has not: calls with a number that they can
+    /// answer, and rounds ended by a carried certificate.
+    pub fn unseen(&self) -> Vec<String> {
         let missing = |row: usize| {
             let numbers = POSSIBLE[row].iter().copied();
             numbers.filter(move |&number| self.seen[row][number as usize] == 0)
         };
-        (0..NAMES.len())
-            .flat_map(|row| missing(row).map(move |number| (NAMES[row], number)))
+        let numbers = (0..NAMES.len()).flat_map(|row| {
+            missing(row).map(move |number| format!("{} with {number}", NAMES[row]))
+        });
+        let none_ended = self.ended_by_certificates == 0;
+        numbers
+            .chain(none_ended.then(|| String::from("a round ended by a carried certificate")))
             .collect()
+    }
+
+    /// What the groups did, line by line.
+    fn counts(&self) -> [(&'static str, u64); 20] {
+        [
+            ("calls compared", self.calls),
+            ("groups", self.groups),
+            ("replicas", self.replicas),
+            ("rounds committed", self.committed),
+            ("of these without a leader", self.skipped),
+            ("calls that committed", self.commits),
+            ("of these with several leaders", self.several_leaders),
+            (
+                "vertices with a timeout certificate",
+                self.timeout_certificates,
+            ),
+            (
+                "rounds ended by a carried certificate",
+                self.ended_by_certificates,
+            ),
+            (
+                "vertices with a no-vote certificate",
+                self.no_vote_certificates,
+            ),
+            ("vertices with weak ids", self.weak),
+            ("records made", self.made),
+            (
+                "of these with a no-vote certificate",
+                self.made_with_no_votes,
+            ),
+            ("of these with weak ids", self.made_with_weak),
+            ("damaged states", self.damaged),
+            ("of these still well formed", self.still_well_formed),
+            ("full states", self.full),
+            ("of these with 16 members", self.full_of_16),
+            ("lists compared with the model's", self.models),
+            ("pairs of replicas compared", self.pairs),
+        ]
     }
 
     fn write_row(&self, out: &mut Formatter, row: usize) -> fmt::Result {
@@ -122,33 +173,7 @@ impl Display for Tally {
         (0..NUMBERS).try_for_each(|number| write!(out, " {number:7}"))?;
         writeln!(out)?;
         (0..NAMES.len()).try_for_each(|row| self.write_row(out, row))?;
-        let lines = [
-            ("calls compared", self.calls),
-            ("groups", self.groups),
-            ("replicas", self.replicas),
-            ("rounds committed", self.committed),
-            ("of these without a leader", self.skipped),
-            ("calls that committed", self.commits),
-            ("of these with several leaders", self.several_leaders),
-            (
-                "vertices with a no-vote certificate",
-                self.no_vote_certificates,
-            ),
-            ("vertices with weak ids", self.weak),
-            ("records made", self.made),
-            (
-                "of these with a no-vote certificate",
-                self.made_with_no_votes,
-            ),
-            ("of these with weak ids", self.made_with_weak),
-            ("damaged states", self.damaged),
-            ("of these still well formed", self.still_well_formed),
-            ("full states", self.full),
-            ("of these with 16 members", self.full_of_16),
-            ("lists compared with the model's", self.models),
-            ("pairs of replicas compared", self.pairs),
-        ];
-        lines
+        self.counts()
             .iter()
             .try_for_each(|(name, count)| writeln!(out, "{name}: {count}"))
     }

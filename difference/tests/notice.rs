@@ -8,10 +8,12 @@ use difference::proved::Proved;
 use difference::report::report;
 use difference::run::{run, Plan};
 use difference::shrink::{fewest, shrink};
+use reference::layout::{mask_place, CURRENT_ROUND, LAST_ROUND, RECORD_WORDS, TIMEOUTS};
 use reference::simulate::{simulate, Options};
 use reference::Call;
 
-const COUNT: u64 = 20_000;
+/// Enough for some groups beyond the calm ones, which come first.
+const COUNT: u64 = 40_000;
 
 fn plan(seed: u64) -> Plan {
     Plan {
@@ -218,6 +220,74 @@ fn a_wrong_order_of_questions_is_noticed() {
     for engine in [few_parents_first, round_first, signed_first] {
         assert!(run(&engine, plan(1)).1.is_some());
     }
+}
+
+/// The second implementation with a fault in taking vertices of round 2 and above. The fault gets
+/// the words before the call, those after it, the record and the number.
+struct Careless(fn(&[u32], &mut [u32], &[u32], u32));
+
+impl Engine for Careless {
+    fn perform(&self, state: &mut [u32], op: &Op) -> Reply {
+        let before = state.to_vec();
+        let reply = Second.perform(state, op);
+        if let Op::Change(Call::Vertex(record)) = op {
+            let round = record.first().copied().unwrap_or(0);
+            if record.len() == RECORD_WORDS && (2..=LAST_ROUND).contains(&round) {
+                (self.0)(&before, state, record, reply[0]);
+            }
+        }
+        reply
+    }
+}
+
+fn timeouts(round: u32) -> usize {
+    mask_place(round, TIMEOUTS)
+}
+
+#[test]
+fn a_certificate_that_counts_otherwise_is_noticed() {
+    let not_at_all = Careless(|before, state, record, number| {
+        if number == 0 {
+            let at = timeouts(record[0] - 1);
+            state[at] = before[at];
+        }
+    });
+    let before_the_last_question = Careless(|_, state, record, number| {
+        if (12..=14).contains(&number) {
+            state[timeouts(record[0] - 1)] |= record[3];
+        }
+    });
+    let in_its_own_round = Careless(|before, state, record, number| {
+        if number == 0 {
+            let at = timeouts(record[0] - 1);
+            state[at] = before[at];
+            state[timeouts(record[0])] |= record[3];
+        }
+    });
+    let after_the_round_rule = Careless(|before, state, record, number| {
+        if number == 0 && state[CURRENT_ROUND] == record[0] {
+            state[CURRENT_ROUND] = before[CURRENT_ROUND];
+        }
+    });
+    for engine in [
+        not_at_all,
+        before_the_last_question,
+        in_its_own_round,
+        after_the_round_rule,
+    ] {
+        assert!(run(&engine, plan(1)).1.is_some());
+    }
+}
+
+#[test]
+fn a_run_without_carried_certificates_is_not_enough() {
+    let what = "a round ended by a carried certificate";
+    let unseen = |rounds| {
+        let plan = Plan { rounds, ..plan(1) };
+        run(&Second, plan).0.unseen()
+    };
+    assert!(!unseen(None).iter().any(|unseen| unseen == what));
+    assert!(unseen(Some(1)).iter().any(|unseen| unseen == what));
 }
 
 #[test]

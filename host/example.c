@@ -1,6 +1,7 @@
-// Runs three groups of four members. A watcher follows the first two and prints what sheetlog prints for the same calls: for a
-// call its number and the status, and at the end the leader list and the journal. The third is run by its four members, which
+// Runs four groups of four members. A watcher follows the first three and prints what sheetlog prints for the same calls: for a
+// call its number and the status, and at the end the leader list and the journal. The fourth is run by its four members, which
 // propose and sign: it prints what they send, as lines of sheetlog's input, and at the end each member's lists.
+#include <stdbool.h>
 #include <stdio.h>
 #include <stdlib.h>
 
@@ -34,12 +35,13 @@ typedef struct {
 } record;
 
 // A record without weak parents.
-static record record_of(uint32_t round, uint32_t source, uint32_t strong, uint32_t timeouts, uint32_t tag) {
+static record record_of(uint32_t round, uint32_t source, uint32_t strong, uint32_t timeouts, uint32_t no_votes, uint32_t tag) {
     return (record){{
         [YARDBOOK_RECORD_ROUND] = round,
         [YARDBOOK_RECORD_SOURCE] = source,
         [YARDBOOK_RECORD_STRONG] = strong,
         [YARDBOOK_RECORD_TIMEOUTS] = timeouts,
+        [YARDBOOK_RECORD_NO_VOTES] = no_votes,
         [YARDBOOK_RECORD_TAG] = tag,
     }};
 }
@@ -52,11 +54,49 @@ static void first_message(record r) {
     print_answer(yardbook_take_first_message(state, YARDBOOK_STATE_WORDS, r.words, YARDBOOK_RECORD_WORDS));
 }
 
-static void open_group(void) {
+static void timeout(uint32_t round, uint32_t signer) {
+    print_answer(yardbook_take_timeout(state, YARDBOOK_STATE_WORDS, round, signer));
+}
+
+// Opens the group and takes three vertices of round 1, from member `first` on.
+static void open_group(uint32_t first) {
     print_answer(yardbook_open(state, YARDBOOK_STATE_WORDS, members, 0));
-    vertex(record_of(1, 0, 0, 0, 10));
-    vertex(record_of(1, 1, 0, 0, 11));
-    vertex(record_of(1, 2, 0, 0, 12));
+    for (uint32_t p = first; p < first + 3; p++) vertex(record_of(1, p, 0, 0, 0, 10 + p));
+}
+
+// A quorum of first messages commits round 1.
+static void watch_sample(void) {
+    open_group(0);
+    first_message(record_of(2, 0, 7, 0, 0, 20));
+    first_message(record_of(2, 1, 7, 0, 0, 21));
+    first_message(record_of(2, 3, 7, 0, 0, 23));
+    print_lists(state);
+}
+
+// Round 1's leader has two votes, one short of a quorum. First messages of round 3 commit round 2's leader, and a strong path
+// leads from it to round 1's, which is taken too.
+static void watch_two_leaders(void) {
+    open_group(0);
+    vertex(record_of(1, 3, 0, 0, 0, 13));
+    vertex(record_of(2, 0, 7, 0, 0, 20));
+    vertex(record_of(2, 1, 7, 0, 0, 21));
+    vertex(record_of(2, 3, 14, 7, 0, 23));
+    for (uint32_t source = 0; source < 3; source++) first_message(record_of(3, source, 11, 0, 0, 30 + source));
+    print_lists(state);
+}
+
+// Round 1 lacks its leader's vertex, and no timeout arrives. The first vertex of round 2 carries the timeout certificate of
+// members 0, 1 and 2, and with it the watcher is in round 2. Member 0's own timeout, when it comes, is known already. Round 2's
+// leader carries a no-vote certificate too, and vertices of round 3 commit it.
+static void watch_carried(void) {
+    open_group(1);
+    vertex(record_of(2, 0, 14, 7, 0, 20));
+    timeout(1, 0);
+    vertex(record_of(2, 2, 14, 7, 0, 22));
+    vertex(record_of(2, 3, 14, 7, 0, 23));
+    vertex(record_of(2, 1, 14, 7, 14, 21));
+    for (uint32_t source = 0; source < 3; source++) vertex(record_of(3, source, 15, 0, 0, 30 + source));
+    print_lists(state);
 }
 
 // For calls that nothing can refuse here.
@@ -64,6 +104,17 @@ static void must(yardbook_answer answer) {
     if (answer.number == YARDBOOK_OK) return;
     fprintf(stderr, "refused: %u\n", answer.number);
     exit(1);
+}
+
+// For what nothing can make false here.
+static void must_hold(bool holds, const char *what) {
+    if (holds) return;
+    fprintf(stderr, "not so: %s\n", what);
+    exit(1);
+}
+
+static uint32_t current_round(uint32_t member) {
+    return yardbook_status(states[member], YARDBOOK_STATE_WORDS).current_round;
 }
 
 // The member's record for its current round, not yet sent.
@@ -82,10 +133,14 @@ static void send_record(yardbook_proposal made) {
     }
 }
 
+// Whether a timeout or no-vote arrives. The others' are lost on their way to member 1.
+static bool arrives(uint32_t signer, uint32_t member) { return member != 1 || signer == 1; }
+
 // The signer's timer for the round has run out.
 static void send_timeout(uint32_t round, uint32_t signer) {
     printf("T %u %u\n", round, signer);
-    for (uint32_t p = 0; p < members; p++) must(yardbook_take_timeout(states[p], YARDBOOK_STATE_WORDS, round, signer));
+    for (uint32_t p = 0; p < members; p++)
+        if (arrives(signer, p)) must(yardbook_take_timeout(states[p], YARDBOOK_STATE_WORDS, round, signer));
 }
 
 // Signs against the leader of the round, the one before the signer's current round. Signing has set the signer's own bit.
@@ -93,50 +148,70 @@ static void send_no_vote(uint32_t round, uint32_t signer) {
     must(yardbook_sign_no_vote(states[signer], YARDBOOK_STATE_WORDS));
     printf("N %u %u\n", round, signer);
     for (uint32_t p = 0; p < members; p++)
-        if (p != signer) must(yardbook_take_no_vote(states[p], YARDBOOK_STATE_WORDS, round, signer));
+        if (p != signer && arrives(signer, p)) must(yardbook_take_no_vote(states[p], YARDBOOK_STATE_WORDS, round, signer));
 }
 
-// Six rounds of made records. Round 3's leader, member 2, is silent in its round. The others time out and sign no-votes, and round 4
-// goes on without it: its leader's record carries both certificates. Member 2's record comes a round late, and those of round 5
-// name it as a weak parent.
-static void run_members(void) {
+// Member 1 has no timeout for round 3 but its own and is still in it. It has made that round's record and can make no other.
+static void check_left_behind(void) {
+    for (uint32_t p = 0; p < members; p++) must_hold(current_round(p) == (p == 1 ? 3 : 4), "all but member 1 are in round 4");
+    const yardbook_proposal none = yardbook_propose(states[1], YARDBOOK_STATE_WORDS, 41);
+    must_hold(none.answer.number == YARDBOOK_REFUSED_DUPLICATE, "member 1 can make no record for round 4");
+}
+
+// A round of everyone's records. All are made before the first is sent: the leader's and two others end the round.
+static void run_round(uint32_t round) {
+    yardbook_proposal made[members];
+    for (uint32_t p = 0; p < members; p++) made[p] = propose(p, 10 * round + p);
+    for (uint32_t p = 0; p < members; p++) send_record(made[p]);
+}
+
+// Round 3 without its leader's record, which is returned. The others time out. Members 0 and 3 get all three timeouts and sign
+// no-votes.
+static yardbook_proposal run_round_3(void) {
     static const uint32_t others[] = {0, 1, 3};
-    for (uint32_t p = 0; p < members; p++) must(yardbook_open(states[p], YARDBOOK_STATE_WORDS, members, p + 1));
-    yardbook_proposal late = {0};
-    for (uint32_t round = 1; round <= 6; round++) {
-        yardbook_proposal made[members];
-        for (uint32_t p = 0; p < members; p++) made[p] = propose(p, 10 * round + p);
-        for (uint32_t p = 0; p < members; p++) {
-            if (round == 3 && p == 2) late = made[p];
-            else send_record(made[p]);
-        }
-        if (round == 3) {
-            for (int i = 0; i < 3; i++) send_timeout(round, others[i]);
-            for (int i = 0; i < 3; i++) send_no_vote(round, others[i]);
-        }
-        if (round == 4) send_record(late);
+    const yardbook_proposal late = propose(2, 32);
+    for (int i = 0; i < 3; i++) send_record(propose(others[i], 30 + others[i]));
+    for (int i = 0; i < 3; i++) send_timeout(3, others[i]);
+    send_no_vote(3, 0);
+    send_no_vote(3, 3);
+    return late;
+}
+
+// Round 4. Member 0's record carries the timeout certificate. Taking it, member 1 comes into the round, signs the third no-vote
+// and goes on like the others. The leader, member 3, is last, so the round does not end before all have made their records.
+static void run_round_4(void) {
+    check_left_behind();
+    const yardbook_proposal first = propose(0, 40);
+    send_record(first);
+    must_hold(current_round(1) == 4, "the first vertex of round 4 brings member 1 into it");
+    send_no_vote(3, 1);
+    for (uint32_t p = 1; p < members; p++) {
+        const yardbook_proposal made = propose(p, 40 + p);
+        must_hold(made.record[YARDBOOK_RECORD_TIMEOUTS] == first.record[YARDBOOK_RECORD_TIMEOUTS],
+                  "all of round 4 carry the certificate");
+        send_record(made);
     }
+}
+
+// Six rounds of made records. Round 3's leader, member 2, is silent in its round. Round 4 goes on without it: its leader's record
+// carries both certificates, and member 1, which has lost the timeouts, catches up. Member 2's record comes a round late, and those
+// of round 5 name it as a weak parent.
+static void run_members(void) {
+    for (uint32_t p = 0; p < members; p++) must(yardbook_open(states[p], YARDBOOK_STATE_WORDS, members, p + 1));
+    run_round(1);
+    run_round(2);
+    const yardbook_proposal late = run_round_3();
+    run_round_4();
+    send_record(late);
+    run_round(5);
+    run_round(6);
     for (uint32_t p = 0; p < members; p++) print_lists(states[p]);
 }
 
 int main(void) {
-    // A quorum of first messages commits round 1.
-    open_group();
-    first_message(record_of(2, 0, 7, 0, 20));
-    first_message(record_of(2, 1, 7, 0, 21));
-    first_message(record_of(2, 3, 7, 0, 23));
-    print_lists(state);
-
-    // Round 1's leader has two votes, one short of a quorum. First messages of round 3 commit round 2's leader, and a strong path
-    // leads from it to round 1's, which is taken too.
-    open_group();
-    vertex(record_of(1, 3, 0, 0, 13));
-    vertex(record_of(2, 0, 7, 0, 20));
-    vertex(record_of(2, 1, 7, 0, 21));
-    vertex(record_of(2, 3, 14, 7, 23));
-    for (uint32_t source = 0; source < 3; source++) first_message(record_of(3, source, 11, 0, 30 + source));
-    print_lists(state);
-
+    watch_sample();
+    watch_two_leaders();
+    watch_carried();
     run_members();
     return 0;
 }

@@ -1,5 +1,5 @@
-// Runs three groups of four members. A watcher follows the first two and prints what sheetlog prints for the same calls: for a
-// call its number and the status, and at the end the leader list and the journal. The third is run by its four members, which
+// Runs four groups of four members. A watcher follows the first three and prints what sheetlog prints for the same calls: for a
+// call its number and the status, and at the end the leader list and the journal. The fourth is run by its four members, which
 // propose and sign: it prints what they send, as lines of sheetlog's input, and at the end each member's lists.
 #include <array>
 #include <cstdio>
@@ -24,12 +24,23 @@ void print_lists(const yardbook::State& state) {
     print('J', yardbook::hand_journal(state, 0).ids);
 }
 
+// A record without weak parents.
+yardbook::Record record(std::uint32_t round, std::uint32_t source, std::uint32_t strong, std::uint32_t timeouts,
+                        std::uint32_t no_votes, std::uint32_t tag) {
+    return {round, source, strong, timeouts, no_votes, tag};
+}
+
 class Watched {
 public:
-    Watched() { print_answer(yardbook::open(state_, members, 0)); }
+    // Opens the group and takes three vertices of round 1, from member `first` on.
+    explicit Watched(std::uint32_t first) {
+        print_answer(yardbook::open(state_, members, 0));
+        for (std::uint32_t p = first; p < first + 3; ++p) vertex(record(1, p, 0, 0, 0, 10 + p));
+    }
 
-    void vertex(const yardbook::Record& record) { print_answer(yardbook::take_vertex(state_, record)); }
-    void first_message(const yardbook::Record& record) { print_answer(yardbook::take_first_message(state_, record)); }
+    void vertex(const yardbook::Record& r) { print_answer(yardbook::take_vertex(state_, r)); }
+    void first_message(const yardbook::Record& r) { print_answer(yardbook::take_first_message(state_, r)); }
+    void timeout(std::uint32_t round, std::uint32_t signer) { print_answer(yardbook::take_timeout(state_, round, signer)); }
     void print_lists() const { ::print_lists(state_); }
 
 private:
@@ -42,18 +53,37 @@ private:
     yardbook::State state_{};
 };
 
-// A record without weak parents.
-yardbook::Record record(std::uint32_t round, std::uint32_t source, std::uint32_t strong, std::uint32_t timeouts,
-                        std::uint32_t tag) {
-    return {round, source, strong, timeouts, 0, tag};
+// A quorum of first messages commits round 1.
+void watch_sample() {
+    Watched group(0);
+    for (const std::uint32_t source : {0u, 1u, 3u}) group.first_message(record(2, source, 7, 0, 0, 20 + source));
+    group.print_lists();
 }
 
-Watched opened() {
-    Watched group;
-    group.vertex(record(1, 0, 0, 0, 10));
-    group.vertex(record(1, 1, 0, 0, 11));
-    group.vertex(record(1, 2, 0, 0, 12));
-    return group;
+// Round 1's leader has two votes, one short of a quorum. First messages of round 3 commit round 2's leader, and a strong path
+// leads from it to round 1's, which is taken too.
+void watch_two_leaders() {
+    Watched group(0);
+    group.vertex(record(1, 3, 0, 0, 0, 13));
+    group.vertex(record(2, 0, 7, 0, 0, 20));
+    group.vertex(record(2, 1, 7, 0, 0, 21));
+    group.vertex(record(2, 3, 14, 7, 0, 23));
+    for (const std::uint32_t source : {0u, 1u, 2u}) group.first_message(record(3, source, 11, 0, 0, 30 + source));
+    group.print_lists();
+}
+
+// Round 1 lacks its leader's vertex, and no timeout arrives. The first vertex of round 2 carries the timeout certificate of
+// members 0, 1 and 2, and with it the watcher is in round 2. Member 0's own timeout, when it comes, is known already. Round 2's
+// leader carries a no-vote certificate too, and vertices of round 3 commit it.
+void watch_carried() {
+    Watched group(1);
+    group.vertex(record(2, 0, 14, 7, 0, 20));
+    group.timeout(1, 0);
+    group.vertex(record(2, 2, 14, 7, 0, 22));
+    group.vertex(record(2, 3, 14, 7, 0, 23));
+    group.vertex(record(2, 1, 14, 7, 14, 21));
+    for (const std::uint32_t source : {0u, 1u, 2u}) group.vertex(record(3, source, 15, 0, 0, 30 + source));
+    group.print_lists();
 }
 
 // For calls that nothing can refuse here.
@@ -63,11 +93,23 @@ void must(const yardbook::Answer& answer) {
     std::exit(1);
 }
 
+// For what nothing can make false here.
+void must_hold(bool holds, const char* what) {
+    if (holds) return;
+    std::fprintf(stderr, "not so: %s\n", what);
+    std::exit(1);
+}
+
+// Whether a timeout or no-vote arrives. The others' are lost on their way to member 1.
+bool arrives(std::uint32_t signer, std::uint32_t member) { return member != 1 || signer == 1; }
+
 class Members {
 public:
     Members() {
         for (std::uint32_t p = 0; p < members; ++p) must(yardbook::open(states_[p], members, p + 1));
     }
+
+    std::uint32_t current_round(std::uint32_t member) const { return yardbook::status(states_[member]).current_round; }
 
     // The member's record for its current round, not yet sent.
     yardbook::Record propose(std::uint32_t member, std::uint32_t tag) {
@@ -88,7 +130,8 @@ public:
     // The signer's timer for the round has run out.
     void send_timeout(std::uint32_t round, std::uint32_t signer) {
         std::printf("T %u %u\n", round, signer);
-        for (yardbook::State& state : states_) must(yardbook::take_timeout(state, round, signer));
+        for (std::uint32_t p = 0; p < members; ++p)
+            if (arrives(signer, p)) must(yardbook::take_timeout(states_[p], round, signer));
     }
 
     // Signs against the leader of the round, the one before the signer's current round. Signing has set the signer's own bit.
@@ -96,7 +139,15 @@ public:
         must(yardbook::sign_no_vote(states_[signer]));
         std::printf("N %u %u\n", round, signer);
         for (std::uint32_t p = 0; p < members; ++p)
-            if (p != signer) must(yardbook::take_no_vote(states_[p], round, signer));
+            if (p != signer && arrives(signer, p)) must(yardbook::take_no_vote(states_[p], round, signer));
+    }
+
+    // Member 1 has no timeout for round 3 but its own and is still in it. It has made that round's record and can make no other.
+    void check_left_behind() {
+        for (std::uint32_t p = 0; p < members; ++p)
+            must_hold(current_round(p) == (p == 1 ? 3 : 4), "all but member 1 are in round 4");
+        const yardbook::Proposal none = yardbook::propose(states_[1], 41);
+        must_hold(none.answer.number == yardbook::Number::duplicate, "member 1 can make no record for round 4");
     }
 
     void print_lists() const {
@@ -107,46 +158,60 @@ private:
     std::array<yardbook::State, members> states_{};
 };
 
-// Six rounds of made records. Round 3's leader, member 2, is silent in its round. The others time out and sign no-votes, and round 4
-// goes on without it: its leader's record carries both certificates. Member 2's record comes a round late, and those of round 5
-// name it as a weak parent.
+// A round of everyone's records. All are made before the first is sent: the leader's and two others end the round.
+void run_round(Members& group, std::uint32_t round) {
+    std::array<yardbook::Record, members> made;
+    for (std::uint32_t p = 0; p < members; ++p) made[p] = group.propose(p, 10 * round + p);
+    for (const yardbook::Record& r : made) group.send_record(r);
+}
+
+// Round 3 without its leader's record, which is returned. The others time out. Members 0 and 3 get all three timeouts and sign
+// no-votes.
+yardbook::Record run_round_3(Members& group) {
+    const yardbook::Record late = group.propose(2, 32);
+    for (const std::uint32_t p : {0u, 1u, 3u}) group.send_record(group.propose(p, 30 + p));
+    for (const std::uint32_t p : {0u, 1u, 3u}) group.send_timeout(3, p);
+    group.send_no_vote(3, 0);
+    group.send_no_vote(3, 3);
+    return late;
+}
+
+// Round 4. Member 0's record carries the timeout certificate. Taking it, member 1 comes into the round, signs the third no-vote
+// and goes on like the others. The leader, member 3, is last, so the round does not end before all have made their records.
+void run_round_4(Members& group) {
+    group.check_left_behind();
+    const yardbook::Record first = group.propose(0, 40);
+    group.send_record(first);
+    must_hold(group.current_round(1) == 4, "the first vertex of round 4 brings member 1 into it");
+    group.send_no_vote(3, 1);
+    for (std::uint32_t p = 1; p < members; ++p) {
+        const yardbook::Record made = group.propose(p, 40 + p);
+        must_hold(made[YARDBOOK_RECORD_TIMEOUTS] == first[YARDBOOK_RECORD_TIMEOUTS], "all of round 4 carry the certificate");
+        group.send_record(made);
+    }
+}
+
+// Six rounds of made records. Round 3's leader, member 2, is silent in its round. Round 4 goes on without it: its leader's record
+// carries both certificates, and member 1, which has lost the timeouts, catches up. Member 2's record comes a round late, and those
+// of round 5 name it as a weak parent.
 void run_members() {
     Members group;
-    yardbook::Record late{};
-    for (std::uint32_t round = 1; round <= 6; ++round) {
-        std::array<yardbook::Record, members> made;
-        for (std::uint32_t p = 0; p < members; ++p) made[p] = group.propose(p, 10 * round + p);
-        for (std::uint32_t p = 0; p < members; ++p) {
-            if (round == 3 && p == 2) late = made[p];
-            else group.send_record(made[p]);
-        }
-        if (round == 3) {
-            for (const std::uint32_t p : {0u, 1u, 3u}) group.send_timeout(round, p);
-            for (const std::uint32_t p : {0u, 1u, 3u}) group.send_no_vote(round, p);
-        }
-        if (round == 4) group.send_record(late);
-    }
+    run_round(group, 1);
+    run_round(group, 2);
+    const yardbook::Record late = run_round_3(group);
+    run_round_4(group);
+    group.send_record(late);
+    run_round(group, 5);
+    run_round(group, 6);
     group.print_lists();
 }
 
 }  // namespace
 
 int main() {
-    // A quorum of first messages commits round 1.
-    Watched first = opened();
-    for (const std::uint32_t source : {0u, 1u, 3u}) first.first_message(record(2, source, 7, 0, 20 + source));
-    first.print_lists();
-
-    // Round 1's leader has two votes, one short of a quorum. First messages of round 3 commit round 2's leader, and a strong path
-    // leads from it to round 1's, which is taken too.
-    Watched second = opened();
-    second.vertex(record(1, 3, 0, 0, 13));
-    second.vertex(record(2, 0, 7, 0, 20));
-    second.vertex(record(2, 1, 7, 0, 21));
-    second.vertex(record(2, 3, 14, 7, 23));
-    for (const std::uint32_t source : {0u, 1u, 2u}) second.first_message(record(3, source, 11, 0, 30 + source));
-    second.print_lists();
-
+    watch_sample();
+    watch_two_leaders();
+    watch_carried();
     run_members();
     return 0;
 }

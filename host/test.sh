@@ -108,11 +108,11 @@ done
 rt check sheetlog >"$out/rt" 2>&1 || { cat "$out/rt" >&2; exit 1; }
 
 # The groups that a watcher follows.
-cat host/cases/sample.out host/cases/two_leaders.out >"$out/watched"
-for case in sample two_leaders; do
-    target/bin/sheetlog <"host/cases/$case.in" >&3
-    "$out/reference/release/sheetlog" <"host/cases/$case.in" >&4
-done 3>"$out/sheetlog.out" 4>"$out/second.out"
+for case in sample two_leaders carried; do
+    cat "host/cases/$case.out" >&3
+    target/bin/sheetlog <"host/cases/$case.in" >&4
+    "$out/reference/release/sheetlog" <"host/cases/$case.in" >&5
+done 3>"$out/watched" 4>"$out/sheetlog.out" 5>"$out/second.out"
 for side in sheetlog second; do
     diff -u "$out/watched" "$out/$side.out" || fail "$side differs"
 done

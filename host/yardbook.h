@@ -11,6 +11,9 @@
  *     calls that take `const uint32_t *state` may run on one state at the same time;
  *   - the words of a record do not overlap those of the state.
  *
+ * The host checks signatures before it hands over a record or a note, those of the two certificates in a record too: the library
+ * takes a mask of signers at its word.
+ *
  * Every call but yardbook_open asks first whether the state has the right size (1) and is well formed (3), which reads
  * the whole state. Each call's comment names its questions in the order in which they are asked, and the first "no" is the
  * answer's number. A call that answers another number than 0 changes no word.
@@ -30,7 +33,7 @@
 extern "C" {
 #endif
 
-#define YARDBOOK_VERSION "0.2.0"
+#define YARDBOOK_VERSION "0.3.0"
 
 /* Words of a replica state, and of a record. */
 #define YARDBOOK_STATE_WORDS 5864
@@ -65,8 +68,9 @@ enum {
     YARDBOOK_REFUSED_TIMEOUTS = 9,        /* the timeout mask is no quorum where it must be, or not 0 elsewhere */
     YARDBOOK_REFUSED_NO_VOTES = 10,       /* the no-vote mask likewise */
     YARDBOOK_REFUSED_WEAK = 11,           /* the weak ids do not rise, or one is out of range */
-    YARDBOOK_REFUSED_DUPLICATE = 12,      /* known already: this vertex, this source's first message, this signer's note;
-                                             or made already: this round's own record, this round's own no-vote */
+    YARDBOOK_REFUSED_DUPLICATE = 12,      /* known already: this vertex, this source's first message, this signer's note,
+                                             a timeout also by a vertex that carried it; or made already: this round's own
+                                             record, this round's own no-vote */
     YARDBOOK_REFUSED_CONFLICT = 13,       /* a different vertex of this round and source is held */
     YARDBOOK_REFUSED_MISSING_PARENT = 14, /* a parent is not held; the answer's id is the smallest such */
     YARDBOOK_REFUSED_PAST_END = 15,       /* k is above the list's count */
@@ -111,8 +115,9 @@ yardbook_answer yardbook_open(uint32_t *state, size_t state_words, uint32_t n, u
 
 /*
  * Takes a vertex that reliable broadcast has delivered. Asks 1 and 3 to 14.
- * Writes the vertex to its cell, may raise the current round, and commits every round that has become committable: the
- * leaders taken join the leader list, and their histories the journal.
+ * Writes the vertex to its cell. Its timeout mask joins the timeouts of the round before, and yardbook_take_timeout of such a
+ * signer answers 12 from then on. The current round may rise, and is at least the vertex's round afterwards. Every round that has
+ * become committable is committed: the leaders taken join the leader list, and their histories the journal.
  */
 yardbook_answer yardbook_take_vertex(uint32_t *state, size_t state_words, const uint32_t *record, size_t record_words);
 
@@ -131,9 +136,9 @@ yardbook_answer yardbook_take_no_vote(uint32_t *state, size_t state_words, uint3
 /*
  * Makes the own member's record for the current round, with the host's tag. Asks 1, 3, 16, 5, 9, 10, 12 and 18, in this order.
  * Strong parents are all held vertices of the round before, less its leader's if a no-vote against it was signed here. Where the
- * record lacks that leader it carries the timeouts taken, and if the own member leads the current round the no-votes taken: 9 or
- * 10 says that these are no quorum yet. Weak parents are the f lowest held vertices, two or more rounds down, that
- * the strong parents do not reach.
+ * record lacks that leader it carries the timeouts taken, alone or with a vertex, and if the own member leads the current round the
+ * no-votes taken: 9 or 10 says that these are no quorum yet. Weak parents are the f lowest held vertices, two or more rounds down,
+ * that the strong parents do not reach.
  * Writes only that the round's record was made; nothing is admitted. The host sends the record to all as its first broadcast
  * message, and hands it back itself like that of any other member, to yardbook_take_first_message and, delivered, to
  * yardbook_take_vertex.

@@ -1,7 +1,8 @@
-//! Runs three groups of four members. A watcher follows the first two and prints what sheetlog prints for the same calls: for a
-//! call its number and the status, and at the end the leader list and the journal. The third is run by its four members, which
+//! Runs four groups of four members. A watcher follows the first three and prints what sheetlog prints for the same calls: for a
+//! call its number and the status, and at the end the leader list and the journal. The fourth is run by its four members, which
 //! propose and sign: it prints what they send, as lines of sheetlog's input, and at the end each member's lists.
 
+use yardbook::record::TIMEOUTS;
 use yardbook::{Answer, RECORD_WORDS, STATE_WORDS};
 
 const MEMBERS: usize = 4;
@@ -22,20 +23,28 @@ fn print_lists(state: &State) {
     print('J', yardbook::hand_journal(state, 0).ids);
 }
 
+/// A record without weak parents.
+fn record(round: u32, source: u32, strong: u32, timeouts: u32, no_votes: u32, tag: u32) -> Record {
+    [
+        round, source, strong, timeouts, no_votes, tag, 0, 0, 0, 0, 0, 0,
+    ]
+}
+
 struct Watched {
     state: State,
 }
 
 impl Watched {
-    fn opened() -> Watched {
+    /// Opens the group and takes three vertices of round 1, from member `first` on.
+    fn opened(first: u32) -> Watched {
         let mut group = Watched {
             state: [0; STATE_WORDS],
         };
         let answer = yardbook::open(&mut group.state, MEMBERS as u32, 0);
         group.print(answer);
-        group.vertex(record(1, 0, 0, 0, 10));
-        group.vertex(record(1, 1, 0, 0, 11));
-        group.vertex(record(1, 2, 0, 0, 12));
+        for p in first..first + 3 {
+            group.vertex(record(1, p, 0, 0, 0, 10 + p));
+        }
         group
     }
 
@@ -49,6 +58,11 @@ impl Watched {
         self.print(answer);
     }
 
+    fn timeout(&mut self, round: u32, signer: u32) {
+        let answer = yardbook::take_timeout(&mut self.state, round, signer);
+        self.print(answer);
+    }
+
     fn print(&self, answer: Answer) {
         let s = yardbook::status(&self.state);
         println!(
@@ -58,14 +72,58 @@ impl Watched {
     }
 }
 
-/// A record without weak parents.
-fn record(round: u32, source: u32, strong: u32, timeouts: u32, tag: u32) -> Record {
-    [round, source, strong, timeouts, 0, tag, 0, 0, 0, 0, 0, 0]
+/// A quorum of first messages commits round 1.
+fn watch_sample() {
+    let mut group = Watched::opened(0);
+    for source in [0, 1, 3] {
+        group.first_message(record(2, source, 7, 0, 0, 20 + source));
+    }
+    print_lists(&group.state);
+}
+
+/// Round 1's leader has two votes, one short of a quorum. First messages of round 3 commit round 2's leader, and a strong
+/// path leads from it to round 1's, which is taken too.
+fn watch_two_leaders() {
+    let mut group = Watched::opened(0);
+    group.vertex(record(1, 3, 0, 0, 0, 13));
+    group.vertex(record(2, 0, 7, 0, 0, 20));
+    group.vertex(record(2, 1, 7, 0, 0, 21));
+    group.vertex(record(2, 3, 14, 7, 0, 23));
+    for source in [0, 1, 2] {
+        group.first_message(record(3, source, 11, 0, 0, 30 + source));
+    }
+    print_lists(&group.state);
+}
+
+/// Round 1 lacks its leader's vertex, and no timeout arrives. The first vertex of round 2 carries the timeout certificate of
+/// members 0, 1 and 2, and with it the watcher is in round 2. Member 0's own timeout, when it comes, is known already. Round 2's
+/// leader carries a no-vote certificate too, and vertices of round 3 commit it.
+fn watch_carried() {
+    let mut group = Watched::opened(1);
+    group.vertex(record(2, 0, 14, 7, 0, 20));
+    group.timeout(1, 0);
+    group.vertex(record(2, 2, 14, 7, 0, 22));
+    group.vertex(record(2, 3, 14, 7, 0, 23));
+    group.vertex(record(2, 1, 14, 7, 14, 21));
+    for source in [0, 1, 2] {
+        group.vertex(record(3, source, 15, 0, 0, 30 + source));
+    }
+    print_lists(&group.state);
 }
 
 /// For calls that nothing can refuse here.
 fn must(answer: Answer) {
     assert_eq!(answer.number, yardbook::number::OK);
+}
+
+/// For what nothing can make false here.
+fn must_hold(holds: bool, what: &str) {
+    assert!(holds, "not so: {what}");
+}
+
+/// Whether a timeout or no-vote arrives. The others' are lost on their way to member 1.
+fn arrives(signer: u32, member: u32) -> bool {
+    member != 1 || signer == 1
 }
 
 struct Members {
@@ -79,6 +137,10 @@ impl Members {
             must(yardbook::open(state, MEMBERS as u32, own));
         }
         Members { states }
+    }
+
+    fn current_round(&self, member: usize) -> u32 {
+        yardbook::status(&self.states[member]).current_round
     }
 
     /// The member's record for its current round, not yet sent.
@@ -100,8 +162,10 @@ impl Members {
     /// The signer's timer for the round has run out.
     fn send_timeout(&mut self, round: u32, signer: u32) {
         println!("T {round} {signer}");
-        for state in &mut self.states {
-            must(yardbook::take_timeout(state, round, signer));
+        for (p, state) in (0..).zip(&mut self.states) {
+            if arrives(signer, p) {
+                must(yardbook::take_timeout(state, round, signer));
+            }
         }
     }
 
@@ -110,63 +174,92 @@ impl Members {
         must(yardbook::sign_no_vote(&mut self.states[signer as usize]));
         println!("N {round} {signer}");
         for (p, state) in (0..).zip(&mut self.states) {
-            if p != signer {
+            if p != signer && arrives(signer, p) {
                 must(yardbook::take_no_vote(state, round, signer));
             }
         }
     }
+
+    /// Member 1 has no timeout for round 3 but its own and is still in it. It has made that round's record and can make no other.
+    fn check_left_behind(&mut self) {
+        for p in 0..MEMBERS {
+            let round = if p == 1 { 3 } else { 4 };
+            must_hold(
+                self.current_round(p) == round,
+                "all but member 1 are in round 4",
+            );
+        }
+        let none = yardbook::propose(&mut self.states[1], 41);
+        must_hold(
+            none.answer.number == yardbook::number::DUPLICATE,
+            "member 1 can make no record for round 4",
+        );
+    }
 }
 
-/// Six rounds of made records. Round 3's leader, member 2, is silent in its round. The others time out and sign no-votes, and
-/// round 4 goes on without it: its leader's record carries both certificates. Member 2's record comes a round late, and those of
-/// round 5 name it as a weak parent.
+/// A round of everyone's records. All are made before the first is sent: the leader's and two others end the round.
+fn run_round(group: &mut Members, round: u32) {
+    let made: [Record; MEMBERS] = std::array::from_fn(|p| group.propose(p, 10 * round + p as u32));
+    for record in &made {
+        group.send_record(record);
+    }
+}
+
+/// Round 3 without its leader's record, which is returned. The others time out. Members 0 and 3 get all three timeouts and sign
+/// no-votes.
+fn run_round_3(group: &mut Members) -> Record {
+    let late = group.propose(2, 32);
+    for p in [0, 1, 3] {
+        let made = group.propose(p, 30 + p as u32);
+        group.send_record(&made);
+    }
+    for p in [0, 1, 3] {
+        group.send_timeout(3, p);
+    }
+    group.send_no_vote(3, 0);
+    group.send_no_vote(3, 3);
+    late
+}
+
+/// Round 4. Member 0's record carries the timeout certificate. Taking it, member 1 comes into the round, signs the third no-vote
+/// and goes on like the others. The leader, member 3, is last, so the round does not end before all have made their records.
+fn run_round_4(group: &mut Members) {
+    group.check_left_behind();
+    let first = group.propose(0, 40);
+    group.send_record(&first);
+    must_hold(
+        group.current_round(1) == 4,
+        "the first vertex of round 4 brings member 1 into it",
+    );
+    group.send_no_vote(3, 1);
+    for p in 1..MEMBERS {
+        let made = group.propose(p, 40 + p as u32);
+        must_hold(
+            made[TIMEOUTS] == first[TIMEOUTS],
+            "all of round 4 carry the certificate",
+        );
+        group.send_record(&made);
+    }
+}
+
+/// Six rounds of made records. Round 3's leader, member 2, is silent in its round. Round 4 goes on without it: its leader's
+/// record carries both certificates, and member 1, which has lost the timeouts, catches up. Member 2's record comes a round
+/// late, and those of round 5 name it as a weak parent.
 fn run_members() {
     let mut group = Members::opened();
-    let mut late = [0; RECORD_WORDS];
-    for round in 1..=6 {
-        let made: [Record; MEMBERS] =
-            std::array::from_fn(|p| group.propose(p, 10 * round + p as u32));
-        for (p, record) in made.iter().enumerate() {
-            if round == 3 && p == 2 {
-                late = *record;
-            } else {
-                group.send_record(record);
-            }
-        }
-        if round == 3 {
-            for p in [0, 1, 3] {
-                group.send_timeout(round, p);
-            }
-            for p in [0, 1, 3] {
-                group.send_no_vote(round, p);
-            }
-        }
-        if round == 4 {
-            group.send_record(&late);
-        }
-    }
+    run_round(&mut group, 1);
+    run_round(&mut group, 2);
+    let late = run_round_3(&mut group);
+    run_round_4(&mut group);
+    group.send_record(&late);
+    run_round(&mut group, 5);
+    run_round(&mut group, 6);
     group.states.iter().for_each(print_lists);
 }
 
 fn main() {
-    // A quorum of first messages commits round 1.
-    let mut first = Watched::opened();
-    for source in [0, 1, 3] {
-        first.first_message(record(2, source, 7, 0, 20 + source));
-    }
-    print_lists(&first.state);
-
-    // Round 1's leader has two votes, one short of a quorum. First messages of round 3 commit round 2's leader, and a strong
-    // path leads from it to round 1's, which is taken too.
-    let mut second = Watched::opened();
-    second.vertex(record(1, 3, 0, 0, 13));
-    second.vertex(record(2, 0, 7, 0, 20));
-    second.vertex(record(2, 1, 7, 0, 21));
-    second.vertex(record(2, 3, 14, 7, 23));
-    for source in [0, 1, 2] {
-        second.first_message(record(3, source, 11, 0, 30 + source));
-    }
-    print_lists(&second.state);
-
+    watch_sample();
+    watch_two_leaders();
+    watch_carried();
     run_members();
 }

@@ -10,6 +10,18 @@ pub const STATE_WORDS: usize = 5864;
 /// Words of a record.
 pub const RECORD_WORDS: usize = 12;
 
+/// The words of a record. A mask has bit p set for member p.
+pub mod record {
+    pub const ROUND: usize = 0;
+    pub const SOURCE: usize = 1;
+    pub const STRONG: usize = 2;
+    pub const TIMEOUTS: usize = 3;
+    pub const NO_VOTES: usize = 4;
+    pub const TAG: usize = 5;
+    pub const WEAK_COUNT: usize = 6;
+    pub const WEAK: usize = 7;
+}
+
 /// What an answer's number says.
 pub mod number {
     pub const OK: u32 = 0;
@@ -123,7 +135,8 @@ pub fn open(state: &mut [u32], n: u32, own: u32) -> Answer {
     unsafe { c::yardbook_open(state.as_mut_ptr(), state.len(), n, own) }
 }
 
-/// Takes a vertex that reliable broadcast has delivered.
+/// Takes a vertex that reliable broadcast has delivered. If it is admitted, its timeout mask joins the timeouts of the round
+/// before, and the current round is at least the vertex's round afterwards.
 #[must_use]
 pub fn take_vertex(state: &mut [u32], record: &[u32]) -> Answer {
     unsafe {
@@ -144,7 +157,7 @@ pub fn take_first_message(state: &mut [u32], record: &[u32]) -> Answer {
     }
 }
 
-/// Takes a signer's timeout for the round.
+/// Takes a signer's timeout for the round. It is a `DUPLICATE` also where a vertex has carried it.
 #[must_use]
 pub fn take_timeout(state: &mut [u32], round: u32, signer: u32) -> Answer {
     unsafe { c::yardbook_take_timeout(state.as_mut_ptr(), state.len(), round, signer) }

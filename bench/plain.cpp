@@ -345,6 +345,7 @@ yardbook_answer plain_take_vertex(u32* state, std::size_t words, const u32* reco
     if (const u32 id = missing_parent(state, record)) return refused(14, id);
     std::memcpy(body, record + body_at, body_words * sizeof(u32));
     mask(state, round, held) |= 1u << source;
+    if (round > 1) mask(state, round - 1, timeouts) |= record[body_at + timeouts_at];
     raise_round(g, state);
     return settle(g, state);
 }

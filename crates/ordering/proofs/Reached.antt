@@ -1,4 +1,4 @@
--- A member is never behind a vertex that it has admitted: the round before is passable then. Assumes nothing.
+-- An admitted vertex leaves the current round at its own or above: the round before is passable then. Assumes nothing.
 use mathlib.Core.Path.{_≡_, refl, sym, ap, _∙_}
 use mathlib.Core.Bool.{true, false, _||_}
 use mathlib.Core.Logic.{_⊎_, inl, inr, ⊎-elim}

@@ -1,4 +1,4 @@
--- A member is never behind a vertex that it has admitted, as a claim. `proofs/` has a term of it.
+-- What an admitted vertex does to the current round, as a claim. `proofs/` has a term of it.
 use mathlib.Core.Path.{_≡_}
 use mathlib.Core.List.{List}
 use Prim.Native.Nat.{ℕ, _≤_}

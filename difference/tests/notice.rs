@@ -8,7 +8,8 @@ use difference::proved::Proved;
 use difference::report::report;
 use difference::run::{run, Plan};
 use difference::shrink::{fewest, shrink};
-use reference::layout::{mask_place, CURRENT_ROUND, LAST_ROUND, RECORD_WORDS, TIMEOUTS};
+use reference::layout::{mask_place, CURRENT_ROUND, LAST_ROUND, TIMEOUTS};
+use reference::record::Record;
 use reference::simulate::{simulate, Options};
 use reference::Call;
 
@@ -224,16 +225,16 @@ fn a_wrong_order_of_questions_is_noticed() {
 
 /// The second implementation with a fault in taking vertices of round 2 and above. The fault gets
 /// the words before the call, those after it, the record and the number.
-struct Careless(fn(&[u32], &mut [u32], &[u32], u32));
+struct Careless(fn(&[u32], &mut [u32], &Record, u32));
 
 impl Engine for Careless {
     fn perform(&self, state: &mut [u32], op: &Op) -> Reply {
         let before = state.to_vec();
         let reply = Second.perform(state, op);
-        if let Op::Change(Call::Vertex(record)) = op {
-            let round = record.first().copied().unwrap_or(0);
-            if record.len() == RECORD_WORDS && (2..=LAST_ROUND).contains(&round) {
-                (self.0)(&before, state, record, reply[0]);
+        if let Op::Change(Call::Vertex(words)) = op {
+            let record = Record::from_words(words);
+            if let Some(record) = record.filter(|record| (2..=LAST_ROUND).contains(&record.round)) {
+                (self.0)(&before, state, &record, reply[0]);
             }
         }
         reply
@@ -248,24 +249,24 @@ fn timeouts(round: u32) -> usize {
 fn a_certificate_that_counts_otherwise_is_noticed() {
     let not_at_all = Careless(|before, state, record, number| {
         if number == 0 {
-            let at = timeouts(record[0] - 1);
+            let at = timeouts(record.round - 1);
             state[at] = before[at];
         }
     });
     let before_the_last_question = Careless(|_, state, record, number| {
         if (12..=14).contains(&number) {
-            state[timeouts(record[0] - 1)] |= record[3];
+            state[timeouts(record.round - 1)] |= record.timeouts;
         }
     });
     let in_its_own_round = Careless(|before, state, record, number| {
         if number == 0 {
-            let at = timeouts(record[0] - 1);
+            let at = timeouts(record.round - 1);
             state[at] = before[at];
-            state[timeouts(record[0])] |= record[3];
+            state[timeouts(record.round)] |= record.timeouts;
         }
     });
     let after_the_round_rule = Careless(|before, state, record, number| {
-        if number == 0 && state[CURRENT_ROUND] == record[0] {
+        if number == 0 && state[CURRENT_ROUND] == record.round {
             state[CURRENT_ROUND] = before[CURRENT_ROUND];
         }
     });

@@ -8,7 +8,7 @@ use std::collections::{BTreeMap, BTreeSet};
 
 use common::*;
 use reference::group::{has, Group};
-use reference::layout::{mask_place, CURRENT_ROUND, HELD, LAST_ROUND, TIMEOUTS};
+use reference::layout::{mask_place, CURRENT_ROUND, HELD, LAST_ROUND, N, TIMEOUTS};
 use reference::model::Lists;
 use reference::record::Record;
 use reference::simulate::{simulate, Options, Run};
@@ -47,7 +47,8 @@ fn follow(calls: &[Call], against_model: bool, seen: &mut Seen) -> State {
             check_growth(call, &before, &state, answer);
             seen.several_leaders += usize::from(answer.leaders > 1);
             if let Call::Vertex(words) = call {
-                check_vertex(words, &before, &state, seen);
+                let record = Record::from_words(words).expect("it has its size");
+                check_vertex(&record, &before, &state, seen);
             }
             expected = model.lists();
         } else {
@@ -91,7 +92,7 @@ fn check_growth(call: &Call, before: &State, after: &State, answer: Answer) {
 
 /// The current round after one, by the round rule over the words.
 fn round_after(current: u32, state: &State) -> u32 {
-    let group = Group::new(state[0]).expect("the size is legal");
+    let group = Group::new(state[N]).expect("the size is legal");
     let is_ended = |&round: &u32| {
         let [held, timeouts] = [HELD, TIMEOUTS].map(|which| state[mask_place(round, which)]);
         group.is_quorum(held) && (has(held, group.leader(round)) || group.is_quorum(timeouts))
@@ -102,21 +103,21 @@ fn round_after(current: u32, state: &State) -> u32 {
 
 /// An admitted vertex adds its certificate to the round before and then raises the current round,
 /// to its own round at least. A vertex that raises it to just that does so by its certificate.
-fn check_vertex(words: &[u32], before: &State, after: &State, seen: &mut Seen) {
-    let round = words[0];
+fn check_vertex(record: &Record, before: &State, after: &State, seen: &mut Seen) {
+    let round = record.round;
     let mut notes_alone = after.clone();
     if round > 1 {
         let at = mask_place(round - 1, TIMEOUTS);
-        assert_eq!(after[at], before[at] | words[3], "{words:?}");
+        assert_eq!(after[at], before[at] | record.timeouts, "{record:?}");
         notes_alone[at] = before[at];
     }
     let [old, new] = [before, after].map(|state| state[CURRENT_ROUND]);
-    assert_eq!(new, round_after(old, after), "{words:?}");
-    assert!(new >= round, "{words:?}");
+    assert_eq!(new, round_after(old, after), "{record:?}");
+    assert!(new >= round, "{record:?}");
     let by_certificate = round_after(old, &notes_alone) < new;
-    assert_eq!(by_certificate, old < new && new == round, "{words:?}");
+    assert_eq!(by_certificate, old < new && new == round, "{record:?}");
     seen.by_certificate += usize::from(by_certificate);
-    seen.weak += usize::from(words[6] > 0);
+    seen.weak += usize::from(record.weak_count > 0);
 }
 
 fn note_end(state: &State, seen: &mut Seen) {

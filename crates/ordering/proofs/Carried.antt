@@ -20,7 +20,7 @@ use Rattle.replica.proofs.Formed.{WellFormed}
 use Rattle.commits.specs.Commit.{raiseRound}
 use Rattle.commits.proofs.Frame.{Alike, alike-self, alike-set}
 use Rattle.ordering.specs.Calls.{placeQuestions, vertexQuestions, putVertex, carryTimeouts}
-use Rattle.ordering.proofs.Marks.{formed-put, put-more, joined-here, formed-joined}
+use Rattle.ordering.proofs.Marks.{formed-put, put-more, join-here, formed-joined}
 use Rattle.ordering.proofs.Writing.{Calm, calm-self, calm-mask, calm-then, calm-members, put-calm}
 use Rattle.ordering.proofs.Turns.{record-passed, parents-passed}
 
@@ -70,11 +70,11 @@ module _ (l : List ℕ) (r m : ℕ) where
     carry-held s a b = carry-alike .masks s heldKind a b (omega arith)
 
     -- the mask's members are in the timeouts of the round before
-    pub carry-in : WellFormed l → m < 2 ^ memberCount l → 2 ≤ r → (q : ℕ) → has m q ≡ true → has (timeoutsMask (carryTimeouts l r m) (r - 1)) q ≡ true
-    carry-in S small h q e =
+    pub carry-in : WellFormed l → 2 ≤ r → (q : ℕ) → has m q ≡ true → has (timeoutsMask (carryTimeouts l r m) (r - 1)) q ≡ true
+    carry-in S h q e =
         let same = carried-before h (masksAt (r - 1)) refl (addMembers l (timeoutsAt (r - 1)) m) refl in
         ap (λ (o : List ℕ). has (timeoutsMask o (r - 1)) q) (sym same)
-        ∙ ap (λ (x : ℕ). has x q) (joined-here l S (r - 1) m (omega arith) (omega arith) small)
+        ∙ ap (λ (x : ℕ). has x q) (join-here l (timeoutsAt (r - 1)) m (omega (arith, S .size)))
         ∙ has-or (timeoutsMask l (r - 1)) m q ∙ or-right (has (timeoutsMask l (r - 1)) q) e
 
     -- the state stays formed
@@ -121,5 +121,5 @@ vertex-written l r p body e =
       calm = calm-then C (carry-calm _ r (timeoutsOf body) (A .round-high));
       held = λ s q a b h. ap (λ (x : ℕ). has x q) (carry-held _ r (timeoutsOf body) (A .round-high) s a b)
           ∙ put-more l S r p body (w .2) held s q a b h;
-      carried = carry-in _ r (timeoutsOf body) (A .round-high) put small;
+      carried = carry-in _ r (timeoutsOf body) (A .round-high) put;
     }

@@ -6,6 +6,7 @@ use mathlib.Core.List.{List}
 use Prim.Native.Nat.{ℕ, zero, suc, _+_, _-_, _^_, _≤_, _<_}
 use native.Mathlib.Omega.{arith}
 use lib.Bits.{bitOr, or-lt}
+use lib.Pow.{pow-lt}
 use lib.Dec.{eqb, ltb}
 use lib.ListN.{length, getD, set, length-set}
 use lib.Seq.{getD-set-same, getD-set-other, length-paste}
@@ -15,11 +16,11 @@ use Rattle.record.specs.Refusals.{numberOf}
 use Rattle.record.specs.Questions.{bodyRefusal}
 use Rattle.record.specs.Admitted.{Admitted}
 use Rattle.record.proofs.Booleans.{which, never, and-left, and-right, and-both, or-cases, or-left, or-right}
-use Rattle.record.proofs.Masks.{has-zero, has-add, add-lt}
+use Rattle.record.proofs.Masks.{has-zero, has-or, has-add}
 use Rattle.record.proofs.Turn.{admitted}
 use Rattle.record.proofs.Rounds.{round-range}
 use Rattle.protocol.specs.Dag.{votes}
-use Rattle.record.specs.Layout.{bodySize, weakSlots}
+use Rattle.record.specs.Layout.{bodySize}
 use Rattle.replica.specs.Layout.{votesKind, timeoutsKind, noVotesKind, orderedKind, currentRoundAt}
 use Rattle.replica.specs.Layout.{masksAt, heldAt, heardAt, votesAt, timeoutsAt, noVotesAt, cellAt, kinds, memberCountAt, ownAt, madeAt}
 use Rattle.replica.specs.Layout.{signedAt, heardKind}
@@ -89,31 +90,51 @@ formed-raise l S = go (which (ltb (currentRound l) (1 + highestPassable l rounds
     go (inl e) = rw e (formed-round l (1 + highestPassable l rounds) (omega arith) (omega (arith, highest-high l rounds)) S)
     go (inr e) = rw e S
 
--- ---- a member added to a mask
+-- ---- the members of a mask added to a mask
+
+module _ (l : List ℕ) (at m : ℕ) (fits : at < length l) where
+  pub join-here : getD (addMembers l at m) at 0 ≡ bitOr (getD l at 0) m
+  unfolding addMembers
+  join-here = getD-set-same l at (bitOr (getD l at 0) m) 0 fits
+
+  join-other : (j : ℕ) → (j ≡ at → ⊥) → getD (addMembers l at m) j 0 ≡ getD l j 0
+  unfolding addMembers
+  join-other j h = getD-set-other l at j (bitOr (getD l at 0) m) 0 h
+
+  -- no bound of a mask is passed
+  join-low : (k j : ℕ) → m < 2 ^ k → getD l j 0 < 2 ^ k → getD (addMembers l at m) j 0 < 2 ^ k
+  join-low k j h w = ⊎-elim
+      (λ d. let e = eqb-true j at d in rw e (rw join-here (or-lt k (getD l at 0) m (rw e at w) h)))
+      (λ d. rw (join-other j (eqb-false j at d)) w)
+      (which (eqb j at))
+
+  -- nobody is lost
+  join-more : (j q : ℕ) → has (getD l j 0) q ≡ true → has (getD (addMembers l at m) j 0) q ≡ true
+  join-more j q h = ⊎-elim
+      (λ d. let e = eqb-true j at d in rw e (rw join-here (has-or (getD l at 0) m q ∙ or-left _ (rw e at h))))
+      (λ d. rw (join-other j (eqb-false j at d)) h)
+      (which (eqb j at))
+
+-- ---- one member: the mask of it alone
 
 module _ (l : List ℕ) (at p : ℕ) (fits : at < length l) where
   add-here : getD (addMember l at p) at 0 ≡ add (getD l at 0) p
-  unfolding addMember
-  add-here = getD-set-same l at (add (getD l at 0) p) 0 fits
+  unfolding addMember addMembers
+  add-here = join-here l at (2 ^ p) fits
 
   add-other : (j : ℕ) → (j ≡ at → ⊥) → getD (addMember l at p) j 0 ≡ getD l j 0
-  unfolding addMember
-  add-other j h = getD-set-other l at j (add (getD l at 0) p) 0 h
+  unfolding addMember addMembers
+  add-other = join-other l at (2 ^ p) fits
 
-  -- no bound of a mask is passed
   add-low : (k j : ℕ) → p < k → getD l j 0 < 2 ^ k → getD (addMember l at p) j 0 < 2 ^ k
-  add-low k j h m = ⊎-elim
-      (λ d. let e = eqb-true j at d in rw e (rw add-here (add-lt k (getD l at 0) p (rw e at m) h)))
-      (λ d. rw (add-other j (eqb-false j at d)) m)
-      (which (eqb j at))
+  unfolding addMember addMembers
+  add-low k j h = join-low l at (2 ^ p) fits k j (pow-lt h)
 
-  -- nobody is lost, and only p is new
   add-more : (j q : ℕ) → has (getD l j 0) q ≡ true → has (getD (addMember l at p) j 0) q ≡ true
-  add-more j q h = ⊎-elim
-      (λ d. let e = eqb-true j at d in rw e (rw add-here (has-add (getD l at 0) p q ∙ or-left _ (rw e at h))))
-      (λ d. rw (add-other j (eqb-false j at d)) h)
-      (which (eqb j at))
+  unfolding addMember addMembers
+  add-more = join-more l at (2 ^ p) fits
 
+  -- only p is new
   add-new : (j q : ℕ) → has (getD (addMember l at p) j 0) q ≡ true → (has (getD l j 0) q ≡ true) ⊎ ((j ≡ at) × (p ≡ q))
   add-new j q h = go (which (eqb j at))
     where
@@ -131,7 +152,7 @@ module _ (l : List ℕ) (at p : ℕ) (fits : at < length l) where
 
 -- j is none of the masks 1 to 4 of a round: heard, votes, timeouts, no-votes
 abbrev OffNotes : ℕ → Type 0
-OffNotes j = (r i : ℕ) → 1 ≤ r → r ≤ rounds → 1 ≤ i → i < weakSlots → j ≡ masksAt r + i → ⊥
+OffNotes j = (r i : ℕ) → 1 ≤ r → r ≤ rounds → 1 ≤ i → i < orderedKind → j ≡ masksAt r + i → ⊥
 
 -- a state in which only those masks differ
 formed-notes : (l l′ : List ℕ) → Keeps OffNotes l l′ → Masks l′ → WellFormed l → WellFormed l′
@@ -167,7 +188,7 @@ masks-low l l′ M low f g = record {
 }
 
 module _ (l : List ℕ) (S : WellFormed l) (r p : ℕ) (low : 1 ≤ r) (high : r ≤ rounds) (few : p < memberCount l) where
-  module _ (i : ℕ) (from : 1 ≤ i) (to : i < weakSlots) where
+  module _ (i : ℕ) (from : 1 ≤ i) (to : i < orderedKind) where
     note-fits : masksAt r + i < length l
     note-fits = omega (arith, S .size)
 
@@ -185,7 +206,7 @@ module _ (l : List ℕ) (S : WellFormed l) (r p : ℕ) (low : 1 ≤ r) (high : r
     note-masks = masks-low l (addMember l (masksAt r + i) p) (S .masks) note-low
 
     -- a member in any of the four masks but votes
-    pub formed-note : (i ≡ 2 → ⊥) → WellFormed (addMember l (masksAt r + i) p)
+    pub formed-note : (i ≡ votesKind → ⊥) → WellFormed (addMember l (masksAt r + i) p)
     formed-note h = formed-notes l (addMember l (masksAt r + i) p) note-keeps (note-masks
         (λ s q a b e. add-more l (masksAt r + i) p note-fits (heardAt s) q (S .masks .votes-heard s q a b
         (rw (add-other l (masksAt r + i) p note-fits (votesAt s) (λ d. h (omega arith))) at e)))
@@ -193,13 +214,13 @@ module _ (l : List ℕ) (S : WellFormed l) (r p : ℕ) (low : 1 ≤ r) (high : r
 
   -- a member that is heard in votes, after round 1
   pub formed-votes : (r ≡ 1 → ⊥) → has (heardMask l r) p ≡ true → WellFormed (addMember l (votesAt r) p)
-  formed-votes h e = formed-notes l (addMember l (votesAt r) p) (note-keeps 2 (omega arith) (omega arith)) (note-masks 2 (omega arith) (omega arith)
+  formed-votes h e = formed-notes l (addMember l (votesAt r) p) (note-keeps votesKind (omega arith) (omega arith)) (note-masks votesKind (omega arith) (omega arith)
       (λ s q a b d. add-more l (votesAt r) p fits (heardAt s) q
       (⊎-elim (λ c. S .masks .votes-heard s q a b c) (λ c. same s q a (c .0) (c .1)) (add-new l (votesAt r) p fits (votesAt s) q d)))
       (add-other l (votesAt r) p fits (votesAt 1) (λ d. h (omega arith)) ∙ S .masks .votes-first)) S
     where
       fits : votesAt r < length l
-      fits = note-fits 2 (omega arith) (omega arith)
+      fits = note-fits votesKind (omega arith) (omega arith)
 
       same : (s q : ℕ) → 1 ≤ s → votesAt s ≡ votesAt r → p ≡ q → has (heardMask l s) q ≡ true
       same s q a c d = ap₂ (λ (x y : ℕ). has (heardMask l x) y) (omega arith) (sym d) ∙ e
@@ -207,7 +228,7 @@ module _ (l : List ℕ) (S : WellFormed l) (r p : ℕ) (low : 1 ≤ r) (high : r
   -- ---- a first message
 
   heard : WellFormed (addMember l (heardAt r) p)
-  heard = formed-note 1 (omega arith) (omega arith) (λ e. omega arith)
+  heard = formed-note heardKind (omega arith) (omega arith) (λ e. omega arith)
 
 -- a first message of round 1 has no vote
 pub formed-hear : (l : List ℕ) → WellFormed l → (r p : ℕ) (body : List ℕ) → Admitted (memberCount l) r p body → WellFormed (hear l r p body)
@@ -232,32 +253,28 @@ formed-hear l S r p body A = go (which (votes (memberCount l) (r - 1) body))
         (add-there l (heardAt r) p fits))
     go (inr e) = rw e H
 
--- ---- a mask of members that joins the timeouts of a round
+-- ---- a mask that joins the timeouts of a round
 
 module _ (l : List ℕ) (S : WellFormed l) (r m : ℕ) (low : 1 ≤ r) (high : r ≤ rounds) (small : m < 2 ^ memberCount l) where
-  pub joined-here : timeoutsMask (addMembers l (timeoutsAt r) m) r ≡ bitOr (timeoutsMask l r) m
+  abbrev joined : List ℕ
+  joined = addMembers l (timeoutsAt r) m
+
+  join-fits : timeoutsAt r < length l
+  join-fits = omega (arith, S .size)
+
+  join-keeps : Keeps OffNotes l joined
   unfolding addMembers
-  joined-here = getD-set-same l (timeoutsAt r) (bitOr (timeoutsMask l r) m) 0 (omega (arith, S .size))
+  join-keeps = keeps-set OffNotes l (timeoutsAt r) (bitOr (timeoutsMask l r) m) (λ j k e. k r timeoutsKind low high (omega arith) (omega arith) e)
 
-  joined-other : (j : ℕ) → (j ≡ timeoutsAt r → ⊥) → getD (addMembers l (timeoutsAt r) m) j 0 ≡ getD l j 0
-  unfolding addMembers
-  joined-other j h = getD-set-other l (timeoutsAt r) j (bitOr (timeoutsMask l r) m) 0 h
+  same : (j : ℕ) → (j ≡ timeoutsAt r → ⊥) → getD joined j 0 ≡ getD l j 0
+  same = join-other l (timeoutsAt r) m join-fits
 
-  joined-low : (j : ℕ) → getD l j 0 < 2 ^ memberCount l → getD (addMembers l (timeoutsAt r) m) j 0 < 2 ^ memberCount (addMembers l (timeoutsAt r) m)
-  joined-low j h = rw (joined-other memberCountAt (λ e. omega arith)) (⊎-elim
-      (λ d. let e = eqb-true j (timeoutsAt r) d in rw e (rw joined-here (or-lt (memberCount l) (timeoutsMask l r) m (rw e at h) small)))
-      (λ d. rw (joined-other j (eqb-false j (timeoutsAt r) d)) h)
-      (which (eqb j (timeoutsAt r))))
-
-  pub formed-joined : WellFormed (addMembers l (timeoutsAt r) m)
-  formed-joined = formed-notes l (addMembers l (timeoutsAt r) m) keeps (masks-low l (addMembers l (timeoutsAt r) m) (S .masks) joined-low
-      (λ s q a b e. ap (λ (x : ℕ). has x q) (joined-other (heardAt s) (λ d. omega arith))
-      ∙ S .masks .votes-heard s q a b (rw (joined-other (votesAt s) (λ d. omega arith)) at e))
-      (joined-other (votesAt 1) (λ d. omega arith) ∙ S .masks .votes-first)) S
-    where
-      keeps : Keeps OffNotes l (addMembers l (timeoutsAt r) m)
-      keeps = unfold addMembers in
-          keeps-set OffNotes l (timeoutsAt r) (bitOr (timeoutsMask l r) m) (λ j k e. k r timeoutsKind low high (omega arith) (omega arith) e)
+  pub formed-joined : WellFormed joined
+  formed-joined = formed-notes l joined join-keeps (masks-low l joined (S .masks)
+      (λ j h. rw (same memberCountAt (λ e. omega arith)) (join-low l (timeoutsAt r) m join-fits (memberCount l) j small h))
+      (λ s q a b e. ap (λ (x : ℕ). has x q) (same (heardAt s) (λ d. omega arith))
+      ∙ S .masks .votes-heard s q a b (rw (same (votesAt s) (λ d. omega arith)) at e))
+      (same (votesAt 1) (λ d. omega arith) ∙ S .masks .votes-first)) S
 
 -- ---- a vertex
 

@@ -14,8 +14,8 @@ use Rattle.record.proofs.Booleans.{and-left, and-right}
 use Rattle.protocol.specs.Dag.{recordsOf, present, votes, committed}
 use Rattle.protocol.proofs.Commit.{committed-cong}
 use Rattle.protocol.proofs.Agreement.{agreement}
-use Rattle.replica.specs.Layout.{committedRoundAt, madeAt, masksAt, timeoutsKind, noVotesKind, orderedKind}
-use Rattle.replica.specs.State.{currentRound, committedRound, leaderList, journalList, vertices, firsts, dag, addMember}
+use Rattle.replica.specs.Layout.{committedRoundAt, madeAt, masksAt, timeoutsAt, timeoutsKind, noVotesKind, orderedKind}
+use Rattle.replica.specs.State.{currentRound, committedRound, leaderList, journalList, vertices, firsts, dag, addMember, addMembers}
 use Rattle.replica.specs.Outcome.{outcome}
 use Rattle.replica.specs.Opening.{opened, openState}
 use Rattle.replica.proofs.Formed.{well-formed}
@@ -23,18 +23,20 @@ use Rattle.protocol.specs.Chain.{leaders}
 use Rattle.protocol.specs.Journal.{journal}
 use Rattle.replica.proofs.Opened.{opened-members, opened-word, opened-leaders, opened-journal, opened-vertices, opened-firsts, opened-formed}
 use Rattle.commits.specs.Commit.{raiseRound, commitAll}
-use Rattle.ordering.specs.Calls.{hear, vertexQuestions, firstQuestions, noteRefusal, takeBody, takeFirstBody, takeTimeout, takeNoVote}
+use Rattle.ordering.specs.Calls.{hear, vertexQuestions, firstQuestions, noteRefusal, bundleRefusal, takeBody, takeFirstBody, takeTimeout, takeNoVote}
+use Rattle.ordering.specs.Calls.{takeTimeouts}
 use Rattle.ordering.proofs.Carried.{written}
 use Rattle.commits.proofs.Steps.{not-led}
-use Rattle.ordering.proofs.Marks.{formed-raise}
+use Rattle.ordering.proofs.Marks.{formed-raise, formed-joined}
+use Rattle.ordering.proofs.Bundled.{bundle-passed}
 use Rattle.ordering.proofs.Kept.{formed-noted}
 use Rattle.ordering.proofs.Turns.{outcome-words, note-passed}
-use Rattle.ordering.proofs.Writing.{raise-calm, raise-alike, note-calm, note-alike}
+use Rattle.ordering.proofs.Writing.{raise-calm, raise-alike, join-calm, join-alike, note-calm, note-alike}
 use Rattle.proposing.specs.Own.{markRound}
 use Rattle.proposing.specs.Making.{proposeRefusal, proposeVertex}
 use Rattle.proposing.specs.Signing.{signingRound, signRefusal, putOwnNoVote, signNoVote}
 use Rattle.proposing.proofs.Kept.{mark-calm, mark-alike, signed-calm, signed-alike, signing-passed, signing-round, formed-making, formed-signing}
-use Rattle.runs.specs.Call.{Call, opening, vertex, firstMessage, timeout, noVote, status, askLeaderList, askJournalList, handLeaderList}
+use Rattle.runs.specs.Call.{Call, opening, vertex, firstMessage, timeout, noVote, bundle, status, askLeaderList, askJournalList, handLeaderList}
 use Rattle.runs.specs.Call.{handJournalList, making, signing, outcomeOf, run, allowed, allAllowed}
 use Rattle.runs.proofs.Asked.{number-yes, words-yes, number-no, words-no, decided, open-yes, open-no}
 use Rattle.agreement.specs.Model.{Model, empty, admit, follow, modelOf, dagOf}
@@ -68,6 +70,7 @@ admit-more (firstMessage rec) (suc number) m = inside-self m
 admit-more (opening n own) number m = inside-self m
 admit-more (timeout r p) number m = inside-self m
 admit-more (noVote r p) number m = inside-self m
+admit-more (bundle r mask) number m = inside-self m
 admit-more status number m = inside-self m
 admit-more (askLeaderList k) number m = inside-self m
 admit-more (askJournalList k) number m = inside-self m
@@ -115,6 +118,15 @@ module _ (n : ℕ) (a b : Model) (honest : ℕ → Bool) (g : legal n ≡ true) 
       follows-alike n l (addMember l (masksAt r + i) p) m (note-calm l r i p (w .1) (w .2) (omega arith)) (formed-noted l (f .holds .formed) r p i from to e)
       (note-alike l r i p (w .1) (w .2) from (omega arith)) f
 
+  -- a bundle of timeouts that was admitted, ahead of the round rule
+  bundle-follows : (l : List ℕ) (m : Model) (r mask : ℕ) → Follows n l m → numberOf (bundleRefusal l r mask) ≡ 0
+      → Follows n (addMembers l (timeoutsAt r) mask) m
+  bundle-follows l m r mask f e =
+      let w = bundle-passed l r mask e in
+      follows-alike n l (addMembers l (timeoutsAt r) mask) m (join-calm l r timeoutsKind mask (w .low) (w .high) (omega arith))
+      (formed-joined l (w .formed) r mask (w .low) (w .high) (w .small))
+      (join-alike l r timeoutsKind mask (w .low) (w .high) (omega arith) (omega arith)) f
+
   -- the round rule
   raise-follows : (l : List ℕ) (m : Model) → Follows n l m → Follows n (raiseRound l) m
   raise-follows l m f = follows-alike n l (raiseRound l) m (raise-calm l) (formed-raise l (f .holds .formed)) (raise-alike l) f
@@ -138,7 +150,7 @@ module _ (n : ℕ) (a b : Model) (honest : ℕ → Bool) (g : legal n ≡ true) 
   -- one call
   pub step : (c : Call) (l : List ℕ) (m : Model) → allowed c ≡ true → Follows n l m → Either a b m → Either a b (admit c (outcomeOf c l .number) m)
       → Follows n (outcomeOf c l .words) (admit c (outcomeOf c l .number) m)
-  unfolding takeBody takeFirstBody takeTimeout takeNoVote proposeVertex signNoVote
+  unfolding takeBody takeFirstBody takeTimeout takeNoVote takeTimeouts proposeVertex signNoVote
   step (opening k own) l m ok f i j = rw (open-no l k own (not-true _ ok)) f
   step (vertex rec) l m ok f i j = go (decided why) j
     where
@@ -168,6 +180,7 @@ module _ (n : ℕ) (a b : Model) (honest : ℕ → Bool) (g : legal n ≡ true) 
       go (inr d) j = rw (words-no why l after d, number-no why l after d, first-out rec (numberOf why) m d) f
   step (timeout r p) l m ok f i j = noted _ l _ m f (λ e. raise-follows _ m (note-follows l m r p timeoutsKind (omega arith) (omega arith) f e))
   step (noVote r p) l m ok f i j = noted _ l _ m f (note-follows l m r p noVotesKind (omega arith) (omega arith) f)
+  step (bundle r mask) l m ok f i j = noted _ l _ m f (λ e. raise-follows _ m (bundle-follows l m r mask f e))
   step status l m ok f i j = f
   step (askLeaderList k) l m ok f i j = f
   step (askJournalList k) l m ok f i j = f

@@ -24,7 +24,7 @@ use Rattle.replica.proofs.Dags.{held-vertex, held-id}
 use Rattle.replica.proofs.ParentLaws.{parent-cases, parents-intro, weak-five}
 use Rattle.record.proofs.Rounds.{round-in}
 use Rattle.ordering.specs.Calls.{sameBody, vertexQuestions, firstQuestions, takeBody, takeFirstBody}
-use Rattle.runs.specs.Call.{Call, opening, vertex, firstMessage, timeout, noVote, status, askLeaderList, askJournalList, handLeaderList}
+use Rattle.runs.specs.Call.{Call, opening, vertex, firstMessage, timeout, noVote, bundle, status, askLeaderList, askJournalList, handLeaderList}
 use Rattle.runs.specs.Call.{handJournalList, making, signing, outcomeOf, allowed, allAllowed}
 use Rattle.runs.proofs.Asked.{number-yes, past-state}
 use Rattle.agreement.specs.Model.{Model, admit, follow}
@@ -51,6 +51,7 @@ taken n m (firstMessage rec) =
 taken n m (opening k own) = not (legal k && leb own k)
 taken n m (timeout r p) = true
 taken n m (noVote r p) = true
+taken n m (bundle r mask) = true
 taken n m status = true
 taken n m (askLeaderList k) = true
 taken n m (askJournalList k) = true
@@ -147,6 +148,7 @@ module _ (n : ℕ) (l : List ℕ) (m : Model) (h : Holds n l m) where
   admit-taken (opening k own) e = refl
   admit-taken (timeout r p) e = refl
   admit-taken (noVote r p) e = refl
+  admit-taken (bundle r mask) e = refl
   admit-taken status e = refl
   admit-taken (askLeaderList k) e = refl
   admit-taken (askJournalList k) e = refl
@@ -163,6 +165,7 @@ taken-allowed n m (firstMessage rec) e = refl
 taken-allowed n m (opening k own) e = e
 taken-allowed n m (timeout r p) e = refl
 taken-allowed n m (noVote r p) e = refl
+taken-allowed n m (bundle r mask) e = refl
 taken-allowed n m status e = refl
 taken-allowed n m (askLeaderList k) e = refl
 taken-allowed n m (askJournalList k) e = refl

@@ -33,11 +33,11 @@ use Rattle.replica.proofs.Formed.{WellFormed, well-formed}
 use Rattle.replica.proofs.Opened.{opened-formed}
 use Rattle.commits.specs.Commit.{passable, highestPassable, raiseRound, appendLeader, appendLeaders, enter, enterAll, orderLeader, orderLeaders}
 use Rattle.commits.specs.Commit.{committable}
-use Rattle.ordering.specs.Calls.{sameBody, putVertex, carryTimeouts, hear}
+use Rattle.ordering.specs.Calls.{sameBody, putVertex, carryTimeouts, hear, isNew}
 use Rattle.runs.specs.Call.{Call, opening, outcomeOf, Given, nothing, givenOf, run}
 use Rattle.runs.proofs.Asked.{four, open-yes, open-taken}
 use Rattle.runs.proofs.Short.{line, listed, byList, commitBy, shortCommits, shortVertex, shortFirst, shortNote, shortList, shortSpan, shortOf, shortGiven}
-use Rattle.runs.proofs.Short.{shortRun, short-is, given-is, formed-after, run-is}
+use Rattle.runs.proofs.Short.{shortBundle, shortRun, short-is, given-is, formed-after, run-is}
 use Rattle.agreement.specs.Worked.{Seen, seen, Row, zeros, allAdmitted, ending, Passes, rows, Worked}
 use Rattle.agreement.proofs.Handing.{hand-leaders, hand-journal}
 
@@ -140,14 +140,14 @@ computed : Row → Bool × Seen
 computed x = (shortAdmitted (opened 4 watcher) (drop 1 (x .calls)), shortEnd x)
 
 ends : map computed later ≡ map (λ (x : Row). (true, x .end)) later
-unfolding later rows computed shortAdmitted shortEnd shortSeen shortOf shortGiven shortSpan spanIf shortVertex shortFirst shortNote shortList
+unfolding later rows computed shortAdmitted shortEnd shortSeen shortOf shortGiven shortSpan spanIf shortVertex shortFirst shortNote shortBundle shortList
     shortRun opened outcome legal leader
     has within meets
     firstNo strongOf timeoutsOf noVotesOf weakCountOf weakOf isRound masksOk strongOk lacksLeader quorumIf timeoutsOk noVotesOk weakIdOk rises
     slotOk weakOk signerQuestions recordQuestions
     all any count select least committed path historyUpTo chain walk vertices firsts isParent missing parentsHeld passable
     highestPassable raiseRound appendLeader appendLeaders enter enterAll orderLeader orderLeaders line listed byList commitBy shortCommits
-    committable addMember addMembers sameBody putVertex carryTimeouts hear ones onesIn
+    committable addMember addMembers sameBody putVertex carryTimeouts hear isNew ones onesIn
 ends = refl
 
 -- what is seen after an opening with answer 0

@@ -2,7 +2,7 @@
 use mathlib.Core.List.{List, [], _∷_}
 use Prim.Native.Nat.{ℕ, zero, suc}
 use Rattle.protocol.specs.Dag.{Dag, recordsOf}
-use Rattle.runs.specs.Call.{Call, opening, vertex, firstMessage, timeout, noVote}
+use Rattle.runs.specs.Call.{Call, opening, vertex, firstMessage, timeout, noVote, bundle}
 use Rattle.runs.specs.Call.{status, askLeaderList, askJournalList, handLeaderList, handJournalList, making, signing, outcomeOf}
 
 pub record Model : Type 0 where
@@ -23,6 +23,7 @@ admit (firstMessage rec) (suc number) m = m
 admit (opening n own) number m = m
 admit (timeout r p) number m = m
 admit (noVote r p) number m = m
+admit (bundle r mask) number m = m
 admit status number m = m
 admit (askLeaderList k) number m = m
 admit (askJournalList k) number m = m

@@ -6,7 +6,7 @@ use Prim.Native.Nat.{ℕ}
 use Rattle.protocol.specs.Witness.{vertexOf, firstOf, witnessDag, honest}
 use Rattle.replica.specs.Layout.{watcher}
 use Rattle.replica.specs.Opening.{opened, openState}
-use Rattle.runs.specs.Call.{Call, opening, vertex, firstMessage, timeout, noVote, status, askLeaderList, handJournalList, run, allAllowed}
+use Rattle.runs.specs.Call.{Call, opening, vertex, firstMessage, timeout, noVote, bundle, status, askLeaderList, handJournalList, run, allAllowed}
 use Rattle.agreement.specs.Model.{Model, modelOf, dagOf}
 use Rattle.agreement.specs.Claim.{Premises, leadersIn, journalIn, Agreed}
 
@@ -17,7 +17,7 @@ start = openState (opened 4 watcher) 4 watcher .words
 -- all vertices, then the first messages, with calls between them that admit no record
 unfoldable pub callsOf : Bool → List Call
 callsOf i =
-    (opening 5 watcher ∷ status ∷ timeout 1 3 ∷ [])
+    (opening 5 watcher ∷ status ∷ timeout 1 3 ∷ bundle 1 12 ∷ [])
     ++ (map vertex (vertexOf i)
     ++ ((noVote 2 0 ∷ askLeaderList 0 ∷ [])
     ++ (map firstMessage (firstOf i) ++ (handJournalList 0 ∷ []))))

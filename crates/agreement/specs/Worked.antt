@@ -10,7 +10,7 @@ use Rattle.replica.specs.Layout.{stateSize, journalAt, watcher}
 use Rattle.replica.specs.State.{currentRound, committedRound}
 use Rattle.replica.specs.Outcome.{Outcome}
 use Rattle.replica.specs.Place.{Span}
-use Rattle.runs.specs.Call.{Call, opening, vertex, firstMessage, timeout, askJournalList, handJournalList}
+use Rattle.runs.specs.Call.{Call, opening, vertex, firstMessage, timeout, bundle, askJournalList, handJournalList}
 use Rattle.runs.specs.Call.{outcomeOf, Given, nothing, part, givenOf, run}
 use Rattle.agreement.specs.Claim.{leadersIn, journalIn}
 use Rattle.record.specs.Layout.{recordWords}
@@ -158,6 +158,19 @@ rows =
     ∷ row (withoutLeader ++ vt 2 0 14 7 ∷ []) (timeout 1 3) 0 0 2 0 [] []
     ∷ row (withoutLeader ++ vt 2 0 14 7 ∷ []) (timeout 2 0) 0 0 2 0 [] []
     ∷ row withoutLeader (vt 2 1 14 7) 10 0 1 0 [] []
+    -- Request A3. Round 1 from 1, 2, 3 only, then a bundle of round 1 by 0, 1, 2: current round 2. By 0 and 1: still round 1; then by 1 and 2: current
+    -- round 2; by 0 and 1 again, or by 0 alone: 12; a timeout note from 0: 12.
+    ∷ row withoutLeader (bundle 1 7) 0 0 2 0 [] []
+    ∷ row withoutLeader (bundle 1 3) 0 0 1 0 [] []
+    ∷ row (withoutLeader ++ bundle 1 3 ∷ []) (bundle 1 6) 0 0 2 0 [] []
+    ∷ row (withoutLeader ++ bundle 1 3 ∷ []) (bundle 1 3) 12 0 1 0 [] []
+    ∷ row (withoutLeader ++ bundle 1 3 ∷ []) (bundle 1 1) 12 0 1 0 [] []
+    ∷ row (withoutLeader ++ bundle 1 3 ∷ []) (timeout 1 0) 12 0 1 0 [] []
+    -- By nobody: 12. By 0, 1 and 4: 7. Of round 33 by 0, 1, 2 and 4: 5. Of round 2 by 0, 1, 2: 0, still round 1.
+    ∷ row withoutLeader (bundle 1 0) 12 0 1 0 [] []
+    ∷ row withoutLeader (bundle 1 19) 7 0 1 0 [] []
+    ∷ row withoutLeader (bundle 33 23) 5 0 1 0 [] []
+    ∷ row withoutLeader (bundle 2 7) 0 0 1 0 [] []
     ∷ []
 
 -- THE CLAIM: every row of the table passes.

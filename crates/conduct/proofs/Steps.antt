@@ -23,7 +23,7 @@ use Rattle.proposing.specs.Signing.{signingRound, signRefusal, putOwnNoVote, si
 use Rattle.proposing.specs.Claims.{Passes}
 use Rattle.proposing.proofs.Passing.{made-passes}
 use Rattle.proposing.proofs.Kept.{marks-here, mark-here, signed-here, making-passed, signing-passed, signing-round}
-use Rattle.runs.specs.Call.{Call, opening, vertex, firstMessage, timeout, noVote, status, askLeaderList, askJournalList, handLeaderList}
+use Rattle.runs.specs.Call.{Call, opening, vertex, firstMessage, timeout, noVote, bundle, status, askLeaderList, askJournalList, handLeaderList}
 use Rattle.runs.specs.Call.{handJournalList, making, signing, outcomeOf}
 use Rattle.ordering.proofs.Turns.{outcome-zero}
 use Rattle.runs.proofs.Asked.{words-yes}
@@ -139,6 +139,7 @@ module _ (l : List ℕ) (S : WellFormed l) where
   did (firstMessage rec) = neither refl refl
   did (timeout r p) = neither refl refl
   did (noVote r p) = neither refl refl
+  did (bundle r mask) = neither refl refl
   did status = neither refl refl
   did (askLeaderList k) = neither refl refl
   did (askJournalList k) = neither refl refl

@@ -25,15 +25,15 @@ use Rattle.replica.proofs.Formed.{WellFormed}
 use Rattle.replica.proofs.Opened.{opened-size, opened-formed}
 use Rattle.commits.specs.Commit.{passable, highestPassable, raiseRound, appendLeader, appendLeaders, enter, enterAll, orderLeader, orderLeaders}
 use Rattle.commits.specs.Commit.{committable}
-use Rattle.ordering.specs.Calls.{sameBody, putVertex, carryTimeouts}
+use Rattle.ordering.specs.Calls.{sameBody, putVertex, carryTimeouts, isNew}
 use Rattle.proposing.specs.Own.{marksRound, markRound}
 use Rattle.proposing.specs.Making.{parentsIn, madeStrong, madeTimeouts, madeNoVotes, isUnreached, madeRecord, makingQuestions, proposeVertex}
 use Rattle.proposing.specs.Signing.{signingRound, maySign, putOwnNoVote}
-use Rattle.runs.specs.Call.{Call, opening, vertex, firstMessage, timeout, noVote, status, askLeaderList, askJournalList, handLeaderList}
+use Rattle.runs.specs.Call.{Call, opening, vertex, firstMessage, timeout, noVote, bundle, status, askLeaderList, askJournalList, handLeaderList}
 use Rattle.runs.specs.Call.{handJournalList, making, signing, outcomeOf, allAllowed}
 use Rattle.runs.proofs.Asked.{four, open-yes, open-taken}
 use Rattle.runs.proofs.Short.{line, listed, byList, commitBy, shortCommits, shortVertex, shortNote, shortMaking, shortMade, shortSigning, shortOf}
-use Rattle.runs.proofs.Short.{short-is, made-is, formed-after}
+use Rattle.runs.proofs.Short.{shortBundle, short-is, made-is, formed-after}
 use Rattle.conduct.specs.Made.{Made, madeBy, signedBy, allMade, roundsSigned, madeRecords}
 use Rattle.conduct.specs.Witness.{own, start, first, voting, against, calls, Witness}
 
@@ -47,6 +47,7 @@ shortRecord (vertex rec) l = []
 shortRecord (firstMessage rec) l = []
 shortRecord (timeout r p) l = []
 shortRecord (noVote r p) l = []
+shortRecord (bundle r mask) l = []
 shortRecord status l = []
 shortRecord (askLeaderList k) l = []
 shortRecord (askJournalList k) l = []
@@ -62,6 +63,7 @@ shortRound (vertex rec) l = []
 shortRound (firstMessage rec) l = []
 shortRound (timeout r p) l = []
 shortRound (noVote r p) l = []
+shortRound (bundle r mask) l = []
 shortRound status l = []
 shortRound (askLeaderList k) l = []
 shortRound (askJournalList k) l = []
@@ -93,6 +95,7 @@ module _ (l : List ℕ) (S : WellFormed l) where
   record-is (firstMessage rec) = refl
   record-is (timeout r p) = refl
   record-is (noVote r p) = refl
+  record-is (bundle r mask) = refl
   record-is status = refl
   record-is (askLeaderList k) = refl
   record-is (askJournalList k) = refl
@@ -109,6 +112,7 @@ module _ (l : List ℕ) (S : WellFormed l) where
   round-is (firstMessage rec) = refl
   round-is (timeout r p) = refl
   round-is (noVote r p) = refl
+  round-is (bundle r mask) = refl
   round-is status = refl
   round-is (askLeaderList k) = refl
   round-is (askJournalList k) = refl
@@ -150,13 +154,13 @@ both : List (List ℕ) × List ℕ
 both = (shortRecords (opened 4 own) calls, shortRounds (opened 4 own) calls)
 
 computed : both ≡ (first ∷ voting ∷ against ∷ [], 2 ∷ [])
-unfolding both shortRecords shortRounds shortRecord shortRound calls shortOf shortVertex shortNote shortMaking shortMade shortSigning opened outcome
+unfolding both shortRecords shortRounds shortRecord shortRound calls shortOf shortVertex shortNote shortBundle shortMaking shortMade shortSigning opened outcome
     legal leader has within meets
     firstNo strongOf timeoutsOf noVotesOf weakCountOf weakOf isRound masksOk strongOk lacksLeader quorumIf timeoutsOk noVotesOk weakIdOk rises
     slotOk weakOk signerQuestions recordQuestions
     all any count select least committed path historyUpTo chain walk vertices firsts isParent missing parentsHeld passable
     highestPassable raiseRound appendLeader appendLeaders enter enterAll orderLeader orderLeaders line listed byList commitBy shortCommits
-    committable addMember addMembers sameBody putVertex carryTimeouts ones onesIn
+    committable addMember addMembers sameBody putVertex carryTimeouts isNew ones onesIn
     marksRound markRound parentsIn madeStrong madeTimeouts madeNoVotes isUnreached madeRecord makingQuestions maySign putOwnNoVote
 computed = refl
 

@@ -5,7 +5,7 @@ use Prim.Native.Nat.{ℕ}
 use lib.Dec.{eqb}
 use Rattle.proposing.specs.Making.{proposeVertex}
 use Rattle.proposing.specs.Signing.{signingRound, signNoVote}
-use Rattle.runs.specs.Call.{Call, opening, vertex, firstMessage, timeout, noVote, status, askLeaderList, askJournalList, handLeaderList}
+use Rattle.runs.specs.Call.{Call, opening, vertex, firstMessage, timeout, noVote, bundle, status, askLeaderList, askJournalList, handLeaderList}
 use Rattle.runs.specs.Call.{handJournalList, making, signing, outcomeOf}
 
 -- a record that making answered with the number 0, and the words of the state that made it
@@ -21,6 +21,7 @@ madeBy (vertex rec) l = []
 madeBy (firstMessage rec) l = []
 madeBy (timeout r p) l = []
 madeBy (noVote r p) l = []
+madeBy (bundle r mask) l = []
 madeBy status l = []
 madeBy (askLeaderList k) l = []
 madeBy (askJournalList k) l = []
@@ -36,6 +37,7 @@ signedBy (vertex rec) l = []
 signedBy (firstMessage rec) l = []
 signedBy (timeout r p) l = []
 signedBy (noVote r p) l = []
+signedBy (bundle r mask) l = []
 signedBy status l = []
 signedBy (askLeaderList k) l = []
 signedBy (askJournalList k) l = []

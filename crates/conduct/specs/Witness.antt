@@ -6,7 +6,7 @@ use Prim.Native.Nat.{ℕ}
 use Rattle.record.specs.Layout.{bodyOf, recordWords}
 use Rattle.protocol.specs.Dag.{votes}
 use Rattle.replica.specs.Opening.{opened, openState}
-use Rattle.runs.specs.Call.{Call, vertex, timeout, noVote, making, signing, allAllowed}
+use Rattle.runs.specs.Call.{Call, vertex, timeout, noVote, bundle, making, signing, allAllowed}
 use Rattle.conduct.specs.Made.{madeRecords, roundsSigned}
 
 -- the word of member 2
@@ -32,12 +32,13 @@ voting = rec 2 2 15 0 0 31
 abbrev pub against : List ℕ
 against = rec 3 2 13 13 13 32
 
--- Round 1 from all four. Of round 2 the leader, member 1, is silent: the others time out, and sign no-votes.
+-- Round 1 from all four. Of round 2 the leader, member 1, is silent: the others time out, which comes as a note of member 0 and a bundle of all three,
+-- and sign no-votes.
 unfoldable pub calls : List Call
 calls =
     (making 30 ∷ vertex first ∷ vertex (rec 1 0 0 0 0 10) ∷ vertex (rec 1 1 0 0 0 11) ∷ vertex (rec 1 3 0 0 0 13) ∷ [])
     ++ ((making 31 ∷ vertex voting ∷ vertex (rec 2 0 15 0 0 20) ∷ vertex (rec 2 3 15 0 0 23) ∷ [])
-    ++ ((timeout 2 0 ∷ timeout 2 2 ∷ timeout 2 3 ∷ signing ∷ noVote 2 0 ∷ noVote 2 3 ∷ [])
+    ++ ((timeout 2 0 ∷ bundle 2 13 ∷ signing ∷ noVote 2 0 ∷ noVote 2 3 ∷ [])
     ++ (making 32 ∷ making 33 ∷ signing ∷ [])))
 
 pub record Witness : Type 0 where

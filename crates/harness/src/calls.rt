@@ -4,6 +4,7 @@ use super::output::put;
 use super::output::put_last;
 use super::output::put_list;
 use super::output::put_words;
+use ordering::bundle::take_timeouts;
 use ordering::first::take_first_message;
 use ordering::notes::take_no_vote;
 use ordering::notes::take_timeout;
@@ -77,6 +78,7 @@ fn change(state: &mut [u32], rec: &[u32], op: u32, a: u32, b: u32) {
         12 => put_answer(take_no_vote(state, a, b)),
         15 => put_proposal(propose(state, a)),
         16 => put_answer(sign_no_vote(state)),
+        17 => put_answer(take_timeouts(state, a, b)),
         _ => read(state, op, a),
     }
 }

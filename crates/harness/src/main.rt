@@ -19,6 +19,7 @@
 //   14 a b word a of the record becomes b, if the record has it
 //   15 a   makes our own vertex with the tag a
 //   16     signs our own no-vote
+//   17 a b takes the timeouts of round a by the members of the mask b
 // A call prints a line: the operation, the numbers of the answer (of asking, the number alone; of making, the words of the record too),
 // and the checksum.
 mod calls;

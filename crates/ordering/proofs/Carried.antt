@@ -18,10 +18,10 @@ use Rattle.replica.specs.State.{memberCount, heldMask, timeoutsMask, addMembers
 use Rattle.replica.specs.Parents.{parentsHeld}
 use Rattle.replica.proofs.Formed.{WellFormed}
 use Rattle.commits.specs.Commit.{raiseRound}
-use Rattle.commits.proofs.Frame.{Alike, alike-self, alike-set}
+use Rattle.commits.proofs.Frame.{Alike, alike-self}
 use Rattle.ordering.specs.Calls.{placeQuestions, vertexQuestions, putVertex, carryTimeouts}
 use Rattle.ordering.proofs.Marks.{formed-put, put-more, join-here, formed-joined}
-use Rattle.ordering.proofs.Writing.{Calm, calm-self, calm-mask, calm-then, calm-members, put-calm}
+use Rattle.ordering.proofs.Writing.{Calm, calm-self, calm-then, calm-members, join-calm, join-alike, put-calm}
 use Rattle.ordering.proofs.Turns.{record-passed, parents-passed}
 
 -- ---- the timeout mask: one word is written, or none
@@ -52,8 +52,7 @@ module _ (l : List ℕ) (r m : ℕ) where
   module _ (high : r ≤ rounds) where
     -- the lists stay
     pub carry-calm : Calm l (carryTimeouts l r m)
-    unfolding addMembers
-    carry-calm = carry-as (Calm l) (calm-self l) (λ h. calm-mask l (timeoutsAt (r - 1)) _ (omega arith) (omega arith))
+    carry-calm = carry-as (Calm l) (calm-self l) (λ h. join-calm l (r - 1) timeoutsKind m (omega arith) (omega arith) (omega arith))
 
     -- the member count, as the code has it
     pub carried-members : (n : ℕ) → n ≡ memberCount l → (o : List ℕ) → o ≡ carryTimeouts l r m → n ≡ memberCount o
@@ -61,9 +60,8 @@ module _ (l : List ℕ) (r m : ℕ) where
 
     -- the records stay
     pub carry-alike : Alike l (carryTimeouts l r m)
-    unfolding addMembers
     carry-alike = carry-as (Alike l) (alike-self l)
-        (λ h. alike-set l (timeoutsAt (r - 1)) _ (record { low = omega arith; high = omega arith; apart = λ s j a b c e. omega arith }))
+        (λ h. join-alike l (r - 1) timeoutsKind m (omega arith) (omega arith) (omega arith) (omega arith))
 
     -- the held masks stay
     pub carry-held : (s : ℕ) → 1 ≤ s → s ≤ rounds → heldMask (carryTimeouts l r m) s ≡ heldMask l s

@@ -31,14 +31,15 @@ use Rattle.replica.proofs.Formed.{WellFormed, Leaders, Journal, Led, led-append
 use Rattle.replica.proofs.Dags.{held-id, in-mask}
 use Rattle.replica.proofs.Keeping.{Keeps, front-kept, masks-kept, cells-kept, held-kept, held-id-kept}
 use Rattle.commits.specs.Commit.{taken, commit, committable, lowest, commitUpTo, commitAll, raiseRound}
-use Rattle.ordering.specs.Calls.{hear, takeBody, takeFirstBody, takeTimeout, takeNoVote, vertexQuestions}
+use Rattle.ordering.specs.Calls.{hear, takeBody, takeFirstBody, takeTimeout, takeNoVote, takeTimeouts, vertexQuestions}
 use Rattle.ordering.specs.Calls.{firstQuestions, noteRefusal}
 use Rattle.ordering.specs.Kept.{LeavesWellFormed, KeepsWellFormed}
 use Rattle.commits.proofs.Ground.{room-limit}
 use Rattle.commits.proofs.Frames.{OffLists, off-front, off-own, off-mask, off-cells}
 use Rattle.commits.proofs.Growing.{Committed, grown, leaders-fit}
 use Rattle.ordering.proofs.Turns.{outcome-words, record-passed, note-passed}
-use Rattle.ordering.proofs.Marks.{formed-raise, formed-hear, formed-note}
+use Rattle.ordering.proofs.Marks.{formed-raise, formed-hear, formed-note, formed-joined}
+use Rattle.ordering.proofs.Bundled.{bundle-passed}
 use Rattle.ordering.proofs.Carried.{written, vertex-written}
 
 -- ---- the leaders taken
@@ -191,11 +192,12 @@ module _ (l : List ℕ) (S : WellFormed l) where
 
 -- Every call keeps a well-formed state well formed.
 pub keeps : KeepsWellFormed
-unfolding takeBody takeFirstBody takeTimeout takeNoVote
+unfolding takeBody takeFirstBody takeTimeout takeNoVote takeTimeouts
 keeps l size e =
     let S = formed l size e in (
       λ r p body. leaves _ l _ S (formed-vertex l S r p body),
       λ r p body. leaves _ l _ S (formed-first l S r p body),
       λ r p. leaves _ l _ S (λ d. formed-raise _ (formed-noted l S r p timeoutsKind (omega arith) (omega arith) d)),
       λ r p. leaves _ l _ S (formed-noted l S r p noVotesKind (omega arith) (omega arith)),
+      λ r mask. leaves _ l _ S (λ d. let w = bundle-passed l r mask d in formed-raise _ (formed-joined l S r mask (w .low) (w .high) (w .small))),
     )

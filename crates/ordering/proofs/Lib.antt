@@ -1,6 +1,8 @@
+pub mod Rule
 pub mod Copying
 pub mod Missing
 pub mod Turns
+pub mod Bundled
 pub mod Writing
 pub mod Marks
 pub mod Carried
@@ -10,3 +12,4 @@ pub mod Reached
 pub mod Counts
 pub mod Heard
 pub mod Taking
+pub mod Singly

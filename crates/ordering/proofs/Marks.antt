@@ -3,7 +3,7 @@ use mathlib.Core.Path.{_≡_, refl, sym, ap, ap₂, _∙_}
 use mathlib.Core.Bool.{true, false}
 use mathlib.Core.Logic.{_⊎_, inl, inr, ⊎-elim}
 use mathlib.Core.List.{List}
-use Prim.Native.Nat.{ℕ, zero, suc, _+_, _-_, _^_, _≤_, _<_}
+use Prim.Native.Nat.{ℕ, _+_, _-_, _^_, _≤_, _<_}
 use native.Mathlib.Omega.{arith}
 use lib.Bits.{bitOr, or-lt}
 use lib.Pow.{pow-lt}
@@ -29,21 +29,12 @@ use Rattle.replica.specs.Parents.{parentsHeld}
 use Rattle.replica.proofs.Formed.{Front, Masks, Cells, WellFormed}
 use Rattle.replica.proofs.Keeping.{Keeps, keeps-set, keeps-part, parents-more, front-kept, cells-kept, held-kept, held-id-kept}
 use Rattle.replica.proofs.Keeping.{leaders-kept, journal-kept, own-same, Spare, formed-word}
-use Rattle.commits.specs.Commit.{passable, highestPassable, raiseRound}
+use Rattle.commits.specs.Commit.{highestPassable, raiseRound}
 use Rattle.ordering.specs.Calls.{putVertex, hear}
+use Rattle.ordering.proofs.Rule.{highest-high}
 use Rattle.ordering.proofs.Copying.{paste-before, paste-after, paste-part}
 
 -- ---- the current round
-
--- the highest passable round is among those asked
-highest-high : (l : List ℕ) (k : ℕ) → highestPassable l k ≤ k
-unfolding highestPassable
-highest-high l zero = omega arith
-highest-high l (suc k) = go (which (passable l (suc k))) (highest-high l k)
-  where
-    go : (passable l (suc k) ≡ true) ⊎ (passable l (suc k) ≡ false) → highestPassable l k ≤ k → highestPassable l (suc k) ≤ suc k
-    go (inl e) ih = rw e (omega arith)
-    go (inr e) ih = rw e (omega arith)
 
 pub round-spare : Spare currentRoundAt
 round-spare = record {
@@ -97,7 +88,7 @@ module _ (l : List ℕ) (at m : ℕ) (fits : at < length l) where
   unfolding addMembers
   join-here = getD-set-same l at (bitOr (getD l at 0) m) 0 fits
 
-  join-other : (j : ℕ) → (j ≡ at → ⊥) → getD (addMembers l at m) j 0 ≡ getD l j 0
+  pub join-other : (j : ℕ) → (j ≡ at → ⊥) → getD (addMembers l at m) j 0 ≡ getD l j 0
   unfolding addMembers
   join-other j h = getD-set-other l at j (bitOr (getD l at 0) m) 0 h
 
@@ -109,7 +100,7 @@ module _ (l : List ℕ) (at m : ℕ) (fits : at < length l) where
       (which (eqb j at))
 
   -- nobody is lost
-  join-more : (j q : ℕ) → has (getD l j 0) q ≡ true → has (getD (addMembers l at m) j 0) q ≡ true
+  pub join-more : (j q : ℕ) → has (getD l j 0) q ≡ true → has (getD (addMembers l at m) j 0) q ≡ true
   join-more j q h = ⊎-elim
       (λ d. let e = eqb-true j at d in rw e (rw join-here (has-or (getD l at 0) m q ∙ or-left _ (rw e at h))))
       (λ d. rw (join-other j (eqb-false j at d)) h)

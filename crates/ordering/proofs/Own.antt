@@ -3,17 +3,16 @@ use mathlib.Core.Path.{_≡_}
 use mathlib.Core.Bool.{true, false}
 use mathlib.Core.Logic.{_⊎_, inl, inr}
 use mathlib.Core.List.{List}
-use Prim.Native.Nat.{ℕ, zero, suc, _+_, _-_, _≤_, _<_}
+use Prim.Native.Nat.{ℕ, zero, suc, _+_, _-_, _^_, _≤_, _<_}
 use native.Mathlib.Omega.{arith}
 use lib.Dec.{ltb}
-use lib.ListN.{getD}
 use borrow.Author.Tests.{ltb-true}
-use Rattle.record.specs.Members.{add, rounds, votedRounds}
+use Rattle.record.specs.Members.{rounds, votedRounds}
 use Rattle.record.specs.Refusals.{numberOf, firstNo}
 use Rattle.record.specs.Layout.{timeoutsOf}
 use Rattle.record.proofs.Booleans.{which}
 use Rattle.record.proofs.Below.{least-sat}
-use Rattle.replica.specs.Layout.{masksAt, headSize, memberCountAt, currentRoundAt, ownAt, timeoutsAt, timeoutsKind, noVotesKind}
+use Rattle.replica.specs.Layout.{masksAt, headSize, memberCountAt, currentRoundAt, ownAt, timeoutsKind, noVotesKind}
 use Rattle.replica.specs.State.{currentRound, addMember, addMembers}
 use Rattle.replica.proofs.Formed.{WellFormed}
 use Rattle.replica.proofs.Keeping.{Keeps, keeps-refl, keeps-trans, keeps-less, keeps-set}
@@ -21,6 +20,7 @@ use Rattle.commits.specs.Commit.{highestPassable, raiseRound, commit, committab
 use Rattle.commits.proofs.Frames.{OffLists, off-front, off-own}
 use Rattle.commits.proofs.Growing.{grown}
 use Rattle.ordering.specs.Calls.{putVertex, carryTimeouts, hear, vertexQuestions, firstQuestions, takeBody, takeFirstBody, takeTimeout, takeNoVote}
+use Rattle.ordering.specs.Calls.{takeTimeouts}
 use Rattle.ordering.proofs.Turns.{outcome-words, record-passed}
 use Rattle.ordering.proofs.Writing.{put-head, hear-head, hear-calm}
 use Rattle.ordering.proofs.Marks.{formed-raise, formed-hear}
@@ -53,16 +53,19 @@ fixed-raise l = go (which (ltb (currentRound l) (1 + highestPassable l rounds)))
     go (inl e) = rw e (keeps-set Fixed l currentRoundAt (1 + highestPassable l rounds) (λ j k. k .not-round))
     go (inr e) = rw e (keeps-refl Fixed l)
 
--- a member in a mask
+-- the members of a mask in a mask
+fixed-joined : (l : List ℕ) (r i m : ℕ) → Keeps Fixed l (addMembers l (masksAt r + i) m)
+unfolding addMembers
+fixed-joined l r i m = keeps-set Fixed l (masksAt r + i) _ (λ j k e. omega (arith, k .head))
+
+-- one member
 pub fixed-note : (l : List ℕ) (r i p : ℕ) → Keeps Fixed l (addMember l (masksAt r + i) p)
-unfolding addMember
-fixed-note l r i p = keeps-set Fixed l (masksAt r + i) (add (getD l (masksAt r + i) 0) p) (λ j k e. omega (arith, k .head))
+unfolding addMember addMembers
+fixed-note l r i p = fixed-joined l r i (2 ^ p)
 
 -- the timeout mask of a vertex
 fixed-carried : (l : List ℕ) (r m : ℕ) → Keeps Fixed l (carryTimeouts l r m)
-unfolding addMembers
-fixed-carried l r m = carry-as l r m (Keeps Fixed l) (keeps-refl Fixed l)
-    (λ h. keeps-set Fixed l (timeoutsAt (r - 1)) _ (λ j k e. omega (arith, k .head)))
+fixed-carried l r m = carry-as l r m (Keeps Fixed l) (keeps-refl Fixed l) (λ h. fixed-joined l (r - 1) timeoutsKind m)
 
 -- all commits: the lists, their counts, the committed round and the ordered masks
 pub commits-keep : (k : ℕ) (l : List ℕ) → WellFormed l → Keeps OffLists l (commitUpTo l k)
@@ -124,6 +127,12 @@ pub timeout-fixed : (l : List ℕ) (r p : ℕ) → Keeps Fixed l (takeTimeout l 
 unfolding takeTimeout
 timeout-fixed l r p = outcome-words (Keeps Fixed l) _ l _ (keeps-refl Fixed l)
     (λ e. keeps-trans Fixed l _ _ (fixed-note l r timeoutsKind p) (fixed-raise _))
+
+-- a bundle of timeouts
+pub bundle-fixed : (l : List ℕ) (r mask : ℕ) → Keeps Fixed l (takeTimeouts l r mask .words)
+unfolding takeTimeouts
+bundle-fixed l r mask = outcome-words (Keeps Fixed l) _ l _ (keeps-refl Fixed l)
+    (λ e. keeps-trans Fixed l _ _ (fixed-joined l r timeoutsKind mask) (fixed-raise _))
 
 -- a no-vote
 pub no-vote-fixed : (l : List ℕ) (r p : ℕ) → Keeps Fixed l (takeNoVote l r p .words)

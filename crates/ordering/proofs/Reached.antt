@@ -1,66 +1,34 @@
 -- An admitted vertex leaves the current round at its own or above: the round before is passable then. Assumes nothing.
 use mathlib.Core.Path.{_≡_, refl, sym, ap, _∙_}
 use mathlib.Core.Bool.{true, false, _||_}
-use mathlib.Core.Logic.{_⊎_, inl, inr, ⊎-elim}
+use mathlib.Core.Logic.{_⊎_, inl, inr}
 use mathlib.Core.List.{List}
-use Prim.Native.Nat.{ℕ, zero, suc, _+_, _-_, _^_, _≤_, _<_}
+use Prim.Native.Nat.{ℕ, _-_, _≤_}
 use native.Mathlib.Omega.{arith}
 use lib.Dec.{ltb}
-use lib.Seq.{getD-set-same}
-use borrow.Author.Tests.{ltb-true, ltb-false, le-leb}
-use Rattle.record.specs.Below.{count}
-use Rattle.record.specs.Members.{leader, has, meets, quorum, rounds, votedRounds}
+use borrow.Author.Tests.{ltb-true, ltb-false}
+use Rattle.record.specs.Members.{leader, has, meets, rounds, votedRounds}
 use Rattle.record.specs.Refusals.{firstNo}
 use Rattle.record.specs.Layout.{roundOf, sourceOf, bodyOf, strongOf, timeoutsOf}
-use Rattle.record.proofs.Booleans.{which, never, and-left, and-both, or-left, or-right}
+use Rattle.record.proofs.Booleans.{which, and-left, and-both, or-left, or-right}
 use Rattle.record.proofs.Below.{count-mono}
-use Rattle.record.proofs.Masks.{meets-count}
 use Rattle.replica.specs.Layout.{currentRoundAt}
 use Rattle.replica.specs.State.{memberCount, currentRound, heldMask, timeoutsMask}
 use Rattle.replica.specs.Outcome.{Outcome}
-use Rattle.replica.proofs.Formed.{WellFormed}
 use Rattle.replica.proofs.Laws.{subset-has}
 use Rattle.replica.proofs.ParentLaws.{later-held}
-use Rattle.commits.specs.Commit.{passable, highestPassable, raiseRound, commitAll}
+use Rattle.commits.specs.Commit.{passable, raiseRound, commitAll}
 use Rattle.commits.proofs.Frames.{off-front}
 use Rattle.ordering.specs.Calls.{vertexQuestions, takeBody}
 use Rattle.ordering.specs.Reached.{ReachesItsRound}
 use Rattle.ordering.proofs.Turns.{outcome-zero, outcome-admitted}
 use Rattle.ordering.proofs.Writing.{calm-members}
 use Rattle.ordering.proofs.Carried.{written, VertexWritten, vertex-written}
+use Rattle.ordering.proofs.Rule.{quorum-meets, highest-least, raise-reaches}
 use Rattle.ordering.proofs.Marks.{formed-raise}
 use Rattle.ordering.proofs.Own.{commits-keep}
 
--- ---- the round rule
-
--- a passable round is at most the highest one
-highest-least : (l : List ℕ) (k q : ℕ) → 1 ≤ q → q ≤ k → passable l q ≡ true → q ≤ highestPassable l k
-unfolding highestPassable
-highest-least l zero q a b e = absurd (omega arith)
-highest-least l (suc k) q a b e = go (which (passable l (suc k))) (highest-least l k q a)
-  where
-    go : (passable l (suc k) ≡ true) ⊎ (passable l (suc k) ≡ false) → (q ≤ k → passable l q ≡ true → q ≤ highestPassable l k)
-        → q ≤ highestPassable l (suc k)
-    go (inl d) ih = rw d b
-    go (inr d) ih = rw d (⊎-elim (λ c. absurd (never-both c)) (λ c. ih (omega (arith, ltb-false k q c)) e) (which (ltb k q)))
-      where
-        never-both : ltb k q ≡ true → ⊥
-        never-both c = let same : q ≡ suc k = omega (arith, ltb-true k q c) in never (ap (passable l) (sym same) ∙ e) d
-
--- the current round is above it then
-raise-reaches : (l : List ℕ) → WellFormed l → 1 + highestPassable l rounds ≤ currentRound (raiseRound l)
-unfolding raiseRound
-raise-reaches l S = go (which (ltb (currentRound l) (1 + highestPassable l rounds)))
-  where
-    go : (ltb (currentRound l) (1 + highestPassable l rounds) ≡ true) ⊎ (ltb (currentRound l) (1 + highestPassable l rounds) ≡ false)
-        → 1 + highestPassable l rounds ≤ currentRound (raiseRound l)
-    go (inl e) = rw e (rw (getD-set-same l currentRoundAt (1 + highestPassable l rounds) 0 (omega (arith, S .size))) (omega arith))
-    go (inr e) = rw e (ltb-false (currentRound l) (1 + highestPassable l rounds) e)
-
 -- ---- an admitted vertex
-
-quorum-meets : (n m : ℕ) → m < 2 ^ n → quorum n ≤ count n (has m) → meets n m ≡ true
-quorum-meets n m small h = meets-count n m small ∙ le-leb (quorum n) (count n (has m)) h
 
 -- the round before is passable: its strong parents are held, and its leader is one of them or the timeout mask is a quorum
 module _ (l : List ℕ) (r p : ℕ) (body : List ℕ) (w : VertexWritten l r p body) (later : 2 ≤ r) where

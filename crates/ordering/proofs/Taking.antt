@@ -13,19 +13,20 @@ use Rattle.record.specs.Admitted.{Admitted}
 use Rattle.record.specs.declared.refusal.Refusal.{Refusal}
 use Rattle.record.specs.Members.{rounds, slots}
 use Rattle.replica.specs.Layout.{stateSize, masksAt, timeoutsAt, kinds, leaderCountAt, journalCountAt, timeoutsKind}
-use Rattle.replica.specs.State.{memberCount, addMember}
+use Rattle.replica.specs.State.{memberCount, addMember, addMembers}
 use Rattle.replica.specs.WellFormed.{wellFormed}
 use Rattle.replica.specs.Outcome.{Outcome, told, nothingAdded, admitted}
 use Rattle.replica.specs.declared.answer.Answer.{Answer}
 use Rattle.replica.proofs.Formed.{WellFormed, well-formed}
 use Rattle.commits.specs.Commit.{raiseRound, commitAll}
 use Rattle.ordering.specs.Calls.{vertexQuestions, putVertex, carryTimeouts, takeBody, takeVertex, firstQuestions, hear}
-use Rattle.ordering.specs.Calls.{takeFirstBody, takeFirstMessage, noteRefusal, takeNote, takeTimeout}
+use Rattle.ordering.specs.Calls.{takeFirstBody, takeFirstMessage, noteRefusal, takeNote, takeTimeout, bundleRefusal, takeTimeouts}
 use Rattle.ordering.proofs.Turns.{outcome-zero, outcome-refused, outcome-admitted, record-passed, note-passed}
 use Rattle.ordering.proofs.Heard.{hear-body}
 use Rattle.ordering.proofs.Counts.{same-growth, no-growth}
-use Rattle.ordering.proofs.Writing.{Calm, calm-then, raise-calm, hear-calm, note-calm}
-use Rattle.ordering.proofs.Marks.{formed-raise, formed-hear}
+use Rattle.ordering.proofs.Writing.{Calm, calm-then, raise-calm, hear-calm, note-calm, join-calm}
+use Rattle.ordering.proofs.Marks.{formed-raise, formed-hear, formed-joined}
+use Rattle.ordering.proofs.Bundled.{bundle-passed}
 use Rattle.ordering.proofs.Carried.{written, VertexWritten, vertex-written}
 
 -- an answer with a refusal, where the words stay
@@ -37,7 +38,7 @@ calm-growth : {l m : List ℕ} → Calm l m → (after : List ℕ) → admitted 
 calm-growth {l} {m} C after = same-growth l m after (C .head leaderCountAt (omega arith) (λ e. omega arith))
     (C .head journalCountAt (omega arith) (λ e. omega arith))
 
-calm-still : {l m : List ℕ} → Calm l m → record { number = 0; id = 0; leaders = 0; journal = 0; words = m } ≡ admitted l m
+pub calm-still : {l m : List ℕ} → Calm l m → record { number = 0; id = 0; leaders = 0; journal = 0; words = m } ≡ admitted l m
 calm-still {l} {m} C = no-growth l m (C .head leaderCountAt (omega arith) (λ e. omega arith)) (C .head journalCountAt (omega arith) (λ e. omega arith))
 
 calm-count : {l m : List ℕ} → Calm l m → memberCount l ≡ memberCount m
@@ -219,4 +220,34 @@ module _ (l : List ℕ) (r p : ℕ) (a : Answer) (m : List ℕ) (e : told a m �
         done = λ o g. rw g (ap
             (λ (t : Outcome). record { number = t .number; id = t .id; leaders = t .leaders; journal = t .journal; words = raiseRound (t .words) }) d
             ∙ calm-still (calm-then (k .calm) (raise-calm noted)) ∙ outcome-admitted why why l _ refl h);
+      }
+
+-- ---- a bundle of timeouts
+
+-- what each later step may use of a bundle that no question stopped
+pub record BundleTaken (l : List ℕ) (r mask : ℕ) : Type 0 where
+  pub formed : WellFormed l
+  pub low : 1 ≤ r
+  pub high : r ≤ rounds
+  pub joined : (at : ℕ) (m : List ℕ) → at ≡ masksAt r → m ≡ addMembers l (at + timeoutsKind) mask → Ready (memberCount m) m
+  pub done : (at : ℕ) (m o : List ℕ) → at ≡ masksAt r → m ≡ addMembers l (at + timeoutsKind) mask → o ≡ raiseRound m
+      → record { number = 0; id = 0; leaders = 0; journal = 0; words = o } ≡ takeTimeouts l r mask
+
+module _ (l : List ℕ) (r mask : ℕ) (why : Refusal) (e : why ≡ bundleRefusal l r mask) (x : ℕ) (f : x ≡ numberOf why) where
+  pub bundle-refused : (x ≡ 0 → ⊥) → (a : Answer) → a ≡ nothingAdded why → told a l ≡ takeTimeouts l r mask
+  unfolding takeTimeouts
+  bundle-refused h a d = told-refused l a why d ∙ outcome-refused why _ l _ e (λ z. h (f ∙ z))
+
+  pub bundle-taken : x ≡ 0 → BundleTaken l r mask
+  unfolding takeTimeouts
+  bundle-taken z =
+      let h : numberOf why ≡ 0 = sym f ∙ z in
+      let w = bundle-passed l r mask (sym (ap numberOf e) ∙ h) in
+      let C = join-calm l r timeoutsKind mask (w .low) (w .high) (omega arith) in
+      record {
+        formed = w .formed;
+        low = w .low;
+        high = w .high;
+        joined = λ at m a d. rw (d, a) (ready _ _ (formed-joined l (w .formed) r mask (w .low) (w .high) (w .small)) refl);
+        done = λ at m o a d g. rw (g, d, a) (calm-still (calm-then C (raise-calm _)) ∙ outcome-admitted why _ l _ e h);
       }

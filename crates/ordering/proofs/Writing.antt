@@ -18,7 +18,7 @@ use Rattle.protocol.specs.Dag.{present, votes}
 use Rattle.replica.specs.Layout.{journalSize, cellsAt, leaderCountAt, journalCountAt, timeoutsKind, currentRoundAt, ownAt}
 use Rattle.replica.specs.Layout.{masksAt, heldAt, heardAt, votesAt, cellAt, stateSize, headSize, kinds, leadersAt, leadersSize, journalAt}
 use Rattle.replica.specs.State.{memberCount, currentRound, committedRound, leaderCount, journalCount, heldMask, heardMask, votesMask, leaderList}
-use Rattle.replica.specs.State.{journalList, cell, vertices, firsts, addMember}
+use Rattle.replica.specs.State.{journalList, cell, vertices, firsts, addMember, addMembers}
 use Rattle.replica.proofs.Keeping.{Keeps, keeps-part, vertices-kept, Spare}
 use Rattle.commits.specs.Commit.{highestPassable, raiseRound}
 use Rattle.ordering.specs.Calls.{putVertex, hear}
@@ -134,17 +134,27 @@ raise-alike l = go (which (ltb (currentRound l) (1 + highestPassable l rounds)))
     go (inl e) = rw e (alike-set l 1 (1 + highestPassable l rounds) (loose-head 1 (omega arith) (omega arith)))
     go (inr e) = rw e (alike-self l)
 
--- a member in the timeouts or in the no-votes of round r
-module _ (l : List ℕ) (r i p : ℕ) (low : 1 ≤ r) (high : r ≤ rounds) where
+-- the members of a mask in the timeouts or in the no-votes of round r
+module _ (l : List ℕ) (r i m : ℕ) (low : 1 ≤ r) (high : r ≤ rounds) where
   -- the lists stay
-  pub note-calm : i < kinds → Calm l (addMember l (masksAt r + i) p)
-  unfolding addMember
-  note-calm h = calm-mask l (masksAt r + i) _ (omega arith) (omega arith)
+  pub join-calm : i < kinds → Calm l (addMembers l (masksAt r + i) m)
+  unfolding addMembers
+  join-calm h = calm-mask l (masksAt r + i) _ (omega arith) (omega arith)
 
   -- the records stay
+  pub join-alike : timeoutsKind ≤ i → i < kinds → Alike l (addMembers l (masksAt r + i) m)
+  unfolding addMembers
+  join-alike h k = alike-set l (masksAt r + i) _ (record { low = omega arith; high = omega arith; apart = λ s j a b c e. omega arith })
+
+-- and one member
+module _ (l : List ℕ) (r i p : ℕ) (low : 1 ≤ r) (high : r ≤ rounds) where
+  pub note-calm : i < kinds → Calm l (addMember l (masksAt r + i) p)
+  unfolding addMember addMembers
+  note-calm = join-calm l r i (2 ^ p) low high
+
   pub note-alike : timeoutsKind ≤ i → i < kinds → Alike l (addMember l (masksAt r + i) p)
-  unfolding addMember
-  note-alike h k = alike-set l (masksAt r + i) _ (record { low = omega arith; high = omega arith; apart = λ s j a b c e. omega arith })
+  unfolding addMember addMembers
+  note-alike = join-alike l r i (2 ^ p) low high
 
 -- ---- a first message
 

@@ -1,20 +1,20 @@
--- The calls that admit something: a vertex, a first message, a timeout, a no-vote.
+-- The calls that admit something: a vertex, a first message, a timeout, a no-vote, a bundle of timeouts.
 use mathlib.Core.Bool.{Bool, cond, not, _&&_}
 use mathlib.Core.List.{List, [], _∷_, _++_}
 use Prim.Native.Nat.{ℕ, _+_, _-_}
 use lib.Dec.{eqb, ltb}
 use lib.ListN.{getD}
 use lib.Seq.{paste}
-use Rattle.record.specs.Below.{all, least}
-use Rattle.record.specs.Members.{has, idLimit}
+use Rattle.record.specs.Below.{all, any, least}
+use Rattle.record.specs.Members.{isRound, has, within, idLimit}
 use Rattle.record.specs.Refusals.{Question, firstNo}
 use Rattle.record.specs.Layout.{bodySize, roundOf, sourceOf, bodyOf, timeoutsOf}
 use Rattle.record.specs.Questions.{signerQuestions, recordQuestions}
 use Rattle.record.specs.declared.refusal.Refusal.{Refusal}
-use Rattle.record.specs.declared.refusal.Refusal.the-variants.{Duplicate, Conflict, MissingParent}
+use Rattle.record.specs.declared.refusal.Refusal.the-variants.{Round, MaskBits, Duplicate, Conflict, MissingParent}
 use Rattle.protocol.specs.Dag.{votes}
 use Rattle.replica.specs.Layout.{heldAt, heardAt, votesAt, timeoutsAt, cellAt, timeoutsKind, noVotesKind, maskAt}
-use Rattle.replica.specs.State.{memberCount, heldMask, heardMask, addMember, addMembers, maskOf}
+use Rattle.replica.specs.State.{memberCount, heldMask, heardMask, timeoutsMask, addMember, addMembers, maskOf}
 use Rattle.replica.specs.Parents.{missing, parentsHeld}
 use Rattle.replica.specs.Outcome.{Outcome, outcome}
 use Rattle.replica.specs.Status.{stateQuestions}
@@ -94,3 +94,24 @@ takeTimeout l r p = outcome (noteRefusal l r p timeoutsKind) l (raiseRound (addM
 
 unfoldable pub takeNoVote : List ℕ → ℕ → ℕ → Outcome
 takeNoVote l r p = takeNote l r p noVotesKind
+
+-- ---- a bundle: the timeouts of one round by the members of a mask
+
+-- p is in the mask, and not yet in the timeouts of round r
+unfoldable pub isNew : List ℕ → ℕ → ℕ → ℕ → Bool
+isNew l r mask p = has mask p && not (has (timeoutsMask l r) p)
+
+-- 5, 7, and 12 if nobody is new
+abbrev pub bundleQuestions : List ℕ → ℕ → ℕ → List Question
+bundleQuestions l r mask =
+    (isRound r, Round)
+    ∷ (within (memberCount l) mask, MaskBits)
+    ∷ (any (memberCount l) (isNew l r mask), Duplicate)
+    ∷ []
+
+abbrev pub bundleRefusal : List ℕ → ℕ → ℕ → Refusal
+bundleRefusal l r mask = firstNo (stateQuestions l ++ bundleQuestions l r mask)
+
+-- the whole mask joins the timeouts of the round, and then comes the round rule
+unfoldable pub takeTimeouts : List ℕ → ℕ → ℕ → Outcome
+takeTimeouts l r mask = outcome (bundleRefusal l r mask) l (raiseRound (addMembers l (timeoutsAt r) mask))

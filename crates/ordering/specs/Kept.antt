@@ -7,7 +7,7 @@ use lib.ListN.{length}
 use Rattle.replica.specs.Layout.{stateSize}
 use Rattle.replica.specs.WellFormed.{wellFormed}
 use Rattle.replica.specs.Outcome.{Outcome}
-use Rattle.ordering.specs.Calls.{takeBody, takeFirstBody, takeTimeout, takeNoVote}
+use Rattle.ordering.specs.Calls.{takeBody, takeFirstBody, takeTimeout, takeNoVote, takeTimeouts}
 
 -- the words afterwards are as many as a state has, and well formed
 abbrev pub LeavesWellFormed : Outcome → Type 0
@@ -20,3 +20,4 @@ KeepsWellFormed = (l : List ℕ) → length l ≡ stateSize → wellFormed l ≡
     × ((r p : ℕ) (body : List ℕ) → LeavesWellFormed (takeFirstBody l r p body))
     × ((r p : ℕ) → LeavesWellFormed (takeTimeout l r p))
     × ((r p : ℕ) → LeavesWellFormed (takeNoVote l r p))
+    × ((r mask : ℕ) → LeavesWellFormed (takeTimeouts l r mask))

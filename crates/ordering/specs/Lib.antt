@@ -1,4 +1,5 @@
 pub mod Calls
+pub mod Bundle
 pub mod Kept
 pub mod Reached
 pub mod Inner

@@ -11,12 +11,12 @@ use Rattle.replica.specs.State.{memberCount, currentRound, ownWord, madeRounds,
 use Rattle.replica.proofs.Formed.{WellFormed}
 use Rattle.replica.proofs.Keeping.{Keeps, keeps-refl}
 use Rattle.ordering.proofs.Turns.{outcome-words}
-use Rattle.ordering.proofs.Own.{Fixed, fixed-members, fixed-own, vertex-fixed, first-fixed, timeout-fixed, no-vote-fixed}
+use Rattle.ordering.proofs.Own.{Fixed, fixed-members, fixed-own, vertex-fixed, first-fixed, timeout-fixed, no-vote-fixed, bundle-fixed}
 use Rattle.proposing.specs.Own.{marksRound, wasMade, wasSigned, markRound}
 use Rattle.proposing.specs.Making.{proposeVertex}
 use Rattle.proposing.specs.Signing.{signingRound, putOwnNoVote, signNoVote}
 use Rattle.proposing.proofs.Kept.{marks-more, mark-here, mark-other, signed-here, signed-other}
-use Rattle.runs.specs.Call.{Call, opening, vertex, firstMessage, timeout, noVote, status, askLeaderList, askJournalList, handLeaderList}
+use Rattle.runs.specs.Call.{Call, opening, vertex, firstMessage, timeout, noVote, bundle, status, askLeaderList, askJournalList, handLeaderList}
 use Rattle.runs.specs.Call.{handJournalList, making, signing, outcomeOf, allowed}
 use Rattle.runs.proofs.Asked.{open-no}
 
@@ -95,6 +95,7 @@ module _ (l : List ℕ) (S : WellFormed l) where
   own-kept (firstMessage rec) ok = all-kept (firstMessage rec) l _ (first-fixed l S _ _ _)
   own-kept (timeout r p) ok = all-kept (timeout r p) l _ (timeout-fixed l r p)
   own-kept (noVote r p) ok = all-kept (noVote r p) l _ (no-vote-fixed l r p)
+  own-kept (bundle r mask) ok = all-kept (bundle r mask) l _ (bundle-fixed l r mask)
   own-kept status ok = none-changed status l
   own-kept (askLeaderList k) ok = none-changed (askLeaderList k) l
   own-kept (askJournalList k) ok = none-changed (askJournalList k) l

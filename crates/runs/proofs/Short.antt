@@ -22,7 +22,7 @@ use Rattle.protocol.specs.Chain.{chain}
 use Rattle.protocol.proofs.Laws.{records-ext}
 use Rattle.replica.specs.Layout.{stateSize, timeoutsAt, noVotesAt, leadersAt, journalAt, madeAt}
 use Rattle.replica.specs.State.{memberCount, currentRound, committedRound, leaderCount, journalCount, heardMask, timeoutsMask, noVotesMask}
-use Rattle.replica.specs.State.{addMember, vertices}
+use Rattle.replica.specs.State.{addMember, addMembers, vertices}
 use Rattle.replica.specs.WellFormed.{wellFormed}
 use Rattle.replica.specs.Outcome.{Outcome, unchanged, outcome}
 use Rattle.replica.specs.Opening.{opened, openState}
@@ -33,14 +33,14 @@ use Rattle.replica.specs.declared.answer.Status.{Status}
 use Rattle.replica.proofs.Formed.{WellFormed, formed, well-formed}
 use Rattle.replica.proofs.Opened.{opened-formed}
 use Rattle.commits.specs.Commit.{raiseRound, appendLeaders, orderLeaders, commit, lowest, commitUpTo}
-use Rattle.ordering.specs.Calls.{placeQuestions, takeBody, hear, takeFirstBody, takeTimeout, takeNoVote}
+use Rattle.ordering.specs.Calls.{placeQuestions, takeBody, hear, takeFirstBody, takeTimeout, takeNoVote, bundleQuestions, takeTimeouts}
 use Rattle.ordering.proofs.Carried.{written}
 use Rattle.ordering.proofs.Kept.{keeps}
 use Rattle.proposing.specs.Own.{isMember, markRound}
 use Rattle.proposing.specs.Making.{makingQuestions, madeRecord, noRecord, proposeVertex}
 use Rattle.proposing.specs.Signing.{signingRound, signingQuestions, putOwnNoVote, signNoVote}
 use Rattle.proposing.proofs.Kept.{own-keeps}
-use Rattle.runs.specs.Call.{Call, opening, vertex, firstMessage, timeout, noVote, status, askLeaderList, askJournalList, handLeaderList}
+use Rattle.runs.specs.Call.{Call, opening, vertex, firstMessage, timeout, noVote, bundle, status, askLeaderList, askJournalList, handLeaderList}
 use Rattle.runs.specs.Call.{handJournalList, making, signing, reading, outcomeOf, Given, nothing, head, part, made, givenOf, run}
 use Rattle.runs.proofs.Asked.{open-yes, open-no, open-taken, past-state}
 
@@ -113,6 +113,10 @@ shortFirst l rec =
 unfoldable pub shortNote : List ℕ → ℕ → ℕ → ℕ → Refusal
 shortNote l r p mask = firstNo (signerQuestions (memberCount l) r p ++ ((not (has mask p), Duplicate) ∷ []))
 
+-- of a bundle of timeouts
+unfoldable pub shortBundle : List ℕ → ℕ → ℕ → Refusal
+shortBundle l r mask = firstNo (bundleQuestions l r mask)
+
 -- of asking for entries k and on of a list of so many
 unfoldable pub shortList : ℕ → ℕ → Refusal
 shortList k size = firstNo ((leb k size, PastEnd) ∷ [])
@@ -139,6 +143,7 @@ shortOf (vertex rec) l = outcome (shortVertex l rec) l (shortCommits (raiseRound
 shortOf (firstMessage rec) l = outcome (shortFirst l rec) l (shortCommits (hear l (roundOf rec) (sourceOf rec) (bodyOf rec)) 31)
 shortOf (timeout r p) l = outcome (shortNote l r p (timeoutsMask l r)) l (raiseRound (addMember l (timeoutsAt r) p))
 shortOf (noVote r p) l = outcome (shortNote l r p (noVotesMask l r)) l (addMember l (noVotesAt r) p)
+shortOf (bundle r mask) l = outcome (shortBundle l r mask) l (raiseRound (addMembers l (timeoutsAt r) mask))
 shortOf status l = reading 0 l
 shortOf (askLeaderList k) l = unchanged (shortList k (leaderCount l)) l
 shortOf (askJournalList k) l = unchanged (shortList k (journalCount l)) l
@@ -154,6 +159,7 @@ shortGiven (vertex rec) l = nothing
 shortGiven (firstMessage rec) l = nothing
 shortGiven (timeout r p) l = nothing
 shortGiven (noVote r p) l = nothing
+shortGiven (bundle r mask) l = nothing
 shortGiven status l = head (statusOf l)
 shortGiven (askLeaderList k) l = nothing
 shortGiven (askJournalList k) l = nothing
@@ -185,13 +191,14 @@ module _ (l : List ℕ) (S : WellFormed l) where
 
   -- the outcomes are those of the calls
   pub short-is : (c : Call) → outcomeOf c l ≡ shortOf c l
-  unfolding shortOf shortVertex shortFirst shortNote shortList shortMaking shortSigning openState takeBody takeFirstBody takeTimeout takeNoVote
-      proposeVertex signNoVote
+  unfolding shortOf shortVertex shortFirst shortNote shortBundle shortList shortMaking shortSigning openState takeBody takeFirstBody takeTimeout
+      takeNoVote takeTimeouts proposeVertex signNoVote
   short-is (opening n own) = ap (λ (why : Refusal). outcome why l (opened n own)) (sym (next _ _ (eq-eqb (length l) stateSize (S .size)) refl))
   short-is (vertex rec) = past _ _ ∙ ap (outcome (shortVertex l rec) l) (commits-are 31 _)
   short-is (firstMessage rec) = past _ _ ∙ ap (outcome (shortFirst l rec) l) (commits-are 31 _)
   short-is (timeout r p) = past _ _
   short-is (noVote r p) = past _ _
+  short-is (bundle r mask) = past _ _
   short-is status = ap (λ (x : ℕ). reading x l) (status-number (firstNo (stateQuestions l)) l ∙ ap numberOf (sym (past-state l [] S) ∙ sym done))
   short-is (askLeaderList k) = past-asking _
   short-is (askJournalList k) = past-asking _
@@ -213,6 +220,7 @@ module _ (l : List ℕ) (S : WellFormed l) where
   given-is (firstMessage rec) = refl
   given-is (timeout r p) = refl
   given-is (noVote r p) = refl
+  given-is (bundle r mask) = refl
   given-is status = refl
   given-is (askLeaderList k) = refl
   given-is (askJournalList k) = refl
@@ -240,6 +248,7 @@ module _ (l : List ℕ) (S : WellFormed l) where
   formed-after (firstMessage rec) = formed-kept _ (keeps l (S .size) (well-formed l S) .1 _ _ _)
   formed-after (timeout r p) = formed-kept _ (keeps l (S .size) (well-formed l S) .2 r p)
   formed-after (noVote r p) = formed-kept _ (keeps l (S .size) (well-formed l S) .3 r p)
+  formed-after (bundle r mask) = formed-kept _ (keeps l (S .size) (well-formed l S) .4 r mask)
   formed-after status = S
   formed-after (askLeaderList k) = S
   formed-after (askJournalList k) = S

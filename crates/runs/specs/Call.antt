@@ -11,7 +11,7 @@ use Rattle.replica.specs.Status.{statusOf}
 use Rattle.replica.specs.Place.{Span, wordsIn}
 use Rattle.replica.specs.Lists.{askLeaders, askJournal, handLeaders, handJournal}
 use Rattle.replica.specs.declared.answer.Status.{Status}
-use Rattle.ordering.specs.Calls.{takeVertex, takeFirstMessage, takeTimeout, takeNoVote}
+use Rattle.ordering.specs.Calls.{takeVertex, takeFirstMessage, takeTimeout, takeNoVote, takeTimeouts}
 use Rattle.proposing.specs.Making.{proposeVertex}
 use Rattle.proposing.specs.Signing.{signNoVote}
 
@@ -22,6 +22,7 @@ pub data Call : Type 0 where
   firstMessage : List ℕ → Call
   timeout : ℕ → ℕ → Call
   noVote : ℕ → ℕ → Call
+  bundle : ℕ → ℕ → Call
   status : Call
   askLeaderList : ℕ → Call
   askJournalList : ℕ → Call
@@ -41,6 +42,7 @@ outcomeOf (vertex rec) l = takeVertex l rec
 outcomeOf (firstMessage rec) l = takeFirstMessage l rec
 outcomeOf (timeout r p) l = takeTimeout l r p
 outcomeOf (noVote r p) l = takeNoVote l r p
+outcomeOf (bundle r mask) l = takeTimeouts l r mask
 outcomeOf status l = reading (numberOf (statusOf l .refusal)) l
 outcomeOf (askLeaderList k) l = askLeaders l k
 outcomeOf (askJournalList k) l = askJournal l k
@@ -62,6 +64,7 @@ givenOf (vertex rec) l = nothing
 givenOf (firstMessage rec) l = nothing
 givenOf (timeout r p) l = nothing
 givenOf (noVote r p) l = nothing
+givenOf (bundle r mask) l = nothing
 givenOf status l = head (statusOf l)
 givenOf (askLeaderList k) l = nothing
 givenOf (askJournalList k) l = nothing
@@ -82,6 +85,7 @@ allowed (vertex rec) = true
 allowed (firstMessage rec) = true
 allowed (timeout r p) = true
 allowed (noVote r p) = true
+allowed (bundle r mask) = true
 allowed status = true
 allowed (askLeaderList k) = true
 allowed (askJournalList k) = true

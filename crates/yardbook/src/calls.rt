@@ -6,7 +6,7 @@ ghost use Rattle.replica.specs.Layout.{leaderCountAt, journalCountAt, journalAt
 ghost use Rattle.replica.specs.Opening.{openState};
 ghost use Rattle.replica.specs.Status.{statusOf};
 ghost use Rattle.replica.specs.Lists.{askList, askLeaders, askJournal, handList, handLeaders, handJournal};
-ghost use Rattle.ordering.specs.Calls.{takeVertex, takeFirstMessage, takeTimeout, takeNoVote};
+ghost use Rattle.ordering.specs.Calls.{takeVertex, takeFirstMessage, takeTimeout, takeNoVote, takeTimeouts};
 ghost use Rattle.proposing.specs.Making.{proposeVertex};
 ghost use Rattle.proposing.specs.Signing.{signNoVote};
 ghost use Rattle.yardbook.specs.Plain.{plain, proposed, statusPlain, spanOf};
@@ -17,6 +17,7 @@ use super::answer::Status;
 use super::answer::plain_answer;
 use super::answer::plain_proposal;
 use super::answer::plain_status;
+use ordering::bundle::take_timeouts;
 use ordering::first::take_first_message;
 use ordering::notes::take_no_vote;
 use ordering::notes::take_timeout;
@@ -65,6 +66,13 @@ pub extern "C" fn yardbook_take_no_vote(state: &mut [u32], round: u32, signer: u
     ensures { λ r. ⌜ plain r (now (state .exit)) ≡ takeNoVote (now (state .entry)) round signer ⌝ }
 {
     plain_answer(take_no_vote(state, round, signer))
+}
+
+#[no_mangle]
+pub extern "C" fn yardbook_take_timeouts(state: &mut [u32], round: u32, mask: u32) -> Answer
+    ensures { λ r. ⌜ plain r (now (state .exit)) ≡ takeTimeouts (now (state .entry)) round mask ⌝ }
+{
+    plain_answer(take_timeouts(state, round, mask))
 }
 
 #[no_mangle]

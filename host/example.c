@@ -1,15 +1,18 @@
-// Runs four groups of four members. A watcher follows the first three and prints what sheetlog prints for the same calls: for a
-// call its number and the status, and at the end the leader list and the journal. The fourth is run by its four members, which
-// propose and sign: it prints what they send, as lines of sheetlog's input, and at the end each member's lists.
+// Runs five groups of four members. A watcher follows the first four and prints for a call its number and the status, and at the
+// end the leader list and the journal: of the first three what sheetlog prints for the same calls; the fourth has bundles of
+// timeouts, for which sheetlog has no line. The fifth is run by its four members, which propose and sign: it prints what they send,
+// as lines of sheetlog's input, and at the end each member's lists.
 #include <stdbool.h>
 #include <stdio.h>
 #include <stdlib.h>
+#include <string.h>
 
 #include "yardbook.h"
 
 enum { members = 4 };
 
 static uint32_t state[YARDBOOK_STATE_WORDS];           // the watcher's
+static uint32_t singly[YARDBOOK_STATE_WORDS];          // another watcher's, which gets single timeouts in place of bundles
 static uint32_t states[members][YARDBOOK_STATE_WORDS]; // the members'
 
 static void print_answer(yardbook_answer answer) {
@@ -56,6 +59,10 @@ static void first_message(record r) {
 
 static void timeout(uint32_t round, uint32_t signer) {
     print_answer(yardbook_take_timeout(state, YARDBOOK_STATE_WORDS, round, signer));
+}
+
+static void bundle(uint32_t round, uint32_t mask) {
+    print_answer(yardbook_take_timeouts(state, YARDBOOK_STATE_WORDS, round, mask));
 }
 
 // Opens the group and takes three vertices of round 1, from member `first` on.
@@ -113,6 +120,23 @@ static void must_hold(bool holds, const char *what) {
     exit(1);
 }
 
+// Round 1 lacks its leader's vertex, and its timeouts come in bundles. Members 1 and 2, bundled, are no quorum. Member 2 alone
+// and the same bundle again are known then, and a bundle with member 4, which is none of the group, is refused as a whole. The
+// last bundle has members 1 and 2 once more, and with member 3 the watcher is in round 2. Single timeouts of the three end in the
+// same words.
+static void watch_bundle(void) {
+    open_group(1);
+    memcpy(singly, state, sizeof state);
+    bundle(1, 6);
+    timeout(1, 2);
+    bundle(1, 6);
+    bundle(1, 30);
+    bundle(1, 14);
+    print_lists(state);
+    for (uint32_t signer = 1; signer < members; signer++) must(yardbook_take_timeout(singly, YARDBOOK_STATE_WORDS, 1, signer));
+    must_hold(memcmp(singly, state, sizeof state) == 0, "single timeouts end in the bundles' words");
+}
+
 static uint32_t current_round(uint32_t member) {
     return yardbook_status(states[member], YARDBOOK_STATE_WORDS).current_round;
 }
@@ -136,11 +160,17 @@ static void send_record(yardbook_proposal made) {
 // Whether a timeout or no-vote arrives. The others' are lost on their way to member 1.
 static bool arrives(uint32_t signer, uint32_t member) { return member != 1 || signer == 1; }
 
-// The signer's timer for the round has run out.
+// The signer's timer for the round has run out. Member 0 gets those of the others in a bundle.
 static void send_timeout(uint32_t round, uint32_t signer) {
     printf("T %u %u\n", round, signer);
     for (uint32_t p = 0; p < members; p++)
-        if (arrives(signer, p)) must(yardbook_take_timeout(states[p], YARDBOOK_STATE_WORDS, round, signer));
+        if (p == signer || (p != 0 && arrives(signer, p)))
+            must(yardbook_take_timeout(states[p], YARDBOOK_STATE_WORDS, round, signer));
+}
+
+// Member 0's transport hands over all timeouts of the round as one mask. Its own is known already.
+static void hand_bundle(uint32_t round, uint32_t mask) {
+    must(yardbook_take_timeouts(states[0], YARDBOOK_STATE_WORDS, round, mask));
 }
 
 // Signs against the leader of the round, the one before the signer's current round. Signing has set the signer's own bit.
@@ -165,13 +195,14 @@ static void run_round(uint32_t round) {
     for (uint32_t p = 0; p < members; p++) send_record(made[p]);
 }
 
-// Round 3 without its leader's record, which is returned. The others time out. Members 0 and 3 get all three timeouts and sign
-// no-votes.
+// Round 3 without its leader's record, which is returned. The others time out. Members 0 and 3 get all three timeouts, member 0 in
+// a bundle, and sign no-votes.
 static yardbook_proposal run_round_3(void) {
     static const uint32_t others[] = {0, 1, 3};
     const yardbook_proposal late = propose(2, 32);
     for (int i = 0; i < 3; i++) send_record(propose(others[i], 30 + others[i]));
     for (int i = 0; i < 3; i++) send_timeout(3, others[i]);
+    hand_bundle(3, 11);
     send_no_vote(3, 0);
     send_no_vote(3, 3);
     return late;
@@ -212,6 +243,7 @@ int main(void) {
     watch_sample();
     watch_two_leaders();
     watch_carried();
+    watch_bundle();
     run_members();
     return 0;
 }

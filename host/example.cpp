@@ -1,6 +1,7 @@
-// Runs four groups of four members. A watcher follows the first three and prints what sheetlog prints for the same calls: for a
-// call its number and the status, and at the end the leader list and the journal. The fourth is run by its four members, which
-// propose and sign: it prints what they send, as lines of sheetlog's input, and at the end each member's lists.
+// Runs five groups of four members. A watcher follows the first four and prints for a call its number and the status, and at the
+// end the leader list and the journal: of the first three what sheetlog prints for the same calls; the fourth has bundles of
+// timeouts, for which sheetlog has no line. The fifth is run by its four members, which propose and sign: it prints what they send,
+// as lines of sheetlog's input, and at the end each member's lists.
 #include <array>
 #include <cstdio>
 #include <cstdlib>
@@ -41,6 +42,8 @@ public:
     void vertex(const yardbook::Record& r) { print_answer(yardbook::take_vertex(state_, r)); }
     void first_message(const yardbook::Record& r) { print_answer(yardbook::take_first_message(state_, r)); }
     void timeout(std::uint32_t round, std::uint32_t signer) { print_answer(yardbook::take_timeout(state_, round, signer)); }
+    void bundle(std::uint32_t round, std::uint32_t mask) { print_answer(yardbook::take_timeouts(state_, round, mask)); }
+    const yardbook::State& state() const { return state_; }
     void print_lists() const { ::print_lists(state_); }
 
 private:
@@ -100,6 +103,23 @@ void must_hold(bool holds, const char* what) {
     std::exit(1);
 }
 
+// Round 1 lacks its leader's vertex, and its timeouts come in bundles. Members 1 and 2, bundled, are no quorum. Member 2 alone
+// and the same bundle again are known then, and a bundle with member 4, which is none of the group, is refused as a whole. The
+// last bundle has members 1 and 2 once more, and with member 3 the watcher is in round 2. Single timeouts of the three end in the
+// same words.
+void watch_bundle() {
+    Watched group(1);
+    yardbook::State singly = group.state();
+    group.bundle(1, 6);
+    group.timeout(1, 2);
+    group.bundle(1, 6);
+    group.bundle(1, 30);
+    group.bundle(1, 14);
+    group.print_lists();
+    for (const std::uint32_t signer : {1u, 2u, 3u}) must(yardbook::take_timeout(singly, 1, signer));
+    must_hold(singly == group.state(), "single timeouts end in the bundles' words");
+}
+
 // Whether a timeout or no-vote arrives. The others' are lost on their way to member 1.
 bool arrives(std::uint32_t signer, std::uint32_t member) { return member != 1 || signer == 1; }
 
@@ -127,12 +147,15 @@ public:
         }
     }
 
-    // The signer's timer for the round has run out.
+    // The signer's timer for the round has run out. Member 0 gets those of the others in a bundle.
     void send_timeout(std::uint32_t round, std::uint32_t signer) {
         std::printf("T %u %u\n", round, signer);
         for (std::uint32_t p = 0; p < members; ++p)
-            if (arrives(signer, p)) must(yardbook::take_timeout(states_[p], round, signer));
+            if (p == signer || (p != 0 && arrives(signer, p))) must(yardbook::take_timeout(states_[p], round, signer));
     }
+
+    // Member 0's transport hands over all timeouts of the round as one mask. Its own is known already.
+    void hand_bundle(std::uint32_t round, std::uint32_t mask) { must(yardbook::take_timeouts(states_[0], round, mask)); }
 
     // Signs against the leader of the round, the one before the signer's current round. Signing has set the signer's own bit.
     void send_no_vote(std::uint32_t round, std::uint32_t signer) {
@@ -165,12 +188,13 @@ void run_round(Members& group, std::uint32_t round) {
     for (const yardbook::Record& r : made) group.send_record(r);
 }
 
-// Round 3 without its leader's record, which is returned. The others time out. Members 0 and 3 get all three timeouts and sign
-// no-votes.
+// Round 3 without its leader's record, which is returned. The others time out. Members 0 and 3 get all three timeouts, member 0 in
+// a bundle, and sign no-votes.
 yardbook::Record run_round_3(Members& group) {
     const yardbook::Record late = group.propose(2, 32);
     for (const std::uint32_t p : {0u, 1u, 3u}) group.send_record(group.propose(p, 30 + p));
     for (const std::uint32_t p : {0u, 1u, 3u}) group.send_timeout(3, p);
+    group.hand_bundle(3, 11);
     group.send_no_vote(3, 0);
     group.send_no_vote(3, 3);
     return late;
@@ -212,6 +236,7 @@ int main() {
     watch_sample();
     watch_two_leaders();
     watch_carried();
+    watch_bundle();
     run_members();
     return 0;
 }

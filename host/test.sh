@@ -126,8 +126,8 @@ for program in target/bin/sheetlog "$out/reference/release/sheetlog"; do
     for _ in 0 1 2 3; do tail -n 2 "$out/taken"; done | diff -u "$out/lists" - || fail "$program has not the members' lists"
 done
 
-# What the examples print: all of these groups.
-cat "$out/watched" host/cases/members.out >"$out/expected"
+# What the examples print: all of these groups, and before the last one that of the bundles, for which sheetlog has no line.
+cat "$out/watched" host/cases/bundle.out host/cases/members.out >"$out/expected"
 "$out/example" >"$out/cpp.out"
 "$out/rust/debug/examples/groups" >"$out/rust.out"
 for example in "${examples[@]}"; do

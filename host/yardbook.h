@@ -11,8 +11,8 @@
  *     calls that take `const uint32_t *state` may run on one state at the same time;
  *   - the words of a record do not overlap those of the state.
  *
- * The host checks signatures before it hands over a record or a note, those of the two certificates in a record too: the library
- * takes a mask of signers at its word.
+ * The host checks signatures before it hands over a record, a note or a bundle, those of the two certificates in a record too: the
+ * library takes a mask of signers at its word.
  *
  * Every call but yardbook_open asks first whether the state has the right size (1) and is well formed (3), which reads
  * the whole state. Each call's comment names its questions in the order in which they are asked, and the first "no" is the
@@ -33,7 +33,7 @@
 extern "C" {
 #endif
 
-#define YARDBOOK_VERSION "0.3.0"
+#define YARDBOOK_VERSION "0.4.0"
 
 /* Words of a replica state, and of a record. */
 #define YARDBOOK_STATE_WORDS 5864
@@ -63,14 +63,15 @@ enum {
     YARDBOOK_REFUSED_RECORD_SIZE = 4,     /* the record has not YARDBOOK_RECORD_WORDS words */
     YARDBOOK_REFUSED_ROUND = 5,           /* the round is not 1 to 32 */
     YARDBOOK_REFUSED_SOURCE = 6,          /* the source or signer is n or above; opening: own is above n */
-    YARDBOOK_REFUSED_MASK_BITS = 7,       /* a mask of the record has a bit at n or above */
+    YARDBOOK_REFUSED_MASK_BITS = 7,       /* a mask of the record, or a bundle's mask, has a bit at n or above */
     YARDBOOK_REFUSED_STRONG = 8,          /* the strong mask is not 0 in round 1, or no quorum later */
     YARDBOOK_REFUSED_TIMEOUTS = 9,        /* the timeout mask is no quorum where it must be, or not 0 elsewhere */
     YARDBOOK_REFUSED_NO_VOTES = 10,       /* the no-vote mask likewise */
     YARDBOOK_REFUSED_WEAK = 11,           /* the weak ids do not rise, or one is out of range */
     YARDBOOK_REFUSED_DUPLICATE = 12,      /* known already: this vertex, this source's first message, this signer's note,
-                                             a timeout also by a vertex that carried it; or made already: this round's own
-                                             record, this round's own no-vote */
+                                             every timeout of a bundle (also of an empty one), a timeout also by a vertex
+                                             that carried it; or made already: this round's own record, this round's own
+                                             no-vote */
     YARDBOOK_REFUSED_CONFLICT = 13,       /* a different vertex of this round and source is held */
     YARDBOOK_REFUSED_MISSING_PARENT = 14, /* a parent is not held; the answer's id is the smallest such */
     YARDBOOK_REFUSED_PAST_END = 15,       /* k is above the list's count */
@@ -129,6 +130,13 @@ yardbook_answer yardbook_take_first_message(uint32_t *state, size_t state_words,
 
 /* Takes a signer's timeout for the round. Asks 1, 3, 5, 6 and 12. Sets one bit, and may raise the current round. */
 yardbook_answer yardbook_take_timeout(uint32_t *state, size_t state_words, uint32_t round, uint32_t signer);
+
+/*
+ * Takes a bundle: the timeouts for the round by all members of the mask. Asks 1, 3, 5, 7 and 12.
+ * Members noted before do no harm, and 12 says that nobody in the mask is new. Sets the bits of the new members, and may raise the
+ * current round. Admitted, its answer and every word are those of yardbook_take_timeout for each new member, in any order.
+ */
+yardbook_answer yardbook_take_timeouts(uint32_t *state, size_t state_words, uint32_t round, uint32_t mask);
 
 /* Takes a signer's no-vote for the round. Asks 1, 3, 5, 6 and 12. Sets one bit. */
 yardbook_answer yardbook_take_no_vote(uint32_t *state, size_t state_words, uint32_t round, uint32_t signer);

@@ -97,6 +97,11 @@ namespace detail {
     return detail::answer(yardbook_take_timeout(state.data(), state.size(), round, signer));
 }
 
+[[nodiscard]] inline Answer take_timeouts(std::span<std::uint32_t> state, std::uint32_t round,
+                                          std::uint32_t mask) noexcept {
+    return detail::answer(yardbook_take_timeouts(state.data(), state.size(), round, mask));
+}
+
 [[nodiscard]] inline Answer take_no_vote(std::span<std::uint32_t> state, std::uint32_t round,
                                          std::uint32_t signer) noexcept {
     return detail::answer(yardbook_take_no_vote(state.data(), state.size(), round, signer));

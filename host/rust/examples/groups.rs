@@ -1,6 +1,7 @@
-//! Runs four groups of four members. A watcher follows the first three and prints what sheetlog prints for the same calls: for a
-//! call its number and the status, and at the end the leader list and the journal. The fourth is run by its four members, which
-//! propose and sign: it prints what they send, as lines of sheetlog's input, and at the end each member's lists.
+//! Runs five groups of four members. A watcher follows the first four and prints for a call its number and the status, and at the
+//! end the leader list and the journal: of the first three what sheetlog prints for the same calls; the fourth has bundles of
+//! timeouts, for which sheetlog has no line. The fifth is run by its four members, which propose and sign: it prints what they
+//! send, as lines of sheetlog's input, and at the end each member's lists.
 
 use yardbook::record::TIMEOUTS;
 use yardbook::{Answer, RECORD_WORDS, STATE_WORDS};
@@ -63,6 +64,11 @@ impl Watched {
         self.print(answer);
     }
 
+    fn bundle(&mut self, round: u32, mask: u32) {
+        let answer = yardbook::take_timeouts(&mut self.state, round, mask);
+        self.print(answer);
+    }
+
     fn print(&self, answer: Answer) {
         let s = yardbook::status(&self.state);
         println!(
@@ -121,6 +127,28 @@ fn must_hold(holds: bool, what: &str) {
     assert!(holds, "not so: {what}");
 }
 
+/// Round 1 lacks its leader's vertex, and its timeouts come in bundles. Members 1 and 2, bundled, are no quorum. Member 2 alone
+/// and the same bundle again are known then, and a bundle with member 4, which is none of the group, is refused as a whole. The
+/// last bundle has members 1 and 2 once more, and with member 3 the watcher is in round 2. Single timeouts of the three end in the
+/// same words.
+fn watch_bundle() {
+    let mut group = Watched::opened(1);
+    let mut singly = group.state;
+    group.bundle(1, 6);
+    group.timeout(1, 2);
+    group.bundle(1, 6);
+    group.bundle(1, 30);
+    group.bundle(1, 14);
+    print_lists(&group.state);
+    for signer in [1, 2, 3] {
+        must(yardbook::take_timeout(&mut singly, 1, signer));
+    }
+    must_hold(
+        singly == group.state,
+        "single timeouts end in the bundles' words",
+    );
+}
+
 /// Whether a timeout or no-vote arrives. The others' are lost on their way to member 1.
 fn arrives(signer: u32, member: u32) -> bool {
     member != 1 || signer == 1
@@ -159,14 +187,19 @@ impl Members {
         }
     }
 
-    /// The signer's timer for the round has run out.
+    /// The signer's timer for the round has run out. Member 0 gets those of the others in a bundle.
     fn send_timeout(&mut self, round: u32, signer: u32) {
         println!("T {round} {signer}");
         for (p, state) in (0..).zip(&mut self.states) {
-            if arrives(signer, p) {
+            if p == signer || (p != 0 && arrives(signer, p)) {
                 must(yardbook::take_timeout(state, round, signer));
             }
         }
+    }
+
+    /// Member 0's transport hands over all timeouts of the round as one mask. Its own is known already.
+    fn hand_bundle(&mut self, round: u32, mask: u32) {
+        must(yardbook::take_timeouts(&mut self.states[0], round, mask));
     }
 
     /// Signs against the leader of the round, the one before the signer's current round. Signing has set the signer's own bit.
@@ -205,8 +238,8 @@ fn run_round(group: &mut Members, round: u32) {
     }
 }
 
-/// Round 3 without its leader's record, which is returned. The others time out. Members 0 and 3 get all three timeouts and sign
-/// no-votes.
+/// Round 3 without its leader's record, which is returned. The others time out. Members 0 and 3 get all three timeouts, member 0 in
+/// a bundle, and sign no-votes.
 fn run_round_3(group: &mut Members) -> Record {
     let late = group.propose(2, 32);
     for p in [0, 1, 3] {
@@ -216,6 +249,7 @@ fn run_round_3(group: &mut Members) -> Record {
     for p in [0, 1, 3] {
         group.send_timeout(3, p);
     }
+    group.hand_bundle(3, 11);
     group.send_no_vote(3, 0);
     group.send_no_vote(3, 3);
     late
@@ -261,5 +295,6 @@ fn main() {
     watch_sample();
     watch_two_leaders();
     watch_carried();
+    watch_bundle();
     run_members();
 }

@@ -110,6 +110,12 @@ mod c {
             round: u32,
             signer: u32,
         ) -> Answer;
+        pub fn yardbook_take_timeouts(
+            state: *mut u32,
+            words: usize,
+            round: u32,
+            mask: u32,
+        ) -> Answer;
         pub fn yardbook_take_no_vote(
             state: *mut u32,
             words: usize,
@@ -161,6 +167,13 @@ pub fn take_first_message(state: &mut [u32], record: &[u32]) -> Answer {
 #[must_use]
 pub fn take_timeout(state: &mut [u32], round: u32, signer: u32) -> Answer {
     unsafe { c::yardbook_take_timeout(state.as_mut_ptr(), state.len(), round, signer) }
+}
+
+/// Takes a bundle: the timeouts for the round by all members of the mask. It is a `DUPLICATE` where nobody in the mask is new;
+/// otherwise members noted before do no harm, and it ends as `take_timeout` for each new member does, in any order.
+#[must_use]
+pub fn take_timeouts(state: &mut [u32], round: u32, mask: u32) -> Answer {
+    unsafe { c::yardbook_take_timeouts(state.as_mut_ptr(), state.len(), round, mask) }
 }
 
 /// Takes a signer's no-vote for the round.

@@ -40,7 +40,7 @@ pub fn list_op(rng: &mut Rng, words: &[u32]) -> Op {
 
 /// Any call, with arguments that suit the words and the calls of the group.
 pub fn any_op(rng: &mut Rng, words: &[u32], calls: &[Call]) -> Op {
-    match rng.below(14) {
+    match rng.below(15) {
         0 => Op::Status,
         1 | 2 => list_op(rng, words),
         3 => Op::Change(opening(rng)),
@@ -51,6 +51,7 @@ pub fn any_op(rng: &mut Rng, words: &[u32], calls: &[Call]) -> Op {
         8 => Op::Change(random_record(rng)),
         9 => Op::Change(propose(rng)),
         10 => Op::Change(Call::SignNoVote),
+        11 => Op::Change(bundle(rng, words)),
         _ => Op::Change(picked(rng, calls)),
     }
 }
@@ -91,12 +92,16 @@ fn any_size(rng: &mut Rng) -> u32 {
     }
 }
 
-fn note(rng: &mut Rng) -> Call {
-    let round = match rng.below(6) {
+fn any_round(rng: &mut Rng) -> u32 {
+    match rng.below(6) {
         0 => EDGES[rng.below(8) as usize],
         1 => LAST_ROUND + rng.below(3),
         _ => rng.below(LAST_ROUND + 2),
-    };
+    }
+}
+
+fn note(rng: &mut Rng) -> Call {
+    let round = any_round(rng);
     let signer = match rng.below(6) {
         0 => EDGES[rng.below(8) as usize],
         _ => rng.below(18),
@@ -106,6 +111,40 @@ fn note(rng: &mut Rng) -> Call {
     } else {
         Call::NoVote(round, signer)
     }
+}
+
+/// A bundle of timeouts for any round, or for one near the current round. Its mask is of any members,
+/// of about a quorum, of those whom the words have already, with others or without, of nobody, with
+/// a bit at n or above, or any word.
+pub fn bundle(rng: &mut Rng, words: &[u32]) -> Call {
+    let word = |at: usize| words.get(at).copied().unwrap_or(0);
+    let round = if rng.percent(40) {
+        any_round(rng)
+    } else {
+        near(rng, word(CURRENT_ROUND).min(LAST_CURRENT_ROUND))
+    };
+    let n = word(N).clamp(1, IDS_PER_ROUND);
+    let is_round = (1..=LAST_ROUND).contains(&round);
+    let noted = if is_round {
+        word(mask_place(round, TIMEOUTS))
+    } else {
+        0
+    };
+    let beyond = 1 << (n + rng.below(u32::BITS - n));
+    let any = rng.word();
+    let members = any & ((1 << n) - 1);
+    let mask = match rng.below(10) {
+        0 => 0,
+        1 => noted,
+        2 => noted & any,
+        3 | 4 => noted | members,
+        5 => noted | beyond,
+        6 => members | beyond,
+        7 => any,
+        8 => any_signers(rng, n),
+        _ => members,
+    };
+    Call::Timeouts(round, mask)
 }
 
 /// A timeout or no-vote that the words have already, if a few drawn rounds have one.
@@ -262,17 +301,14 @@ fn any_signers(rng: &mut Rng, n: u32) -> u32 {
 
 /// Words as few calls would leave them: notes, first messages and votes, the current round, a tag,
 /// words 5 to 7.
-fn unlikely(rng: &mut Rng, state: &[u32]) -> Vec<(usize, u32)> {
+pub fn unlikely(rng: &mut Rng, state: &[u32]) -> Vec<(usize, u32)> {
     let all = (1 << state[N]) - 1;
     let round = 2 + rng.below(LAST_ROUND - 1);
     let mask = rng.word() & all;
     match rng.below(6) {
         0 => vec![(mask_place(round, TIMEOUTS), mask)],
         1 => vec![(mask_place(round, NO_VOTES), mask)],
-        2 => vec![
-            (mask_place(round, HEARD), all),
-            (mask_place(round, VOTES), mask),
-        ],
+        2 => votes(rng, state),
         3 => vec![(CURRENT_ROUND, 1 + rng.below(LAST_ROUND + 1))],
         4 => own_words(rng, state),
         _ => {
@@ -282,6 +318,20 @@ fn unlikely(rng: &mut Rng, state: &[u32]) -> Vec<(usize, u32)> {
             tag.map(|at| (at, rng.word())).into_iter().collect()
         }
     }
+}
+
+/// First messages of all members in a round, of which some or all vote: often for the leader of a
+/// round just above the committed one, which no call has looked at.
+fn votes(rng: &mut Rng, state: &[u32]) -> Vec<(usize, u32)> {
+    let all = (1 << state[N]) - 1;
+    let above = state[COMMITTED_ROUND] + 2 + rng.below(2);
+    let rounds = [above.min(LAST_ROUND), 2 + rng.below(LAST_ROUND - 1)];
+    let round = rounds[rng.below(2) as usize];
+    let mask = [all, rng.word() & all][rng.below(2) as usize];
+    vec![
+        (mask_place(round, HEARD), all),
+        (mask_place(round, VOTES), mask),
+    ]
 }
 
 /// A word of the state: of the head, the masks, the lists, or anywhere.

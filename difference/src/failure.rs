@@ -1,6 +1,7 @@
 //! What went wrong, in a form that can be made smaller.
 
 use crate::op::Op;
+use reference::group::members;
 use reference::harness::Command;
 use reference::Call;
 
@@ -30,6 +31,16 @@ impl Step {
         match self {
             Step::Perform(Op::Change(Call::Open(n, _))) => Step::of_call(&Call::Open(*n, 0)),
             step => step.clone(),
+        }
+    }
+
+    /// The step with single timeouts in place of a bundle.
+    pub fn one_by_one(&self) -> Vec<Step> {
+        match self {
+            Step::Perform(Op::Change(Call::Timeouts(round, mask))) => members(*mask)
+                .map(|signer| Step::of_call(&Call::Timeout(*round, signer)))
+                .collect(),
+            step => vec![step.clone()],
         }
     }
 

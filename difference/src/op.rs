@@ -17,11 +17,12 @@ pub enum Op {
 }
 
 /// The names of the calls, in the order of `Op::row`.
-pub const NAMES: [&str; 12] = [
+pub const NAMES: [&str; 13] = [
     "open",
     "vertex",
     "first message",
     "timeout",
+    "timeouts",
     "no-vote",
     "propose",
     "sign no-vote",
@@ -40,14 +41,15 @@ impl Op {
             Op::Change(Call::Vertex(_)) => 1,
             Op::Change(Call::First(_)) => 2,
             Op::Change(Call::Timeout(..)) => 3,
-            Op::Change(Call::NoVote(..)) => 4,
-            Op::Change(Call::Propose(_)) => 5,
-            Op::Change(Call::SignNoVote) => 6,
-            Op::Status => 7,
-            Op::AskLeaders(_) => 8,
-            Op::AskJournal(_) => 9,
-            Op::HandLeaders(_) => 10,
-            Op::HandJournal(_) => 11,
+            Op::Change(Call::Timeouts(..)) => 4,
+            Op::Change(Call::NoVote(..)) => 5,
+            Op::Change(Call::Propose(_)) => 6,
+            Op::Change(Call::SignNoVote) => 7,
+            Op::Status => 8,
+            Op::AskLeaders(_) => 9,
+            Op::AskJournal(_) => 10,
+            Op::HandLeaders(_) => 11,
+            Op::HandJournal(_) => 12,
         }
     }
 

@@ -48,7 +48,7 @@ impl Pair {
     }
 
     /// Makes a call on both sides and compares the answers and every word.
-    pub fn perform(&mut self, engine: &dyn Engine, op: &Op) -> Result<Reply, Difference> {
+    pub fn perform(&mut self, engine: &dyn Engine, op: &Op) -> Result<Reply, Box<Difference>> {
         let size = self.second.len();
         let given = op.clone();
         let tested = engine.perform(&mut self.guarded[GUARD..][..size], &given);
@@ -58,12 +58,12 @@ impl Pair {
         if tested == second && word.is_none() && !guards_written {
             return Ok(second);
         }
-        Err(Difference {
+        Err(Box::new(Difference {
             tested,
             second,
             word,
             guards_written,
-        })
+        }))
     }
 
     fn guards(&self) -> impl Iterator<Item = &u32> {

@@ -42,6 +42,7 @@ extern "C" {
     fn yardbook_take_vertex(state: *mut u32, words: usize, record: *const u32, length: usize) -> Answer;
     fn yardbook_take_first_message(state: *mut u32, words: usize, record: *const u32, length: usize) -> Answer;
     fn yardbook_take_timeout(state: *mut u32, words: usize, round: u32, signer: u32) -> Answer;
+    fn yardbook_take_timeouts(state: *mut u32, words: usize, round: u32, mask: u32) -> Answer;
     fn yardbook_take_no_vote(state: *mut u32, words: usize, round: u32, signer: u32) -> Answer;
     fn yardbook_propose(state: *mut u32, words: usize, tag: u32) -> Proposal;
     fn yardbook_sign_no_vote(state: *mut u32, words: usize) -> Answer;
@@ -88,6 +89,7 @@ fn change(state: &mut [u32], call: &Call) -> Reply {
                 yardbook_take_first_message(words, size, record.as_ptr(), record.len())
             }
             Call::Timeout(round, signer) => yardbook_take_timeout(words, size, *round, *signer),
+            Call::Timeouts(round, mask) => yardbook_take_timeouts(words, size, *round, *mask),
             Call::NoVote(round, signer) => yardbook_take_no_vote(words, size, *round, *signer),
         }
     })

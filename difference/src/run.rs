@@ -325,6 +325,7 @@ impl<'a> Replica<'a> {
             }
             9 => self.copy().any(session, self.calls, 3),
             11 | 12 => self.own_calls(session),
+            13 => self.bundles(session),
             10 if session.rng.percent(10) => {
                 let words = draw::random_words(&mut session.rng);
                 Aside::of_words(&words).any(session, self.calls, 3)
@@ -349,6 +350,25 @@ impl<'a> Replica<'a> {
             changed.set(at, word);
         }
         changed.own_calls(session)
+    }
+
+    /// Bundles of timeouts on a copy: as it is, or with a current round behind what is held and noted
+    /// and some words as few calls would leave them.
+    fn bundles(&self, session: &mut Session) -> Outcome<()> {
+        let mut aside = self.copy();
+        if session.rng.percent(50) {
+            let words = self.pair.words();
+            let round = 1 + session.rng.below(words[CURRENT_ROUND]);
+            aside.set(CURRENT_ROUND, round);
+            for (at, word) in draw::unlikely(&mut session.rng, words) {
+                aside.set(at, word);
+            }
+        }
+        for _ in 0..3 {
+            let bundle = draw::bundle(&mut session.rng, aside.pair.words());
+            aside.perform(session, Op::Change(bundle))?;
+        }
+        Ok(())
     }
 
     /// A copy of the state with words changed, and more calls where it is still well formed.

@@ -44,7 +44,7 @@ pub fn first_difference(
         }
         Step::Perform(op) => {
             let difference = pair.perform(engine, op).err()?;
-            Some((op.clone(), difference))
+            Some((op.clone(), *difference))
         }
     })
 }
@@ -84,11 +84,15 @@ pub fn shrink(engine: &dyn Engine, failure: &Failure) -> Failure {
 }
 
 /// By what `sheetlog` prints, if the difference shows there, else by every answer and word. Steps
-/// for a watcher are taken where they differ too, since `sheetlog` opens for one.
+/// for a watcher, without bundles or with them, are taken where they differ too, since `sheetlog`
+/// opens for a watcher and has no line for a bundle.
 fn shrink_steps(engine: &dyn Engine, size: usize, steps: &[Step]) -> Failure {
     let differs = |steps: &[Step]| first_difference(engine, size, steps).is_some();
     let watched: Vec<Step> = steps.iter().map(Step::for_watcher).collect();
-    let steps = fewest(if differs(&watched) { &watched } else { steps }, differs);
+    let single: Vec<Step> = watched.iter().flat_map(Step::one_by_one).collect();
+    let others = [single, watched];
+    let other = others.iter().find(|steps| differs(steps));
+    let steps = fewest(other.map_or(steps, Vec::as_slice), differs);
     let lines: Option<Vec<Call>> = steps.iter().map(|step| step.as_line().cloned()).collect();
     match lines {
         Some(calls) if size == STATE_WORDS && shows_in_sheetlog(engine, &calls) => {

@@ -10,12 +10,13 @@ use reference::Call;
 const NUMBERS: usize = 19;
 
 /// The numbers that each call can answer, in the order of `Op::row` (document 01, "The questions",
-/// and document 02, A1).
+/// and document 02, A1 and A3).
 const POSSIBLE: [&[u32]; NAMES.len()] = [
     &[0, 1, 2, 6],
     &[0, 1, 3, 4, 5, 6, 7, 8, 9, 10, 11, 12, 13, 14],
     &[0, 1, 3, 4, 5, 6, 7, 8, 9, 10, 11, 12],
     &[0, 1, 3, 5, 6, 12],
+    &[0, 1, 3, 5, 7, 12],
     &[0, 1, 3, 5, 6, 12],
     &[0, 1, 3, 5, 9, 10, 12, 16, 18],
     &[0, 1, 3, 12, 16, 17],
@@ -43,8 +44,10 @@ pub struct Tally {
     pub timeout_certificates: u64,
     pub no_vote_certificates: u64,
     pub weak: u64,
-    /// Rounds that a vertex's certificate ended, and no notes before it.
+    /// Rounds that a vertex's certificate ended, and no timeouts before it.
     pub ended_by_certificates: u64,
+    /// Rounds that a bundle of timeouts ended.
+    pub ended_by_bundles: u64,
     /// Records made anywhere, those of them with a no-vote certificate, and with weak ids.
     pub made: u64,
     pub made_with_no_votes: u64,
@@ -75,17 +78,24 @@ impl Tally {
     }
 
     /// Notes what an admitted call of a group's own brought: how many leaders, and the current round
-    /// before and after it. Without its certificate a vertex ends no round but its own.
-    pub fn admitted(&mut self, call: &Call, leaders: u32, [before, after]: [u32; 2]) {
+    /// before and after it.
+    pub fn admitted(&mut self, call: &Call, leaders: u32, rounds: [u32; 2]) {
         self.commits += u64::from(leaders > 0);
         self.several_leaders += u64::from(leaders > 1);
-        if let Call::Vertex(words) = call {
-            let record = Record::from_words(words).expect("an admitted record has its size");
-            self.timeout_certificates += u64::from(record.timeouts != 0);
-            self.no_vote_certificates += u64::from(record.no_votes != 0);
-            self.weak += u64::from(record.weak_count != 0);
-            self.ended_by_certificates += u64::from(before < after && after == record.round);
+        match call {
+            Call::Vertex(words) => self.admitted_vertex(words, rounds),
+            Call::Timeouts(..) => self.ended_by_bundles += u64::from(rounds[0] < rounds[1]),
+            _ => {}
         }
+    }
+
+    /// Without its certificate a vertex ends no round but its own.
+    fn admitted_vertex(&mut self, words: &[u32], [before, after]: [u32; 2]) {
+        let record = Record::from_words(words).expect("an admitted record has its size");
+        self.timeout_certificates += u64::from(record.timeouts != 0);
+        self.no_vote_certificates += u64::from(record.no_votes != 0);
+        self.weak += u64::from(record.weak_count != 0);
+        self.ended_by_certificates += u64::from(before < after && after == record.round);
     }
 
     /// Notes a replica's last state: a well formed one.
@@ -100,7 +110,7 @@ impl Tally {
     }
 
     /// What a long run must have seen and this one has not: calls with a number that they can
-    /// answer, and rounds ended by a carried certificate.
+    /// answer, and rounds ended by a carried certificate and by a bundle.
     pub fn unseen(&self) -> Vec<String> {
         let missing = |row: usize| {
             let numbers = POSSIBLE[row].iter().copied();
@@ -109,14 +119,18 @@ impl Tally {
         let numbers = (0..NAMES.len()).flat_map(|row| {
             missing(row).map(move |number| format!("{} with {number}", NAMES[row]))
         });
-        let none_ended = self.ended_by_certificates == 0;
+        let ended = [
+            ("a carried certificate", self.ended_by_certificates),
+            ("a bundle", self.ended_by_bundles),
+        ];
+        let none_ended = ended.into_iter().filter(|(_, rounds)| *rounds == 0);
         numbers
-            .chain(none_ended.then(|| String::from("a round ended by a carried certificate")))
+            .chain(none_ended.map(|(what, _)| format!("a round ended by {what}")))
             .collect()
     }
 
     /// What the groups did, line by line.
-    fn counts(&self) -> [(&'static str, u64); 20] {
+    fn counts(&self) -> [(&'static str, u64); 21] {
         [
             ("calls compared", self.calls),
             ("groups", self.groups),
@@ -133,6 +147,7 @@ impl Tally {
                 "rounds ended by a carried certificate",
                 self.ended_by_certificates,
             ),
+            ("rounds ended by a bundle", self.ended_by_bundles),
             (
                 "vertices with a no-vote certificate",
                 self.no_vote_certificates,

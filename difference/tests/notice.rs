@@ -8,7 +8,7 @@ use difference::proved::Proved;
 use difference::report::report;
 use difference::run::{run, Plan};
 use difference::shrink::{fewest, shrink};
-use reference::layout::{mask_place, CURRENT_ROUND, LAST_ROUND, TIMEOUTS};
+use reference::layout::{mask_place, CURRENT_ROUND, HEARD, LAST_ROUND, N, NO_VOTES, TIMEOUTS};
 use reference::record::Record;
 use reference::simulate::{simulate, Options};
 use reference::Call;
@@ -35,7 +35,7 @@ impl Engine for Faulty {
 }
 
 /// The report on a fault.
-fn reported(engine: &Faulty) -> String {
+fn reported(engine: &dyn Engine) -> String {
     let (_, found) = run(engine, plan(1));
     report(engine, 1, &found.expect("the fault is noticed"))
 }
@@ -110,7 +110,7 @@ fn a_wrong_size_is_shown_by_commands() {
 }
 
 /// The commands that a report on a fault ends with; the first lends a whole state.
-fn commands(engine: &Faulty) -> Vec<String> {
+fn commands(engine: &dyn Engine) -> Vec<String> {
     let report = reported(engine);
     let commands = shown(&report, "commands for harness");
     assert_eq!(commands[0], "1 5864 0", "{report}");
@@ -280,15 +280,184 @@ fn a_certificate_that_counts_otherwise_is_noticed() {
     }
 }
 
+/// What a run of so many calls with the second implementation has not seen.
+fn unseen(count: u64) -> Vec<String> {
+    let plan = Plan { count, ..plan(1) };
+    run(&Second, plan).0.unseen()
+}
+
 #[test]
-fn a_run_without_carried_certificates_is_not_enough() {
-    let what = "a round ended by a carried certificate";
-    let unseen = |rounds| {
-        let plan = Plan { rounds, ..plan(1) };
-        run(&Second, plan).0.unseen()
+fn a_run_without_carried_certificates_or_bundles_is_not_enough() {
+    let ended = ["a carried certificate", "a bundle"].map(|by| format!("a round ended by {by}"));
+    let numbers = [0, 1, 3, 5, 7, 12].map(|number| format!("timeouts with {number}"));
+    let long = unseen(COUNT);
+    assert!(ended
+        .iter()
+        .chain(&numbers)
+        .all(|what| !long.contains(what)));
+    let short = unseen(100);
+    assert!(ended.iter().all(|what| short.contains(what)), "{short:?}");
+    assert!(numbers.iter().any(|what| short.contains(what)), "{short:?}");
+}
+
+/// The second implementation with a fault in taking bundles. The fault gets the words before the
+/// call, those after it, round and mask, and the answer.
+struct Bundling(BundleFault);
+
+type BundleFault = fn(&[u32], &mut [u32], (u32, u32), Reply) -> Reply;
+
+impl Engine for Bundling {
+    fn perform(&self, state: &mut [u32], op: &Op) -> Reply {
+        let before = state.to_vec();
+        let reply = Second.perform(state, op);
+        match op {
+            Op::Change(Call::Timeouts(round, mask)) => {
+                (self.0)(&before, state, (*round, *mask), reply)
+            }
+            _ => reply,
+        }
+    }
+}
+
+/// The bundle as the second implementation takes it.
+fn take_bundle(state: &mut [u32], round: u32, mask: u32) -> Reply {
+    Second.perform(state, &Op::Change(Call::Timeouts(round, mask)))
+}
+
+/// The mask of all members; only after an answer that says that the state is well formed.
+fn all(state: &[u32]) -> u32 {
+    (1 << state[N]) - 1
+}
+
+/// Bits at n or above are cut off.
+fn cut_off(_: &[u32], state: &mut [u32], (round, mask): (u32, u32), answer: Reply) -> Reply {
+    match answer[0] {
+        7 => take_bundle(state, round, mask & all(state)),
+        _ => answer,
+    }
+}
+
+/// A member noted before makes the bundle a refused one.
+fn not_all_new(
+    before: &[u32],
+    state: &mut [u32],
+    (round, mask): (u32, u32),
+    answer: Reply,
+) -> Reply {
+    if answer[0] != 0 || before[timeouts(round)] & mask == 0 {
+        return answer;
+    }
+    state.copy_from_slice(before);
+    reply(&[12])
+}
+
+#[test]
+fn wrong_bundles_are_shown_by_few_commands() {
+    let cut = commands(&Bundling(cut_off));
+    assert_eq!(cut.len(), 2, "{cut:?}");
+    assert!(cut[0].starts_with("3 ") && cut[1].starts_with("17 "));
+    let refused = commands(&Bundling(not_all_new));
+    assert_eq!(refused.len(), 3, "{refused:?}");
+    assert!(refused[0].starts_with("3 ") && refused[2].starts_with("17 "));
+}
+
+#[test]
+fn wrong_numbers_of_bundles_are_noticed() {
+    let member_question = Bundling(|_, _, _, answer| match answer[0] {
+        7 => reply(&[6]),
+        _ => answer,
+    });
+    let new_before_mask = Bundling(|before, _, (round, mask), answer| match answer[0] {
+        7 if mask & all(before) & !before[timeouts(round)] == 0 => reply(&[12]),
+        _ => answer,
+    });
+    let mask_before_round = Bundling(|before, _, (_, mask), answer| match answer[0] {
+        5 if mask & !all(before) != 0 => reply(&[7]),
+        _ => answer,
+    });
+    let empty_admitted = Bundling(|_, _, (_, mask), answer| match answer[0] {
+        12 if mask == 0 => reply(&[]),
+        _ => answer,
+    });
+    for engine in [
+        member_question,
+        new_before_mask,
+        mask_before_round,
+        empty_admitted,
+    ] {
+        assert!(run(&engine, plan(1)).1.is_some());
+    }
+}
+
+#[test]
+fn wrong_masks_after_bundles_are_noticed() {
+    let replaces = Bundling(|_, state, (round, mask), answer| {
+        if answer[0] == 0 {
+            state[timeouts(round)] = mask;
+        }
+        answer
+    });
+    let one_member = Bundling(|before, state, (round, mask), answer| {
+        if answer[0] == 0 {
+            let new = mask & !before[timeouts(round)];
+            state[timeouts(round)] = before[timeouts(round)] | new & new.wrapping_neg();
+        }
+        answer
+    });
+    let no_votes_too = Bundling(|_, state, (round, mask), answer| {
+        if answer[0] == 0 {
+            state[mask_place(round, NO_VOTES)] |= mask;
+        }
+        answer
+    });
+    for engine in [replaces, one_member, no_votes_too] {
+        assert!(run(&engine, plan(1)).1.is_some());
+    }
+}
+
+/// The commits that a first message of round 1 would bring, without its mark.
+fn commit(state: &mut [u32]) {
+    let at = mask_place(1, HEARD);
+    let heard = std::mem::take(&mut state[at]);
+    let message = Record {
+        round: 1,
+        ..Record::default()
     };
-    assert!(!unseen(None).iter().any(|unseen| unseen == what));
-    assert!(unseen(Some(1)).iter().any(|unseen| unseen == what));
+    Second.perform(state, &Op::Change(Call::First(message.words().to_vec())));
+    state[at] = heard;
+}
+
+/// The current round that the round rule gives a well formed state: what any timeout leaves.
+fn current_round_by_rule(state: &[u32]) -> u32 {
+    let mut words = state.to_vec();
+    words[timeouts(LAST_ROUND)] = 0;
+    Second.perform(&mut words, &Op::Change(Call::Timeout(LAST_ROUND, 0)));
+    words[CURRENT_ROUND]
+}
+
+#[test]
+fn what_follows_bundles_wrongly_is_noticed() {
+    let no_round_rule = Bundling(|before, state, _, answer| {
+        if answer[0] == 0 {
+            state[CURRENT_ROUND] = before[CURRENT_ROUND];
+        }
+        answer
+    });
+    let round_rule_after_12 = Bundling(|_, state, _, answer| {
+        if answer[0] == 12 {
+            state[CURRENT_ROUND] = current_round_by_rule(state);
+        }
+        answer
+    });
+    let commits = Bundling(|_, state, _, answer| {
+        if answer[0] == 0 {
+            commit(state);
+        }
+        answer
+    });
+    for engine in [no_round_rule, round_rule_after_12, commits] {
+        assert!(run(&engine, plan(1)).1.is_some());
+    }
 }
 
 #[test]

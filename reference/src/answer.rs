@@ -26,7 +26,7 @@ pub const TIMEOUT: u32 = 9;
 pub const NO_VOTE: u32 = 10;
 /// The weak count or ids are out of order or range.
 pub const WEAK: u32 = 11;
-/// The same thing was taken before.
+/// The same thing was taken before; of a bundle, nobody is new.
 pub const NOT_NEW: u32 = 12;
 /// The cell holds a different record.
 pub const CONFLICT: u32 = 13;

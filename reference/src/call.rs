@@ -13,6 +13,8 @@ pub enum Call {
     First(Vec<u32>),
     /// Round and signer.
     Timeout(u32, u32),
+    /// Round and mask.
+    Timeouts(u32, u32),
     /// Round and signer.
     NoVote(u32, u32),
     /// Tag.
@@ -28,6 +30,7 @@ impl Call {
             Call::Vertex(record) => calls::take_vertex(state, record),
             Call::First(record) => calls::take_first_message(state, record),
             Call::Timeout(round, signer) => calls::take_timeout(state, *round, *signer),
+            Call::Timeouts(round, mask) => calls::take_timeouts(state, *round, *mask),
             Call::NoVote(round, signer) => calls::take_no_vote(state, *round, *signer),
             Call::Propose(tag) => calls::propose(state, *tag).answer,
             Call::SignNoVote => calls::sign_no_vote(state),

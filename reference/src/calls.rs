@@ -74,6 +74,25 @@ pub fn take_timeout(state: &mut [u32], round: u32, signer: u32) -> Answer {
     })
 }
 
+/// Takes the timeouts for a round by the members of a mask (02, request A3: a bundle). Asks 1, 3, 5,
+/// 7 and 12: somebody in it must be new, and those noted before do no harm.
+pub fn take_timeouts(state: &mut [u32], round: u32, mask: u32) -> Answer {
+    change(state, |next| {
+        if !is_round(round) {
+            return refuse(answer::ROUND);
+        }
+        if !next.group.contains(mask) {
+            return refuse(answer::MASK_BITS);
+        }
+        if mask & !next.timeouts.get(round) == 0 {
+            return refuse(answer::NOT_NEW);
+        }
+        next.timeouts.join(round, mask);
+        next.advance_current_round();
+        Ok(())
+    })
+}
+
 /// Takes a member's no-vote for a round (01: a no-vote note). Asks 1, 3, 5, 6 and 12.
 pub fn take_no_vote(state: &mut [u32], round: u32, signer: u32) -> Answer {
     change(state, |next| {

@@ -7,7 +7,7 @@ use crate::layout::{member_of, round_of, vertex_id, LAST_COMMITTABLE_ROUND, LAST
 use crate::state::ReplicaState;
 
 impl ReplicaState {
-    /// Raises the current round after a vertex or a timeout.
+    /// Raises the current round after a vertex, a timeout or a bundle of timeouts.
     pub fn advance_current_round(&mut self) {
         let held = self.held();
         let complete = |&round: &u32| {

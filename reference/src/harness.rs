@@ -39,6 +39,8 @@ pub enum Command {
     /// Makes our own vertex with this tag.
     Propose(u32),
     SignNoVote,
+    /// Round and mask.
+    Timeouts(u32, u32),
 }
 
 impl Command {
@@ -62,6 +64,7 @@ impl Command {
             Command::SetRecord(at, word) => [14, at, word],
             Command::Propose(tag) => [15, tag, 0],
             Command::SignNoVote => [16, 0, 0],
+            Command::Timeouts(round, mask) => [17, round, mask],
         }
     }
 
@@ -72,6 +75,7 @@ impl Command {
             Call::Vertex(record) => with_record(record, Command::Vertex),
             Call::First(record) => with_record(record, Command::First),
             Call::Timeout(round, signer) => vec![Command::Timeout(*round, *signer)],
+            Call::Timeouts(round, mask) => vec![Command::Timeouts(*round, *mask)],
             Call::NoVote(round, signer) => vec![Command::NoVote(*round, *signer)],
             Call::Propose(tag) => vec![Command::Propose(*tag)],
             Call::SignNoVote => vec![Command::SignNoVote],
@@ -108,6 +112,7 @@ impl Harness {
             Command::Vertex => numbers(calls::take_vertex(state, &self.record)),
             Command::First => numbers(calls::take_first_message(state, &self.record)),
             Command::Timeout(round, signer) => numbers(calls::take_timeout(state, round, signer)),
+            Command::Timeouts(round, mask) => numbers(calls::take_timeouts(state, round, mask)),
             Command::NoVote(round, signer) => numbers(calls::take_no_vote(state, round, signer)),
             Command::Propose(tag) => proposal_numbers(calls::propose(state, tag)),
             Command::SignNoVote => numbers(calls::sign_no_vote(state)),

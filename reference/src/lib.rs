@@ -33,7 +33,7 @@ pub use answer::{Answer, Proposal, Status};
 pub use call::Call;
 pub use calls::{
     ask_journal, ask_leaders, hand_journal, hand_leaders, open, propose, sign_no_vote, status,
-    take_first_message, take_no_vote, take_timeout, take_vertex,
+    take_first_message, take_no_vote, take_timeout, take_timeouts, take_vertex,
 };
 pub use layout::STATE_WORDS;
 pub use model::Model;

@@ -39,7 +39,8 @@ impl Model {
             }
             Call::Vertex(words) => keep(&mut self.vertices, words),
             Call::First(words) => keep(&mut self.first_messages, words),
-            Call::Timeout(..) | Call::NoVote(..) | Call::Propose(_) | Call::SignNoVote => {}
+            Call::Timeout(..) | Call::Timeouts(..) | Call::NoVote(..) => {}
+            Call::Propose(_) | Call::SignNoVote => {}
         }
     }
 

@@ -11,32 +11,8 @@ use reference::*;
 /// All timeout certificates of four members.
 const CERTIFICATES: [u32; 5] = [7, 11, 13, 14, 15];
 
-fn timeouts(round: u32) -> usize {
-    mask_place(round, TIMEOUTS)
-}
-
-fn no_votes(round: u32) -> usize {
-    mask_place(round, NO_VOTES)
-}
-
 fn held(round: u32) -> usize {
     mask_place(round, HELD)
-}
-
-/// Four members with 1/1, 1/2 and 1/3 and without the leader's 1/0, in round 1.
-fn lacking(own: u32) -> State {
-    let mut state = opened_for(4, own);
-    vertices(&mut state, &[1, 2, 3].map(|source| plain(1, source, 0)));
-    assert_eq!(status(&state).current_round, 1);
-    state
-}
-
-/// The state with timeout notes of these members.
-fn noted(mut state: State, round: u32, signers: u32) -> State {
-    for signer in members(signers) {
-        assert_eq!(take_timeout(&mut state, round, signer).number, 0);
-    }
-    state
 }
 
 /// Takes a vertex on a copy; a refusal leaves every word as it was.
@@ -78,7 +54,7 @@ fn round_without_leader(group: Group, round: u32, certificate: u32) -> Vec<Recor
 #[test]
 fn the_certificate_joins_the_notes_of_the_round_before() {
     for notes in 0..16 {
-        let state = noted(lacking(0), 1, notes);
+        let state = noted(lacking_leader(0), 1, notes);
         for certificate in CERTIFICATES {
             let after = taken(&state, record(2, 0, 14, certificate, 0)).expect("it is admitted");
             assert_eq!(after[timeouts(1)], notes | certificate);
@@ -91,7 +67,7 @@ fn the_certificate_joins_the_notes_of_the_round_before() {
 
 #[test]
 fn no_other_word_is_changed_by_it() {
-    let state = noted(noted(noted(lacking(0), 1, 8), 2, 9), 3, 6);
+    let state = noted(noted(noted(lacking_leader(0), 1, 8), 2, 9), 3, 6);
     let cell = cell_place(2, 0).start;
     let expected = vec![
         (CURRENT_ROUND, 2),
@@ -105,7 +81,7 @@ fn no_other_word_is_changed_by_it() {
 
 #[test]
 fn the_no_votes_are_not_touched() {
-    let mut state = lacking(0);
+    let mut state = lacking_leader(0);
     assert_eq!(take_no_vote(&mut state, 1, 0).number, 0);
     let cell = cell_place(2, 1).start;
     let expected = vec![
@@ -122,7 +98,7 @@ fn the_no_votes_are_not_touched() {
 
 #[test]
 fn certificates_of_several_vertices_join() {
-    let mut state = lacking(0);
+    let mut state = lacking_leader(0);
     vertices(&mut state, &[record(2, 0, 14, 7, 0)]);
     assert_eq!(state[timeouts(1)], 7);
     vertices(&mut state, &[record(2, 2, 14, 11, 0)]);
@@ -136,7 +112,7 @@ fn certificates_of_several_vertices_join() {
 #[test]
 fn a_round_that_is_passed_takes_it_too() {
     // 1/0 is held by now, so the round has ended without timeouts.
-    let mut state = lacking(0);
+    let mut state = lacking_leader(0);
     vertices(&mut state, &[plain(1, 0, 0), plain(2, 1, 15)]);
     state[CURRENT_ROUND] = 9;
     let after = taken(&state, record(2, 0, 14, 13, 0)).expect("it is admitted");
@@ -145,7 +121,7 @@ fn a_round_that_is_passed_takes_it_too() {
 
 /// Round 1 without 1/0, and round 2 without 2/1: 3/0 needs a certificate for round 2.
 fn two_leaders_lacking() -> State {
-    let mut state = lacking(0);
+    let mut state = lacking_leader(0);
     vertices(
         &mut state,
         &[0, 2, 3].map(|source| record(2, source, 14, 7, 0)),
@@ -183,7 +159,7 @@ fn a_vertex_without_its_parents_adds_nothing() {
 
 #[test]
 fn a_vertex_that_an_earlier_question_refuses_adds_nothing() {
-    let state = lacking(0);
+    let state = lacking_leader(0);
     for (record, number) in [
         (record(33, 0, 14, 7, 0), 5),
         (record(2, 4, 14, 7, 0), 6),
@@ -201,7 +177,7 @@ fn a_vertex_that_an_earlier_question_refuses_adds_nothing() {
 
 #[test]
 fn a_first_message_adds_nothing() {
-    let mut state = lacking(0);
+    let mut state = lacking_leader(0);
     firsts(&mut state, &[record(2, 0, 14, 7, 0)]);
     assert_eq!((state[timeouts(1)], state[CURRENT_ROUND]), (0, 1));
 }
@@ -266,8 +242,8 @@ fn a_member_without_notes_follows_to_the_last_round() {
 #[test]
 fn a_member_without_notes_makes_its_record_and_signs() {
     // Without the certificate round 1 goes on.
-    assert_eq!(sign_no_vote(&mut lacking(4)).number, 17);
-    let mut state = lacking(4);
+    assert_eq!(sign_no_vote(&mut lacking_leader(4)).number, 17);
+    let mut state = lacking_leader(4);
     vertices(&mut state, &[record(2, 0, 14, 11, 0)]);
     let made = propose(&mut state.clone(), 5).record;
     assert_eq!(made[..6], [2, 3, 14, 11, 0, 5]);

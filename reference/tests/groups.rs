@@ -1,6 +1,6 @@
 //! Simulated groups: after every call the state is well formed and its lists equal the model's, an
-//! admitted vertex leaves a current round of its own round or above, and the lists of two replicas
-//! are prefixes of one another.
+//! admitted vertex leaves a current round of its own round or above, an admitted bundle of timeouts
+//! ends as single ones, and the lists of two replicas are prefixes of one another.
 
 mod common;
 
@@ -29,6 +29,11 @@ struct Seen {
     weak: usize,
     /// Rounds ended by the certificate of a vertex, which the notes alone had not ended.
     by_certificate: usize,
+    /// Rounds ended by a bundle, and admitted bundles with members noted before.
+    by_bundle: usize,
+    overlapping: usize,
+    /// The numbers of bundles.
+    bundles: BTreeSet<u32>,
     /// States with every cell of the group held.
     full: usize,
 }
@@ -42,14 +47,14 @@ fn follow(calls: &[Call], against_model: bool, seen: &mut Seen) -> State {
         let before = state.clone();
         let answer = call.apply(&mut state);
         seen.numbers.insert(answer.number);
+        if matches!(call, Call::Timeouts(..)) {
+            seen.bundles.insert(answer.number);
+        }
         model.feed(call, answer.number);
         if answer.number == 0 {
             check_growth(call, &before, &state, answer);
             seen.several_leaders += usize::from(answer.leaders > 1);
-            if let Call::Vertex(words) = call {
-                let record = Record::from_words(words).expect("it has its size");
-                check_vertex(&record, &before, &state, seen);
-            }
+            check_admitted(call, &before, &state, seen);
             expected = model.lists();
         } else {
             assert_eq!(state, before, "{call:?}");
@@ -99,6 +104,25 @@ fn round_after(current: u32, state: &State) -> u32 {
     };
     let highest = (1..=LAST_ROUND).rev().find(is_ended);
     highest.map_or(current, |round| current.max(round + 1))
+}
+
+fn check_admitted(call: &Call, before: &State, after: &State, seen: &mut Seen) {
+    match call {
+        Call::Vertex(words) => {
+            let record = Record::from_words(words).expect("it has its size");
+            check_vertex(&record, before, after, seen);
+        }
+        Call::Timeouts(round, mask) => check_bundle((*round, *mask), before, after, seen),
+        _ => {}
+    }
+}
+
+/// An admitted bundle leaves the words that single timeouts of its new members leave.
+fn check_bundle((round, mask): (u32, u32), before: &State, after: &State, seen: &mut Seen) {
+    let old = before[timeouts(round)];
+    assert_eq!(after, &noted(before.clone(), round, mask & !old));
+    seen.overlapping += usize::from(mask & old != 0);
+    seen.by_bundle += usize::from(before[CURRENT_ROUND] < after[CURRENT_ROUND]);
 }
 
 /// An admitted vertex adds its certificate to the round before and then raises the current round,
@@ -222,6 +246,7 @@ fn typical_groups_commit_and_agree() {
     assert!(seen.skipped > 20, "{}", seen.skipped);
     assert!(seen.weak > 100, "{}", seen.weak);
     assert!(seen.by_certificate > 50, "{}", seen.by_certificate);
+    check_bundles(&seen);
     let own_calls = 16..=17;
     let expected: BTreeSet<u32> = [0, 2].into_iter().chain(4..=14).chain(own_calls).collect();
     assert_eq!(seen.numbers, expected);
@@ -233,6 +258,28 @@ fn rough_groups_agree() {
     assert!(seen.committed > 200, "{}", seen.committed);
     assert!(seen.skipped > 50, "{}", seen.skipped);
     assert!(seen.by_certificate > 50, "{}", seen.by_certificate);
+    check_bundles(&seen);
+}
+
+/// Bundles had members noted before, and every number that a well formed state leaves them.
+fn check_bundles(seen: &Seen) {
+    assert!(seen.overlapping > 50, "{}", seen.overlapping);
+    assert_eq!(seen.bundles, BTreeSet::from([0, 5, 7, 12]));
+}
+
+/// With short delays bundles come before the vertices that carry the same certificate.
+#[test]
+fn groups_with_bundles_go_on_by_them() {
+    let options = Options {
+        lost_timeouts: 0,
+        bundles: 100,
+        spread: 40,
+        ..Options::typical()
+    };
+    let seen = run_groups(&options, 0..2);
+    assert!(seen.by_bundle > 20, "{}", seen.by_bundle);
+    assert!(seen.committed > 400, "{}", seen.committed);
+    check_bundles(&seen);
 }
 
 #[test]
@@ -243,14 +290,17 @@ fn groups_without_timeouts_go_on_by_certificates() {
     };
     let seen = run_groups(&options, 0..2);
     assert!(seen.by_certificate > 40, "{}", seen.by_certificate);
-    for calls in simulate(0, 4, &options).replicas {
+    let run = simulate(0, 4, &options);
+    for calls in run.replicas {
         let mut state = vec![0; STATE_WORDS];
         for call in calls {
-            let number = call.apply(&mut state).number;
-            assert!(
-                !(matches!(call, Call::Timeout(..)) && number == 0),
-                "{call:?}"
-            );
+            let admitted = call.apply(&mut state).number == 0;
+            let is_timeout = match call {
+                Call::Timeout(..) => true,
+                Call::Timeouts(_, mask) => mask & !run.faulty != 0,
+                _ => false,
+            };
+            assert!(!(is_timeout && admitted), "{call:?}");
         }
     }
 }

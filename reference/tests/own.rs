@@ -45,30 +45,10 @@ fn signed(state: &State) -> Result<State, u32> {
     Ok(after)
 }
 
-/// The state with other words.
-fn with(state: &State, words: &[(usize, u32)]) -> State {
-    let mut state = state.clone();
-    words.iter().for_each(|&(at, word)| state[at] = word);
-    state
-}
-
-fn timeouts(round: u32) -> usize {
-    mask_place(round, TIMEOUTS)
-}
-
-fn no_votes(round: u32) -> usize {
-    mask_place(round, NO_VOTES)
-}
-
 /// Four members in round 2, which round 1's timeouts have ended: 1/1, 1/2 and 1/3 are held, the
 /// leader's 1/0 is not.
 fn lacking(own: u32) -> State {
-    let mut state = opened_for(4, own);
-    let sources = [1, 2, 3];
-    vertices(&mut state, &sources.map(|source| plain(1, source, 0)));
-    for signer in sources {
-        assert_eq!(take_timeout(&mut state, 1, signer).number, 0);
-    }
+    let state = noted(lacking_leader(own), 1, 14);
     assert_eq!(status(&state).current_round, 2);
     state
 }

@@ -101,7 +101,7 @@ fn calls_before_an_opening() {
     assert_eq!(answers(input), expected);
 }
 
-const OTHER_FORMS: [&[u8]; 37] = [
+const OTHER_FORMS: [&[u8]; 38] = [
     b"",
     b" ",
     b"O",
@@ -139,6 +139,7 @@ const OTHER_FORMS: [&[u8]; 37] = [
     b"O 7 1",
     b"P 1",
     b"S",
+    b"B 1 7",
 ];
 
 #[test]
@@ -208,6 +209,7 @@ fn simulated_runs_as_lines() {
     for n in [4, 16] {
         let watchers = Options {
             members: 0,
+            bundles: 0,
             ..Options::wild()
         };
         for calls in simulate(5, n, &watchers).replicas {

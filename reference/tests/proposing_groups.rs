@@ -1,6 +1,6 @@
 //! Groups driven by made records alone: what A1 says of every made record and signed no-vote, that
-//! a member whom no timeouts reach goes on by carried certificates (A2), and that such groups go
-//! on, commit and agree.
+//! a member whom no timeouts reach goes on by carried certificates (A2), that bundles of timeouts
+//! end as single ones (A3), and that such groups go on, commit and agree.
 
 mod common;
 
@@ -10,11 +10,11 @@ use common::*;
 use reference::group::{has, Group};
 use reference::layout::{
     mask_place, member_of, round_bit, round_of, CURRENT_ROUND, HELD, LAST_CURRENT_ROUND,
-    MADE_ROUNDS, NO_VOTES, RECORD_WORDS, SIGNED_NO_VOTES,
+    LAST_ROUND, MADE_ROUNDS, NO_VOTES, RECORD_WORDS, SIGNED_NO_VOTES,
 };
 use reference::model::Lists;
 use reference::record::{first_refusal, Record};
-use reference::simulate::{simulate_proposing, Options, Run};
+use reference::simulate::{simulate, simulate_proposing, Options, Run};
 use reference::*;
 
 /// What was seen over a number of groups.
@@ -34,6 +34,10 @@ struct Seen {
     again: usize,
     /// Rounds ended by the certificate of a vertex, which the notes alone had not ended.
     by_certificate: usize,
+    /// The numbers of bundles, rounds that they ended, and admitted ones with members noted before.
+    bundles: BTreeSet<u32>,
+    by_bundle: usize,
+    overlapping: usize,
     committed: u32,
     skipped: u32,
 }
@@ -93,6 +97,7 @@ impl Member<'_> {
             Call::Propose(tag) => self.propose(&before, *tag),
             Call::SignNoVote => self.sign(&before),
             Call::Vertex(words) => self.take(&before, words),
+            Call::Timeouts(round, mask) => self.bundle(&before, *round, *mask),
             call => call.apply(&mut self.state).number,
         };
         match call {
@@ -172,12 +177,44 @@ impl Member<'_> {
         0
     }
 
+    /// An admitted bundle leaves the words that single timeouts of its new members leave.
+    fn bundle(&mut self, before: &State, round: u32, mask: u32) -> u32 {
+        let answer = take_timeouts(&mut self.state, round, mask);
+        let number = self.bundle_number(before, round, mask);
+        assert_eq!(answer, Answer::refused(number), "{round} {mask:b}");
+        self.seen.bundles.insert(number);
+        if number == 0 {
+            let new = mask & !before[timeouts(round)];
+            assert_eq!(self.state, noted(before.clone(), round, new));
+            self.seen.overlapping += usize::from(new != mask);
+            self.seen.by_bundle += usize::from(before[CURRENT_ROUND] < self.state[CURRENT_ROUND]);
+        }
+        number
+    }
+
+    /// The number of a bundle on a well formed state.
+    fn bundle_number(&self, before: &State, round: u32, mask: u32) -> u32 {
+        if !(1..=LAST_ROUND).contains(&round) {
+            return 5;
+        }
+        if !self.group.contains(mask) {
+            return 7;
+        }
+        let is_new = mask & !before[timeouts(round)] != 0;
+        if is_new {
+            0
+        } else {
+            12
+        }
+    }
+
     /// A vertex is admitted if its parents are held and it is new. The current round is then the
     /// vertex's or above. A vertex that raises it to just that does so by its certificate.
     fn take(&mut self, before: &State, words: &[u32]) -> u32 {
         let record = Record::from_words(words).expect("a record has 12 words");
         let number = take_vertex(&mut self.state, words).number;
-        if self.vertices.contains_key(&record.id()) {
+        let is_known = self.vertices.contains_key(&record.id());
+        if is_known {
             self.seen.again += 1;
             assert_eq!(number, 12);
         } else if record.parents().all(|id| holds(before, id)) {
@@ -268,9 +305,12 @@ fn groups_with_silent_leaders_go_on() {
         ("signed", seen.signed),
         ("early", seen.early),
         ("by certificate", seen.by_certificate),
+        ("by bundle", seen.by_bundle),
+        ("overlapping", seen.overlapping),
     ] {
         assert!(count > 50, "{what} {count}");
     }
+    assert_eq!(seen.bundles, BTreeSet::from([0, 5, 7, 12]));
     assert!(seen.left_out > 0);
     let members = 6 * 4 + 3 * 7 + 16;
     assert!(seen.committed > 25 * members, "{}", seen.committed);
@@ -283,6 +323,7 @@ fn groups_with_slow_messages_go_on() {
     assert!(seen.with_weak > 500, "{}", seen.with_weak);
     assert!(seen.left_out > 2, "{}", seen.left_out);
     assert!(seen.by_certificate > 50, "{}", seen.by_certificate);
+    assert!(seen.by_bundle > 50, "{}", seen.by_bundle);
     let members = 6 * 4 + 3 * 7 + 16;
     assert!(seen.committed > 25 * members, "{}", seen.committed);
     assert!(seen.skipped > 5 * members, "{}", seen.skipped);
@@ -299,6 +340,38 @@ fn groups_with_lost_timeouts_go_on() {
     assert!(seen.by_certificate > 150, "{}", seen.by_certificate);
     let members = 3 * 4 + 2 * 7;
     assert!(seen.committed > 25 * members, "{}", seen.committed);
+}
+
+#[test]
+fn timeouts_come_as_notes_as_bundles_and_both_ways() {
+    let options = Options {
+        noise: 0,
+        early_stop: 0,
+        ..Options::typical()
+    };
+    let mut ways = BTreeSet::new();
+    for seed in 0..2 {
+        for (own, calls) in (0..).zip(simulate_proposing(seed, 7, &options).replicas) {
+            let is_note = |call: &Call| matches!(call, Call::Timeout(_, by) if *by != own);
+            let is_bundle = |call: &Call| matches!(call, Call::Timeouts(..));
+            ways.insert((calls.iter().any(is_note), calls.iter().any(is_bundle)));
+        }
+    }
+    assert_eq!(
+        ways,
+        BTreeSet::from([(true, false), (false, true), (true, true)])
+    );
+}
+
+#[test]
+fn groups_without_bundles_have_none() {
+    let options = Options {
+        bundles: 0,
+        ..Options::rough()
+    };
+    let runs = [simulate(1, 4, &options), simulate_proposing(1, 4, &options)];
+    let mut calls = runs.iter().flat_map(|run| run.replicas.iter().flatten());
+    assert!(!calls.any(|call| matches!(call, Call::Timeouts(..))));
 }
 
 #[test]

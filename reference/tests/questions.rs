@@ -1,4 +1,5 @@
-//! Every number that each call of 01 can answer, their order, and the state after a refusal.
+//! Every number that each call of 01 can answer, their order, and the state after a refusal. Where a
+//! question is asked of all calls, those of 02 stand beside them.
 
 mod common;
 
@@ -132,6 +133,7 @@ fn sizes_come_first() {
             v(bad),
             f(bad),
             Call::Timeout(0, 9),
+            Call::Timeouts(0, 1 << 9),
             Call::NoVote(0, 9),
             Call::Propose(0),
             Call::SignNoVote,
@@ -160,6 +162,7 @@ fn state_comes_before_record() {
         Call::Vertex(vec![]),
         Call::First(vec![]),
         Call::Timeout(0, 9),
+        Call::Timeouts(0, 1 << 9),
         Call::NoVote(0, 9),
         Call::Propose(0),
         Call::SignNoVote,
@@ -202,6 +205,8 @@ fn new_or_not() {
     expect(&state, f(plain(2, 1, 15)), 0);
     assert_eq!(take_timeout(&mut state, 32, 3).number, 0);
     expect(&state, Call::Timeout(32, 3), 12);
+    expect(&state, Call::Timeouts(32, 8), 12);
+    expect(&state, Call::Timeouts(32, 9), 0);
     expect(&state, Call::NoVote(32, 3), 0);
     assert_eq!(take_no_vote(&mut state, 32, 3).number, 0);
     expect(&state, Call::NoVote(32, 3), 12);

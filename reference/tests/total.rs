@@ -11,13 +11,14 @@ fn any_call(rng: &mut Rng) -> Call {
     let word = |rng: &mut Rng| if small { rng.below(40) } else { rng.word() };
     let length = if rng.percent(80) { 12 } else { rng.below(30) };
     let words: Vec<u32> = (0..length).map(|_| word(rng)).collect();
-    match rng.below(7) {
+    match rng.below(8) {
         0 => Call::Open(word(rng), word(rng)),
         1 => Call::Vertex(words),
         2 => Call::First(words),
         3 => Call::Timeout(word(rng), word(rng)),
         4 => Call::NoVote(word(rng), word(rng)),
         5 => Call::Propose(word(rng)),
+        6 => Call::Timeouts(word(rng), word(rng)),
         _ => Call::SignNoVote,
     }
 }

@@ -36,6 +36,7 @@ fn every_number_of_every_call_is_seen() {
         (12, &notes),
         (15, &[0, 1, 3, 5, 9, 10, 12, 16, 18]),
         (16, &[0, 1, 3, 12, 16, 17]),
+        (17, &[0, 1, 3, 5, 7, 12]),
     ] {
         let numbers = numbers.iter().copied().collect();
         assert_eq!(seen[&operation], numbers, "operation {operation}");

@@ -1,12 +1,13 @@
 //! The rows of "Worked on four members", starred and unstarred, in the paper's order; beside the
-//! row of timeout notes stands the same round with a carried certificate (02, request A2).
+//! row of timeout notes stands the same round with bundles of them and with a carried certificate
+//! (02, requests A3 and A2).
 
 mod common;
 
 use common::*;
 use reference::{
-    ask_journal, hand_journal, open, status, take_no_vote, take_timeout, take_vertex, Answer,
-    STATE_WORDS,
+    ask_journal, hand_journal, open, status, take_no_vote, take_timeout, take_timeouts,
+    take_vertex, Answer, STATE_WORDS,
 };
 
 fn committed(state: &State) -> u32 {
@@ -34,6 +35,7 @@ fn round_and_source_out_of_range() {
             assert_eq!(vertex(&mut state, plain(round, source, 0)), 5);
             assert_eq!(first(&mut state, plain(round, source, 0)), 5);
             assert_eq!(take_timeout(&mut state, round, source).number, 5);
+            assert_eq!(take_timeouts(&mut state, round, 1 << source).number, 5);
             assert_eq!(take_no_vote(&mut state, round, source).number, 5);
         }
     }
@@ -89,6 +91,18 @@ fn current_round_by_timeouts() {
         assert_eq!(take_timeout(&mut state, 1, signer).number, 0);
         assert_eq!(status(&state).current_round, current_round);
     }
+}
+
+#[test]
+fn current_round_by_bundles() {
+    let mut state = lacking_leader(0);
+    for (mask, current_round) in [(0b0011, 1), (0b0110, 2)] {
+        assert_eq!(take_timeouts(&mut state, 1, mask), Answer::default());
+        assert_eq!(status(&state).current_round, current_round);
+    }
+    let mut state = lacking_leader(0);
+    assert_eq!(take_timeouts(&mut state, 1, 0b0111), Answer::default());
+    assert_eq!(status(&state).current_round, 2);
 }
 
 #[test]

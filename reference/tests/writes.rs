@@ -3,6 +3,7 @@
 mod common;
 
 use common::*;
+use reference::layout::CURRENT_ROUND;
 use reference::*;
 
 /// Makes an admitted call and returns the words it changed.
@@ -82,6 +83,24 @@ fn notes_set_their_bit() {
 }
 
 #[test]
+fn a_bundle_sets_its_bits_and_the_current_round() {
+    let mut state = lacking_leader(0);
+    let bundles = [
+        (Call::Timeouts(32, 10), vec![(timeouts(32), 10)]),
+        (Call::Timeouts(32, 7), vec![(timeouts(32), 15)]),
+        (Call::Timeouts(1, 9), vec![(timeouts(1), 9)]),
+        (
+            Call::Timeouts(1, 11),
+            vec![(CURRENT_ROUND, 2), (timeouts(1), 11)],
+        ),
+        (Call::Timeouts(1, 15), vec![(timeouts(1), 15)]),
+    ];
+    for (bundle, expected) in bundles {
+        assert_eq!(changed_by(&mut state, bundle), expected);
+    }
+}
+
+#[test]
 fn carried_timeouts_reach_the_mask_ahead_of_the_round_rule() {
     let mut state = opened(4);
     vertices(
@@ -102,9 +121,11 @@ fn the_current_round_jumps_and_never_falls() {
     state[1] = 20;
     vertices(&mut state, &[plain(1, 3, 0)]);
     assert_eq!(status(&state).current_round, 20);
-    state[1] = 1;
-    assert_eq!(take_timeout(&mut state, 9, 0).number, 0);
-    assert_eq!(status(&state).current_round, 2);
+    for call in [Call::Timeout(9, 0), Call::Timeouts(9, 3)] {
+        state[CURRENT_ROUND] = 1;
+        assert_eq!(call.apply(&mut state).number, 0);
+        assert_eq!(status(&state).current_round, 2);
+    }
 }
 
 #[test]
@@ -124,6 +145,7 @@ fn only_vertices_and_first_messages_commit() {
     state[15] |= 8;
     state[16] |= 8;
     assert_eq!(take_timeout(&mut state, 1, 0).number, 0);
+    assert_eq!(take_timeouts(&mut state, 1, 15).number, 0);
     assert_eq!(take_no_vote(&mut state, 1, 0).number, 0);
     assert_eq!(status(&state).committed_round, 0);
     firsts(&mut state, &[plain(9, 0, 15)]);

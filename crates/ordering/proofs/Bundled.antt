@@ -1,6 +1,6 @@
 -- The questions of a bundle of timeouts in turn: what stopped it, and what is known where nothing did. Assumes nothing.
 use mathlib.Core.Path.{_≡_, refl, sym, ap, _∙_}
-use mathlib.Core.Bool.{Bool, true, false, not, _&&_, _||_, or-false}
+use mathlib.Core.Bool.{Bool, true, false, not, _||_, or-false}
 use mathlib.Core.Logic.{_⊎_, inl, inr, ⊎-elim}
 use mathlib.Core.List.{List, [], _∷_}
 use Prim.Native.Nat.{ℕ, _^_, _≤_, _<_}
@@ -25,11 +25,6 @@ use Rattle.replica.proofs.Formed.{WellFormed, formed}
 use Rattle.ordering.specs.Calls.{isNew, bundleQuestions, bundleRefusal}
 
 -- ---- who is new
-
--- a member is new exactly if it is in the mask and not in the timeouts
-pub new-is : (l : List ℕ) (r mask p : ℕ) → isNew l r mask p ≡ (has mask p && not (has (timeoutsMask l r) p))
-unfolding isNew
-new-is l r mask p = refl
 
 -- nobody is where the timeouts already have the whole mask
 pub none-new : (l : List ℕ) (r mask : ℕ) → bitOr (timeoutsMask l r) mask ≡ timeoutsMask l r → any (memberCount l) (isNew l r mask) ≡ false

@@ -1,6 +1,6 @@
 -- A bundle of timeouts ends as single timeouts of its new members do, in any order. Assumes nothing.
 use mathlib.Core.Path.{_≡_, refl, sym, ap, ap₂, _∙_}
-use mathlib.Core.Bool.{Bool, true, false, cond, not, _&&_, _||_}
+use mathlib.Core.Bool.{Bool, true, false, cond, not, _&&_, _||_, or-assoc}
 use mathlib.Core.Logic.{_⊎_, inl, inr, ⊎-elim}
 use mathlib.Core.List.{List, [], _∷_, _++_}
 use Prim.Native.Nat.{ℕ, zero, suc, _+_, _^_, _≤_, _<_}
@@ -57,12 +57,8 @@ join-round l r m x =
 -- one mask after another is both at once
 or-twice : (k a b c : ℕ) → a < 2 ^ k → b < 2 ^ k → c < 2 ^ k → bitOr (bitOr a b) c ≡ bitOr a (bitOr b c)
 or-twice k a b c x y z = mask-ext k _ _ (or-lt k _ _ (or-lt k a b x y) z) (or-lt k _ _ x (or-lt k b c y z)) (λ p h. has-or (bitOr a b) c p
-    ∙ ap (λ (t : Bool). t || has c p) (has-or a b p) ∙ go (has a p) (has b p) (has c p) ∙ sym (has-or a (bitOr b c) p
-    ∙ ap (λ (t : Bool). has a p || t) (has-or b c p)))
-  where
-    go : (s t u : Bool) → ((s || t) || u) ≡ (s || (t || u))
-    go true t u = refl
-    go false t u = refl
+    ∙ ap (λ (t : Bool). t || has c p) (has-or a b p) ∙ or-assoc (has a p) (has b p) (has c p)
+    ∙ sym (has-or a (bitOr b c) p ∙ ap (λ (t : Bool). has a p || t) (has-or b c p)))
 
 join-twice : (l : List ℕ) (at k a b : ℕ) → at < length l → getD l at 0 < 2 ^ k → a < 2 ^ k → b < 2 ^ k
     → addMembers (addMembers l at a) at b ≡ addMembers l at (bitOr a b)
@@ -261,10 +257,7 @@ module _ (r : ℕ) (low : 1 ≤ r) (high : r ≤ rounds) where
         mask = ap (λ (k : List ℕ). getD k (timeoutsAt r) 0) (alone l (timeoutsAt r) p)
             ∙ join-here l (timeoutsAt r) (2 ^ p) (omega (arith, S .size))
 
-    -- the masks of it, and of them all, are masks of members
-    all-low : gather (p ∷ ps) < 2 ^ memberCount l
-    all-low = gather-low (memberCount l) (p ∷ ps) (F .few)
-
+    -- their mask is one of members
     rest-low : gather ps < 2 ^ memberCount l
     rest-low = gather-low (memberCount l) ps (λ q h. F .few q (rest-there q h))
 

@@ -3,12 +3,14 @@
 //! Either a world is drawn first: the vertices that the members of a group make, round by round.
 //! Then each replica gets that world's vertices and messages in an order of its own, with losses,
 //! retries and calls that are to be refused in between; a member's replica also makes records and
-//! signs no-votes, which nobody gets. Or the members' own states make all that is sent.
+//! signs no-votes, which nobody gets. Or the members' own states make all that is sent. Either way
+//! some replicas get timeouts one by one, others in bundles, and some both ways.
 
 mod noise;
 mod options;
 mod proposing;
 mod replica;
+mod transport;
 mod world;
 
 pub use options::Options;

@@ -11,11 +11,14 @@ use crate::rng::Rng;
 const ILLEGAL_SIZES: [u32; 9] = [0, 1, 3, 5, 8, 15, 17, 19, u32::MAX];
 const BAD_ROUNDS: [u32; 4] = [0, LAST_ROUND + 1, 1 << 28, u32::MAX];
 const EDGE_WORDS: [u32; 7] = [0, 1, 2, 15, 16, 0xFFFF, u32::MAX];
+/// Kinds of calls; the last is drawn only in groups with bundles.
+const KINDS: u32 = 12;
 
 impl Replica<'_> {
     /// Adds one call of a kind drawn at random, if it keeps the premises.
     pub fn add_noise(&mut self, rng: &mut Rng) {
-        let drawn = match rng.below(11) {
+        let kinds = KINDS - u32::from(self.options.bundles == 0);
+        let drawn = match rng.below(kinds) {
             0 => rng.pick(&self.calls).cloned(),
             1 => self.conflicting(rng),
             2 => self.missing_parent(rng),
@@ -25,7 +28,8 @@ impl Replica<'_> {
             7 => Some(self.refused_opening(rng)),
             8 => self.wrong_length(rng),
             9 => (self.options.members > 0).then(|| own_call(rng)),
-            _ => self.untimely(rng),
+            10 => self.untimely(rng),
+            _ => Some(self.any_bundle(rng)),
         };
         if let Some(call) = drawn.filter(|call| self.keeps_premises(call)) {
             self.calls.push(call);
@@ -101,6 +105,35 @@ impl Replica<'_> {
         } else {
             Call::NoVote(round, signer)
         }
+    }
+
+    /// A bundle with a round out of range, with a bit at n or above, or with nobody new: 5, 7 or 12.
+    /// Faulty members may send timeouts for any round, so a bundle of theirs can be admitted.
+    fn any_bundle(&self, rng: &mut Rng) -> Call {
+        let group = self.world.group;
+        let round = 1 + rng.below(LAST_ROUND);
+        let beyond = bit(group.n() + rng.below(u32::BITS - group.n()));
+        let bad_round = BAD_ROUNDS[rng.below(4) as usize];
+        let any = rng.word();
+        match rng.below(6) {
+            0 => Call::Timeouts(bad_round, any & group.all()),
+            1 => Call::Timeouts(bad_round, any),
+            2 => Call::Timeouts(round, any | beyond),
+            3 => Call::Timeouts(round, self.noted(round) | beyond),
+            4 => Call::Timeouts(round, self.noted(round) & any),
+            _ => Call::Timeouts(round, self.world.faulty & any),
+        }
+    }
+
+    /// The members whose timeouts for a round were given.
+    fn noted(&self, round: u32) -> u32 {
+        let group = self.world.group;
+        let given = |call: &Call| match *call {
+            Call::Timeout(of, signer) if of == round && signer < group.n() => bit(signer),
+            Call::Timeouts(of, mask) if of == round && group.contains(mask) => mask,
+            _ => 0,
+        };
+        self.calls.iter().fold(0, |noted, call| noted | given(call))
     }
 
     /// An opening with an illegal size, or for a member that the group has not: 2 or 6. As a line

@@ -21,6 +21,9 @@ pub struct Options {
     /// That a replica never gets anybody's timeout for a round: vertices that carry the certificate
     /// are then all that ends the round for it.
     pub lost_timeouts: u32,
+    /// That a replica gets timeouts in bundles; half of these get some as single notes too. With 0
+    /// nobody does, nor is a bundle among the calls that are to be refused.
+    pub bundles: u32,
     /// That a replica never gets a vertex, in a thousand; what builds on it is then refused.
     pub lost_vertices: u32,
     /// How far messages are delayed, in hundredths of a round.
@@ -50,6 +53,7 @@ impl Options {
             missed: 3,
             lost_messages: 10,
             lost_timeouts: 0,
+            bundles: 60,
             lost_vertices: 0,
             spread: 80,
             eager: 10,

@@ -4,6 +4,7 @@
 
 use std::collections::{BTreeMap, BTreeSet};
 
+use super::transport::Transport;
 use super::{Options, Run};
 use crate::call::Call;
 use crate::calls::propose;
@@ -50,6 +51,8 @@ pub fn simulate_proposing(seed: u64, n: u32, options: &Options) -> Run {
 /// What happens to a member.
 enum Event {
     Give(Call),
+    /// The member is handed the mask of the timeouts that have come for a round.
+    HandOver(u32),
     /// The member looks again at what it may do.
     Wake,
 }
@@ -75,10 +78,12 @@ struct Network<'a> {
 impl<'a> Network<'a> {
     fn new(mut rng: Rng, group: Group, options: &'a Options) -> Network<'a> {
         let silent = rng.top_up(0, group.all(), options.faulty.min(group.f()));
+        let mut draw_member = |own| Member::new(group, own, Transport::draw(&mut rng, options));
+        let replicas = (0..group.n()).map(&mut draw_member).collect();
         let mut network = Network {
             left_out: draw_left_out(&mut rng, group, silent, options),
             cut_off: draw_cut_off(&mut rng, group, silent, options),
-            replicas: (0..group.n()).map(|own| Member::new(group, own)).collect(),
+            replicas,
             rng,
             group,
             options,
@@ -132,8 +137,13 @@ impl<'a> Network<'a> {
         match event {
             Event::Wake => {}
             Event::Give(Call::Vertex(words)) => self.give_vertex(to, &words),
+            Event::Give(Call::Timeout(round, signer)) => self.bring_timeout(to, round, signer),
             Event::Give(call) => {
                 self.member(to).give(call);
+            }
+            Event::HandOver(round) => {
+                let member = self.member(to);
+                member.give(Call::Timeouts(round, member.gathered[round as usize - 1]));
             }
         }
         while self.rng.percent(self.options.noise.min(90)) {
@@ -159,6 +169,20 @@ impl<'a> Network<'a> {
         while let Some(at) = member.pending.iter().position(|r| member.can_hold(r)) {
             let record = member.pending.swap_remove(at);
             member.give(Call::Vertex(record.words().to_vec()));
+        }
+    }
+
+    /// Gives another member's timeout as a note, or gathers it for a bundle, or both.
+    fn bring_timeout(&mut self, to: u32, round: u32, signer: u32) {
+        let member = &mut self.replicas[to as usize];
+        let transport = member.transport;
+        if transport.draw_note(&mut self.rng) {
+            member.give(Call::Timeout(round, signer));
+        }
+        if transport.has_bundles() {
+            member.gathered[round as usize - 1] |= bit(signer);
+            let delay = self.rng.below(self.options.spread);
+            self.plan(self.now + delay, to, Event::HandOver(round));
         }
     }
 
@@ -275,7 +299,7 @@ impl<'a> Network<'a> {
     /// A call that is to be refused, or repeats what the network brings anyway.
     fn add_noise(&mut self, to: u32) {
         let n = self.group.n();
-        let drawn = self.rng.below(4);
+        let drawn = self.rng.below(5 - u32::from(self.options.bundles == 0));
         let member = &mut self.replicas[to as usize];
         let round = member.round();
         match drawn {
@@ -295,8 +319,23 @@ impl<'a> Network<'a> {
                 let beyond = n + 1 + self.rng.below(3);
                 member.give(Call::Open(n, beyond));
             }
+            4 => self.add_bundle(to),
             _ => {}
         }
+    }
+
+    /// A bundle with a bit at n or above, or of members whose timeouts for some round are noted.
+    fn add_bundle(&mut self, to: u32) {
+        let n = self.group.n();
+        let beyond = bit(n + self.rng.below(u32::BITS - n));
+        let any = self.rng.word();
+        let member = &mut self.replicas[to as usize];
+        let round = 1 + self.rng.below(member.round().min(LAST_ROUND));
+        member.give(if self.rng.percent(50) {
+            Call::Timeouts(member.round(), any | beyond)
+        } else {
+            Call::Timeouts(round, any & member.mask(round, TIMEOUTS))
+        });
     }
 
     fn rounds(&self) -> u32 {
@@ -339,6 +378,9 @@ struct Member {
     /// Vertices that wait for parents.
     pending: Vec<Record>,
     times: Times,
+    transport: Transport,
+    /// By round from 1, the other members' timeouts that have come for a bundle.
+    gathered: Vec<u32>,
 }
 
 /// When a member signs its no-vote, makes its vertex and gives up on the leader, in a round.
@@ -351,13 +393,15 @@ struct Times {
 }
 
 impl Member {
-    fn new(group: Group, own: u32) -> Member {
+    fn new(group: Group, own: u32, transport: Transport) -> Member {
         let mut member = Member {
             group,
             state: vec![0; STATE_WORDS],
             calls: Vec::new(),
             pending: Vec::new(),
             times: Times::default(),
+            transport,
+            gathered: vec![0; LAST_ROUND as usize],
         };
         member.give(Call::Open(group.n(), own + 1));
         member

@@ -2,6 +2,7 @@
 
 use std::collections::BTreeSet;
 
+use super::transport::Transport;
 use super::world::World;
 use super::Options;
 use crate::call::Call;
@@ -16,6 +17,8 @@ const ROUND_TIME: u32 = 100;
 const SLOW_TIME: u32 = 300;
 /// That a member makes a record or signs a no-vote after a message, in percent.
 const OWN_CALLS: u32 = 15;
+/// That a member's timeout is in the next bundle of its round, in percent.
+const HANDED_OVER: u32 = 70;
 
 /// Draws the calls of one replica.
 pub fn draw_calls(rng: &mut Rng, world: &World, options: &Options) -> Vec<Call> {
@@ -44,6 +47,7 @@ pub fn draw_calls(rng: &mut Rng, world: &World, options: &Options) -> Vec<Call> 
 
 /// The messages that reach the replica, each with its time.
 fn draw_messages(rng: &mut Rng, world: &World, options: &Options) -> Messages {
+    let transport = Transport::draw(rng, options);
     let mut messages = Vec::new();
     for round in 1..=world.rounds {
         for member in 0..world.group.n() {
@@ -51,8 +55,12 @@ fn draw_messages(rng: &mut Rng, world: &World, options: &Options) -> Messages {
             draw_first_message(rng, world, options, (round, member), &mut messages);
             draw_notes(rng, world, options, (round, member), &mut messages);
         }
-        if rng.percent(options.lost_timeouts) {
+        let are_lost = rng.percent(options.lost_timeouts);
+        if are_lost || transport == Transport::Bundles {
             messages.retain(|(_, call)| !matches!(call, Call::Timeout(of, _) if *of == round));
+        }
+        if !are_lost && transport.has_bundles() {
+            draw_bundles(rng, world, options, round, &mut messages);
         }
     }
     messages
@@ -109,6 +117,17 @@ fn draw_first_message(
     }
 }
 
+/// That a member times out in a round, in percent: much where its leader is silent or slow.
+fn timeout_chance(world: &World, round: u32) -> u32 {
+    let leader = world.group.leader_id(round);
+    let missed = !world.vertices.contains_key(&leader) || world.slow.contains(&leader);
+    if missed {
+        80
+    } else {
+        10
+    }
+}
+
 /// Timeouts and no-votes, many where the round's leader was silent or slow, else few.
 fn draw_notes(
     rng: &mut Rng,
@@ -117,9 +136,7 @@ fn draw_notes(
     (round, member): (u32, u32),
     messages: &mut Messages,
 ) {
-    let leader = world.group.leader_id(round);
-    let missed = !world.vertices.contains_key(&leader) || world.slow.contains(&leader);
-    let chance = if missed { 80 } else { 10 };
+    let chance = timeout_chance(world, round);
     let time = ROUND_TIME * round + ROUND_TIME / 2;
     if rng.percent(chance) && !rng.percent(options.lost_messages) {
         messages.push((
@@ -133,6 +150,24 @@ fn draw_notes(
             time + rng.below(options.spread),
             Call::NoVote(round, member),
         ));
+    }
+}
+
+/// Bundles of a round's timeouts, each with the members of those before it and more.
+fn draw_bundles(
+    rng: &mut Rng,
+    world: &World,
+    options: &Options,
+    round: u32,
+    messages: &mut Messages,
+) {
+    let signers = rng.subset(world.group.all(), timeout_chance(world, round), 0);
+    let mut time = ROUND_TIME * round + ROUND_TIME / 2;
+    let mut mask = 0;
+    while mask != signers {
+        time += rng.below(options.spread / 2);
+        mask |= rng.subset(signers, HANDED_OVER, 1);
+        messages.push((time, Call::Timeouts(round, mask)));
     }
 }
 
@@ -226,9 +261,8 @@ impl<'a> Replica<'a> {
             Call::Vertex(words) => (words, &self.held),
             Call::First(words) => (words, &self.heard),
             Call::Open(n, own) => return Group::new(*n).is_none() || own > n,
-            Call::Timeout(..) | Call::NoVote(..) | Call::Propose(_) | Call::SignNoVote => {
-                return true
-            }
+            Call::Timeout(..) | Call::Timeouts(..) | Call::NoVote(..) => return true,
+            Call::Propose(_) | Call::SignNoVote => return true,
         };
         let Some(record) = Record::from_words(words) else {
             return true;

@@ -1,35 +1,10 @@
 //! Carried timeout certificates (02, request A2), as calls on states opened for a watcher.
 
-use super::damage::Damage;
+use super::row::{after_lacking, lacking, notes, Row};
 use super::worked::{first, vertex, with_weak};
 use crate::call::Call;
 use crate::group::{bit, members, Group};
 use crate::layout::*;
-
-/// A group's size and calls after its opening; then words that get other values, and more calls.
-pub struct Row {
-    pub n: u32,
-    pub calls: Vec<Call>,
-    pub words: Damage,
-    pub next: Vec<Call>,
-}
-
-impl Row {
-    fn of_four(calls: impl IntoIterator<Item = Call>) -> Row {
-        Row {
-            n: 4,
-            calls: calls.into_iter().collect(),
-            words: Damage::new(),
-            next: Vec::new(),
-        }
-    }
-
-    fn then(mut self, words: &[(usize, u32)], calls: impl IntoIterator<Item = Call>) -> Row {
-        self.words = words.to_vec();
-        self.next = calls.into_iter().collect();
-        self
-    }
-}
 
 /// All rows.
 pub fn rows() -> Vec<Row> {
@@ -39,20 +14,6 @@ pub fn rows() -> Vec<Row> {
     rows.push(held_before());
     rows.extend(without_notes());
     rows
-}
-
-/// Timeouts for a round by all members.
-fn notes(n: u32, round: u32) -> impl Iterator<Item = Call> {
-    (0..n).map(move |signer| Call::Timeout(round, signer))
-}
-
-/// Round 1 of four members without its leader's vertex.
-fn lacking() -> Vec<Call> {
-    (1..4).map(|source| vertex(1, source, [0; 3])).collect()
-}
-
-fn after_lacking(calls: impl IntoIterator<Item = Call>) -> Row {
-    Row::of_four(lacking().into_iter().chain(calls))
 }
 
 /// The notes of members that joined by a certificate, and of the one that did not.
@@ -148,11 +109,9 @@ fn held_before() -> Row {
 fn without_notes() -> Vec<Row> {
     let always = |_: u32| true;
     let at_times = |round: u32| round % 4 < 2;
-    let row = |(n, rounds): (u32, u32), is_silent: fn(u32) -> bool| Row {
-        n,
-        calls: rounds_of(n, rounds, is_silent),
-        words: Damage::new(),
-        next: notes(n, rounds - 1).chain(notes(n, rounds)).collect(),
+    let row = |(n, rounds): (u32, u32), is_silent: fn(u32) -> bool| {
+        let next = notes(n, rounds - 1).chain(notes(n, rounds));
+        Row::of(n, rounds_of(n, rounds, is_silent)).then(&[], next)
     };
     let sizes = [(4, 32), (7, 8), (10, 4), (13, 4), (16, 5)];
     let mixed = [(4, 32), (7, 12)];

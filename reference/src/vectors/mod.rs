@@ -2,8 +2,10 @@
 //!
 //! States of every size and kind are lent, each with damaged words, and asked by every call.
 
+mod bundle;
 mod carried;
 pub mod damage;
+mod row;
 mod states;
 mod worked;
 
@@ -13,6 +15,7 @@ use crate::harness::{Command, MOST_RECORD_WORDS};
 use crate::layout::*;
 use crate::rng::Rng;
 use crate::simulate::{simulate_proposing, Options};
+use row::Row;
 use states::Reached;
 
 const SEED: u64 = 4;
@@ -41,7 +44,7 @@ pub fn commands() -> Vec<Command> {
     list.openings();
     list.random_states();
     list.worked();
-    list.carried();
+    list.rows(&carried::rows());
     list.record_lengths();
     list.notes();
     for n in LEGAL_SIZES {
@@ -52,6 +55,8 @@ pub fn commands() -> Vec<Command> {
     }
     list.simulated_runs();
     list.proposing_members();
+    list.rows(&bundle::rows());
+    list.replicas_with_bundles();
     list.list.push(Command::End);
     list.list
 }
@@ -136,9 +141,9 @@ impl Commands {
         }
     }
 
-    /// Carried timeout certificates, admitted and refused.
-    fn carried(&mut self) {
-        for row in carried::rows() {
+    /// Calls, words that get other values, and more calls.
+    fn rows(&mut self, rows: &[Row]) {
+        for row in rows {
             self.fresh(row.n, 0);
             self.run(&row.calls);
             let set = |&(at, word): &(usize, u32)| Command::Set(at as u32, word);
@@ -193,11 +198,20 @@ impl Commands {
             let options = Options {
                 rounds,
                 early_stop: 0,
+                bundles: 0,
                 ..Options::typical()
             };
             let mut run = simulate_proposing(6, n, &options);
             self.list.push(Command::Lend(STATE_WORDS as u32));
             self.run(&run.replicas.swap_remove(member));
+        }
+    }
+
+    /// Whole runs of replicas that get timeouts in bundles, call by call.
+    fn replicas_with_bundles(&mut self) {
+        for calls in bundle::replicas() {
+            self.list.push(Command::Lend(STATE_WORDS as u32));
+            self.run(&calls);
         }
     }
 
@@ -414,6 +428,7 @@ impl Commands {
         self.call(&Call::Vertex(vertex.clone()));
         self.call(&Call::First(vertex));
         self.call(&Call::Timeout(1, 0));
+        self.call(&Call::Timeouts(1, 1));
         self.call(&Call::NoVote(1, 0));
         self.own_calls();
     }

@@ -31,11 +31,12 @@ pub fn reached(n: u32) -> Vec<Reached> {
     .collect()
 }
 
-/// All calls of one replica.
+/// All calls of one replica that gets timeouts one by one.
 pub fn simulated(seed: u64, n: u32, rounds: u32, options: Options) -> Vec<Call> {
     let options = Options {
         rounds,
         early_stop: 0,
+        bundles: 0,
         ..options
     };
     let run = simulate_replicas(seed, n, &options, 1);

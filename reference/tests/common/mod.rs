@@ -2,8 +2,12 @@
 
 #![allow(dead_code)]
 
+use reference::group::members;
+use reference::layout::{mask_place, CURRENT_ROUND, NO_VOTES, TIMEOUTS};
 use reference::record::Record;
-use reference::{hand_journal, hand_leaders, open, take_first_message, take_vertex, STATE_WORDS};
+use reference::{
+    hand_journal, hand_leaders, open, take_first_message, take_timeout, take_vertex, STATE_WORDS,
+};
 
 pub type State = Vec<u32>;
 
@@ -88,6 +92,38 @@ pub fn changes(before: &State, after: &State) -> Vec<(usize, u32)> {
         .filter(|&at| before[at] != after[at])
         .map(|at| (at, after[at]))
         .collect()
+}
+
+/// The state with other words.
+pub fn with(state: &State, words: &[(usize, u32)]) -> State {
+    let mut state = state.clone();
+    words.iter().for_each(|&(at, word)| state[at] = word);
+    state
+}
+
+/// Place of a round's timeouts, and of its no-votes.
+pub fn timeouts(round: u32) -> usize {
+    mask_place(round, TIMEOUTS)
+}
+
+pub fn no_votes(round: u32) -> usize {
+    mask_place(round, NO_VOTES)
+}
+
+/// The state with single timeouts of these members, all to be admitted.
+pub fn noted(mut state: State, round: u32, signers: u32) -> State {
+    for signer in members(signers) {
+        assert_eq!(take_timeout(&mut state, round, signer).number, 0);
+    }
+    state
+}
+
+/// Four members with 1/1, 1/2 and 1/3 and without the leader's 1/0, in round 1.
+pub fn lacking_leader(own: u32) -> State {
+    let mut state = opened_for(4, own);
+    vertices(&mut state, &[1, 2, 3].map(|source| plain(1, source, 0)));
+    assert_eq!(state[CURRENT_ROUND], 1);
+    state
 }
 
 /// Leader list and journal from entry 0.

@@ -111,6 +111,53 @@ struct Timed {
     }
 };
 
+// The library's costs of a bundle, of a single timeout, and of a single timeout of each of the bundle's members, one after the other, on
+// the same words.
+struct Bundle {
+    Timed &bundle, &timeout;
+    std::vector<Call> singly;
+    Samples bundled, one, each, empty;
+
+    // Each single timeout is answered as the bundle is, and together they leave its words.
+    Bundle(Timed& its, Timed& note) : bundle(its), timeout(note) {
+        const u32 round = its.c.call.a, mask = its.c.call.b;
+        for (u32 p = 0; p < its.c.n; ++p)
+            if (mask >> p & 1) singly.push_back({Kind::timeout, {}, round, p});
+        std::vector<u32> by_bundle = its.c.state, by_each = its.c.state;
+        run(ours, its.c.call, by_bundle.data());
+        bool same = true;
+        for (const Call& call : singly) same &= run(ours, call, by_each.data()) == its.answer;
+        if (same && by_each == by_bundle) return;
+        std::fprintf(stderr, "bench: n = %u, %u rounds: single timeouts do not end as the bundle does\n", its.c.n, its.c.rounds);
+        std::exit(1);
+    }
+
+    std::uint64_t once(Engine engine) const {
+        const std::uint64_t from = ticks();
+        for (const Call& call : singly) run(engine, call, words);
+        const std::uint64_t to = ticks();
+        for (const std::size_t i : bundle.changed) words[i] = bundle.c.state[i];
+        return to - from;
+    }
+
+    std::uint64_t alone(Engine engine) const {
+        std::copy(bundle.c.state.begin(), bundle.c.state.end(), words);
+        once(engine);
+        return once(engine);
+    }
+
+    // In turn, so that whatever slows the machine slows all of them. The order of the first two alternates.
+    void measure(int times) {
+        for (int i = 0; i < times; ++i) {
+            if (i % 2 == 0) bundled.push_back(bundle.alone());
+            one.push_back(timeout.alone());
+            if (i % 2 != 0) bundled.push_back(bundle.alone());
+            each.push_back(alone(ours));
+            empty.push_back(alone(nothing));
+        }
+    }
+};
+
 // Less than the timer can tell.
 constexpr double least_ns = 10;
 
@@ -152,9 +199,9 @@ void print_cell(const Timed* t) {
 
 // A row for each n and the calls that differ much, with the emptiest and the fullest state.
 void print_short_table(const std::vector<Timed>& all) {
-    static constexpr std::array<std::string_view, 23> names{
+    static constexpr std::array<std::string_view, 25> names{
         "open", "open: 2", "vertex", "vertex: 12", "vertex: 14", "vertex, commits", "vertex, commits all",
-        "first message", "first message: 12", "timeout", "timeout: 12", "no-vote", "no-vote: 12",
+        "first message", "first message: 12", "timeout", "timeout: 12", "timeouts", "timeouts: 12", "no-vote", "no-vote: 12",
         "propose", "propose, weak ids", "propose: 12", "sign no-vote",
         "status", "status: 3", "ask journal", "ask journal: 15", "hand journal", "hand journal: 15"};
     std::puts("| call | n | 0 full rounds: library / plain / second, ns | ratios | 31 full rounds | ratios |");
@@ -245,6 +292,28 @@ void print_proposing(std::vector<Timed>& all, int times, double timer, double pe
     std::puts(".");
 }
 
+// For each n, with the emptiest and the fullest state.
+std::vector<Bundle> bundles_of(std::vector<Timed>& all) {
+    std::vector<Bundle> bundles;
+    for (const u32 n : member_counts)
+        for (const u32 rounds : {fullness.front(), fullness.back()})
+            bundles.emplace_back(*find(all, "timeouts", n, rounds), *find(all, "timeout", n, rounds));
+    return bundles;
+}
+
+// Off the n single timeouts goes the cost of as many empty calls.
+void print_bundles(std::vector<Bundle>& bundles, double timer, double per_ns) {
+    std::puts("\nLibrary, a bundle of n timeouts / one timeout / n timeouts one after the other, on the same state, in turn:\n\n"
+              "|  n | full rounds | bundle, ns | one timeout, ns | n timeouts, ns | bundle / one | bundle / n |\n"
+              "|---:|------------:|-----------:|----------------:|---------------:|-------------:|-----------:|");
+    for (Bundle& b : bundles) {
+        const double bundle = (median(b.bundled) - timer) / per_ns, one = (median(b.one) - timer) / per_ns;
+        const double each = (median(b.each) - median(b.empty)) / per_ns;
+        std::printf("| %2u | %11u | %10s | %15s | %14s | %12s | %10s |\n", b.bundle.c.n, b.bundle.c.rounds, cost(bundle).c_str(),
+                    cost(one).c_str(), cost(each).c_str(), ratio(bundle, one).c_str(), ratio(bundle, each).c_str());
+    }
+}
+
 std::vector<Panel> panels(const std::vector<Timed>& all) {
     struct Shown {
         const char *name, *text;
@@ -281,6 +350,29 @@ void print_stack() {
                 most[ours], by[ours].c_str(), most[plain_engine], by[plain_engine].c_str(), most[second], by[second].c_str());
 }
 
+std::vector<Timed> timed_cases() {
+    std::vector<Timed> all;
+    for (const u32 n : member_counts)
+        for (const u32 rounds : fullness)
+            for (Case& c : cases_of(n, rounds)) all.emplace_back(std::move(c));
+    return all;
+}
+
+// The answer is what an empty call takes with the timer, in ticks.
+double measure_all(std::vector<Timed>& all, std::vector<Bundle>& bundles, int passes, int times, double per_ns) {
+    // Passes over all cases, so that a disturbance meets only some samples of a case.
+    for (int pass = 0; pass < passes; ++pass) {
+        for (Timed& t : all) t.measure(times);
+        for (Bundle& b : bundles) b.measure(times);
+    }
+    Samples empty;
+    for (const Timed& t : all) empty.insert(empty.end(), t.samples[nothing].begin(), t.samples[nothing].end());
+    const double timer = median(empty);
+    for (Timed& t : all)
+        for (const Engine e : all_engines) t.ns[e] = std::max(0.0, median(t.samples[e]) - timer) / per_ns;
+    return timer;
+}
+
 }  // namespace
 
 int main(int argc, char** argv) {
@@ -299,29 +391,21 @@ int main(int argc, char** argv) {
     compare_at_random(3000);
     compare_grown(120);
     const double per_ns = ticks_per_ns();
-    std::vector<Timed> all;
-    for (const u32 n : member_counts)
-        for (const u32 rounds : fullness)
-            for (Case& c : cases_of(n, rounds)) all.emplace_back(std::move(c));
-    // Passes over all cases, so that a disturbance meets only some samples of a case.
+    std::vector<Timed> all = timed_cases();
+    std::vector<Bundle> bundles = bundles_of(all);
     const int passes = quick ? 3 : 11, times = quick ? 24 : 64;
-    for (int pass = 0; pass < passes; ++pass)
-        for (Timed& t : all) t.measure(times);
-    Samples empty;
-    for (const Timed& t : all) empty.insert(empty.end(), t.samples[nothing].begin(), t.samples[nothing].end());
-    const double timer = median(empty);
-    for (Timed& t : all)
-        for (const Engine e : all_engines) t.ns[e] = std::max(0.0, median(t.samples[e]) - timer) / per_ns;
+    const double timer = measure_all(all, bundles, passes, times, per_ns);
 
     if (brief) print_short_table(all);
     else print_table(all);
     print_growth(all);
     print_summary(all);
     print_proposing(all, passes * times, timer, per_ns);
+    print_bundles(bundles, timer, per_ns);
     std::printf("\nMedians of %d calls of the library and of the plain engine, and %d of the second implementation, interleaved. "
                 "The words are warm: each timed call follows the same call by the same engine on the same words. "
                 "The cost of an empty call, %.0f ns with the timer, is taken off each. "
-                "A number after a call's name is the refusal that it answers.\n",
+                "A number after a call's name is the refusal that it answers; timeouts takes a bundle of all n members.\n",
                 passes * times, passes * times / 8, timer / per_ns);
     print_stack();
     if (!write_picture(picture, panels(all))) {

@@ -147,6 +147,44 @@ std::vector<Case> own_cases(u32 n, u32 rounds, const std::vector<u32>& state) {
     return cases;
 }
 
+// Timeouts, one and in a bundle, and no-votes of the round after the full ones.
+std::vector<Case> note_cases(u32 n, u32 rounds, const std::vector<u32>& state) {
+    const u32 next = rounds + 1;
+    std::vector<Case> cases;
+    Builder b(n);
+    // The call, admitted; and once more on the words that it left.
+    auto add_twice = [&](const std::string& name, const Call& call) {
+        b.state = state;
+        cases.push_back({name, n, rounds, b.state, call, 0});
+        b.must(call);
+        cases.push_back({name + ": 12", n, rounds, b.state, call, 12});
+    };
+    add_twice("timeout", {Kind::timeout, {}, next, 1});
+    add_twice("timeouts", {Kind::timeouts, {}, next, b.all()});
+    cases.push_back({"timeouts: 7", n, rounds, state, {Kind::timeouts, {}, next, 1u << n}, 7});
+    add_twice("no-vote", {Kind::no_vote, {}, next, 1});
+    return cases;
+}
+
+// A mask for a bundle: some members, at times none or all, and at times with bits that are no member's.
+u32 bundle_mask(Random& random, u32 n) {
+    switch (random.below(8)) {
+    case 0: return (1u << n) - 1;
+    case 1: return 1u << random.below(32);
+    case 2: return random.below(1 << 16) << random.below(17) | random.below(1 << n);
+    default: return random.below(1 << n) & random.below(1 << n);
+    }
+}
+
+// What arrives in a round without its leader's vertex: the member's timeout, a bundle of timeouts, or the member's no-vote.
+Call random_note(Random& random, u32 n, u32 round, u32 p) {
+    switch (random.below(8)) {
+    case 0: return {Kind::timeouts, {}, round, bundle_mask(random, n)};
+    case 1: case 2: return {Kind::no_vote, {}, round, p};
+    default: return {Kind::timeout, {}, round, p};
+    }
+}
+
 }  // namespace
 
 Said agreed(const Call& call, std::vector<u32>& state, bool all) {
@@ -225,14 +263,7 @@ std::vector<Case> cases_of(u32 n, u32 rounds) {
         }
         b.state = state;
     }
-    const Call timeout{Kind::timeout, {}, next, 1};
-    add("timeout", state, timeout, 0);
-    b.must(timeout);
-    add("timeout: 12", b.state, timeout, 12);
-    const Call no_vote{Kind::no_vote, {}, next, 1};
-    add("no-vote", state, no_vote, 0);
-    b.must(no_vote);
-    add("no-vote: 12", b.state, no_vote, 12);
+    for (Case& c : note_cases(n, rounds, state)) cases.push_back(std::move(c));
     for (Case& c : own_cases(n, rounds, state)) cases.push_back(std::move(c));
     add("status", state, {Kind::status}, 0);
     std::vector<u32> damaged = state;
@@ -292,8 +323,7 @@ void compare_grown(int states) {
             if ((absent >> b.leader(round) & 1) == 0) continue;
             for (u32 p = 0; p < b.n; ++p) {
                 if (random.below(4) == 0) continue;
-                const Kind note = random.below(4) == 0 ? Kind::no_vote : Kind::timeout;
-                agreed({note, {}, round, p}, b.state, all);
+                agreed(random_note(random, b.n, round, p), b.state, all);
                 if (random.below(4) == 0) be_member();
             }
         }
@@ -334,9 +364,9 @@ void compare_at_random(int calls) {
             const u32 most_weak = random.below(4) == 0 ? 5 : 0;
             call.record = b.record(1 + random.below(top), random.below(n), random.below(4) != 0, false, most_weak);
             if (random.below(3) == 0) call.record[random.below(YARDBOOK_RECORD_WORDS)] ^= 1u << random.below(20);
-            const bool note = call.kind == Kind::timeout || call.kind == Kind::no_vote;
+            const bool bundle = call.kind == Kind::timeouts, note = bundle || call.kind == Kind::timeout || call.kind == Kind::no_vote;
             call.a = random.below(call.kind == Kind::open ? 20 : note ? top + 2 : 40);
-            call.b = random.below(n + 1);
+            call.b = bundle ? bundle_mask(random, n) : random.below(n + 1);
             const bool keep = !member && damage == 0 && call.kind != Kind::open;
             agreed(call, state, i % 8 == 0);
             if (keep) b.state = state;

@@ -21,8 +21,8 @@ std::vector<Case> cases_of(u32 n, u32 rounds);
 // a word differs. Without `all`, the second implementation is left out.
 Said agreed(const Call& call, std::vector<u32>& state, bool all);
 
-// States grown at random over all rounds, with absent and late vertices, first messages, notes, few or many votes, and an own member
-// that signs and proposes: the engines must agree at every call.
+// States grown at random over all rounds, with absent and late vertices, first messages, notes, bundles, few or many votes, and an own
+// member that signs and proposes: the engines must agree at every call.
 void compare_grown(int states);
 
 // Random calls, good and bad, on states with and without damaged words: the engines must agree.

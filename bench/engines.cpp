@@ -12,6 +12,7 @@ yardbook_answer reference_open(u32*, std::size_t, u32, u32);
 yardbook_answer reference_take_vertex(u32*, std::size_t, const u32*, std::size_t);
 yardbook_answer reference_take_first_message(u32*, std::size_t, const u32*, std::size_t);
 yardbook_answer reference_take_timeout(u32*, std::size_t, u32, u32);
+yardbook_answer reference_take_timeouts(u32*, std::size_t, u32, u32);
 yardbook_answer reference_take_no_vote(u32*, std::size_t, u32, u32);
 yardbook_proposal reference_propose(u32*, std::size_t, u32);
 yardbook_answer reference_sign_no_vote(u32*, std::size_t);
@@ -28,6 +29,7 @@ namespace {
 [[gnu::noipa]] yardbook_answer nothing_take_vertex(u32*, std::size_t, const u32*, std::size_t) { return {}; }
 [[gnu::noipa]] yardbook_answer nothing_take_first_message(u32*, std::size_t, const u32*, std::size_t) { return {}; }
 [[gnu::noipa]] yardbook_answer nothing_take_timeout(u32*, std::size_t, u32, u32) { return {}; }
+[[gnu::noipa]] yardbook_answer nothing_take_timeouts(u32*, std::size_t, u32, u32) { return {}; }
 [[gnu::noipa]] yardbook_answer nothing_take_no_vote(u32*, std::size_t, u32, u32) { return {}; }
 [[gnu::noipa]] yardbook_proposal nothing_propose(u32*, std::size_t, u32) { return {}; }
 [[gnu::noipa]] yardbook_answer nothing_sign_no_vote(u32*, std::size_t) { return {}; }
@@ -52,6 +54,7 @@ Said said(yardbook_part p) { return {p.number, p.start, p.length}; }
     case Kind::vertex: return said(prefix##take_vertex(state, state_words, call.record.data(), call.record.size()));      \
     case Kind::first: return said(prefix##take_first_message(state, state_words, call.record.data(), call.record.size())); \
     case Kind::timeout: return said(prefix##take_timeout(state, state_words, call.a, call.b));                            \
+    case Kind::timeouts: return said(prefix##take_timeouts(state, state_words, call.a, call.b));                          \
     case Kind::no_vote: return said(prefix##take_no_vote(state, state_words, call.a, call.b));                            \
     case Kind::propose: return said(prefix##propose(state, state_words, call.a));                                         \
     case Kind::sign_no_vote: return said(prefix##sign_no_vote(state, state_words));                                       \

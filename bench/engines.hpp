@@ -17,7 +17,9 @@ enum Engine : std::size_t { ours, plain_engine, second, nothing };
 inline constexpr std::size_t engines = 3;
 inline constexpr std::array<Engine, engines> all_engines{ours, plain_engine, second};
 
-enum class Kind { open, vertex, first, timeout, no_vote, propose, sign_no_vote, status, ask_leaders, ask_journal, hand_leaders, hand_journal };
+enum class Kind {
+    open, vertex, first, timeout, timeouts, no_vote, propose, sign_no_vote, status, ask_leaders, ask_journal, hand_leaders, hand_journal
+};
 inline constexpr u32 call_kinds = static_cast<u32>(Kind::hand_journal) + 1;
 
 struct Call {

@@ -259,6 +259,13 @@ u32 check_note(const u32* state, std::size_t words, u32 round, u32 signer, Mask 
     return has(mask(state, round, kind), signer) ? 12 : 0;
 }
 
+u32 check_bundle(const u32* state, std::size_t words, u32 round, u32 signers) {
+    if (const u32 number = check_state(state, words)) return number;
+    if (round < 1 || round > rounds) return 5;
+    if (signers & Group(state[members_at]).outside) return 7;
+    return (signers & ~mask(state, round, timeouts)) == 0 ? 12 : 0;
+}
+
 // Whether strong edges alone lead from those reached in the round to all that is held below it.
 bool all_reached(const u32* state, u32 round, u32 reached) {
     for (u32 r = round; r >= 2; --r) {
@@ -364,6 +371,13 @@ yardbook_answer plain_take_first_message(u32* state, std::size_t words, const u3
 yardbook_answer plain_take_timeout(u32* state, std::size_t words, u32 round, u32 signer) {
     if (const u32 number = check_note(state, words, round, signer, timeouts)) return refused(number);
     mask(state, round, timeouts) |= 1u << signer;
+    raise_round(Group(state[members_at]), state);
+    return refused(0);
+}
+
+yardbook_answer plain_take_timeouts(u32* state, std::size_t words, u32 round, u32 signers) {
+    if (const u32 number = check_bundle(state, words, round, signers)) return refused(number);
+    mask(state, round, timeouts) |= signers;
     raise_round(Group(state[members_at]), state);
     return refused(0);
 }

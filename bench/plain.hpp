@@ -23,6 +23,7 @@ yardbook_answer plain_take_vertex(std::uint32_t* state, std::size_t words, const
 yardbook_answer plain_take_first_message(std::uint32_t* state, std::size_t words, const std::uint32_t* record,
                                    std::size_t record_words);
 yardbook_answer plain_take_timeout(std::uint32_t* state, std::size_t words, std::uint32_t round, std::uint32_t signer);
+yardbook_answer plain_take_timeouts(std::uint32_t* state, std::size_t words, std::uint32_t round, std::uint32_t signers);
 yardbook_answer plain_take_no_vote(std::uint32_t* state, std::size_t words, std::uint32_t round, std::uint32_t signer);
 yardbook_proposal plain_propose(std::uint32_t* state, std::size_t words, std::uint32_t tag);
 yardbook_answer plain_sign_no_vote(std::uint32_t* state, std::size_t words);

@@ -96,6 +96,18 @@ pub unsafe extern "C" fn reference_take_timeout(
 /// # Safety
 /// As above.
 #[no_mangle]
+pub unsafe extern "C" fn reference_take_timeouts(
+    state: *mut u32,
+    words: usize,
+    round: u32,
+    mask: u32,
+) -> Answer {
+    answer(reference::take_timeouts(words!(mut state, words), round, mask))
+}
+
+/// # Safety
+/// As above.
+#[no_mangle]
 pub unsafe extern "C" fn reference_take_no_vote(
     state: *mut u32,
     words: usize,

@@ -12,4 +12,5 @@ pub mod Reached
 pub mod Counts
 pub mod Heard
 pub mod Taking
+pub mod Joined
 pub mod Singly

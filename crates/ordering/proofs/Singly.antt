@@ -1,128 +1,72 @@
--- A bundle of timeouts ends as single timeouts of its new members do, in any order. Assumes nothing.
+-- A bundle of timeouts against single ones: admitted, with members noted before, and refused. Assumes nothing.
 use mathlib.Core.Path.{_≡_, refl, sym, ap, ap₂, _∙_}
-use mathlib.Core.Bool.{Bool, true, false, cond, not, _&&_, _||_, or-assoc}
+use mathlib.Core.Bool.{Bool, true, false, cond, not, _&&_, _||_, and-true, or-false}
 use mathlib.Core.Logic.{_⊎_, inl, inr, ⊎-elim}
 use mathlib.Core.List.{List, [], _∷_, _++_}
 use Prim.Native.Nat.{ℕ, zero, suc, _+_, _^_, _≤_, _<_}
 use native.Mathlib.Omega.{arith}
-use lib.Bits.{bitOr, or-lt, or-zero-r}
+use lib.Bits.{bitOr, bitAnd, or-lt, or-zero-r, and-le-r}
 use lib.Pow.{pow-pos, pow-lt}
 use lib.Dec.{eqb, ltb}
 use lib.ListN.{length, getD, set}
-use lib.Seq.{getD-set-other, set-set}
-use borrow.Author.Tests.{eqb-true, eqb-false, eq-eqb, ne-eqb, leb-true, ltb-true, ltb-false, lt-ltb, le-ltb, not-true, not-false}
-use Rattle.record.specs.Below.{any, count, select}
-use Rattle.record.specs.Members.{leader, has, add, meets, quorum, rounds, within, isRound}
-use Rattle.record.specs.Refusals.{numberOf, firstNo}
+use borrow.Author.Tests.{eqb-true, eqb-false, eq-eqb, ne-eqb, ltb-true, lt-ltb, le-ltb, not-true, not-false}
+use Rattle.record.specs.Below.{any, select}
+use Rattle.record.specs.Members.{has, add, rounds, within, isRound}
+use Rattle.record.specs.Refusals.{numberOf, Question, firstNo}
 use Rattle.record.specs.Questions.{signerQuestions}
 use Rattle.record.specs.declared.refusal.Refusal.{Refusal}
-use Rattle.record.specs.declared.refusal.Refusal.the-variants.{None, MaskBits, Duplicate}
-use Rattle.record.proofs.Booleans.{which, and-left, and-right, and-both, or-cases, or-left, or-right, bool-ext, cond-true, cond-false}
-use Rattle.record.proofs.Below.{any-elim, any-off, count-mono}
-use Rattle.record.proofs.Masks.{has-bound, has-or, has-one, has-zero, has-add-other, mask-ext, meets-count, within-lt}
-use Rattle.record.proofs.Rounds.{round-in}
+use Rattle.record.specs.declared.refusal.Refusal.the-variants.{None, Round, Source, MaskBits, Duplicate}
+use Rattle.record.proofs.Booleans.{which, and-fails-right, and-left, and-right, and-both, or-left, bool-ext, cond-true, cond-false}
+use Rattle.record.proofs.Below.{any-elim, any-off, any-cong}
+use Rattle.record.proofs.Masks.{has-bound, has-or, has-one, has-zero, has-add-other, mask-ext, within-lt, lt-within, within-or}
+use Rattle.record.proofs.Rounds.{round-range, round-in}
 use Rattle.record.proofs.Turn.{next, stop, done}
-use Rattle.replica.specs.Layout.{stateSize, currentRoundAt, memberCountAt, heldAt, timeoutsAt, timeoutsKind}
-use Rattle.replica.specs.State.{memberCount, currentRound, heldMask, timeoutsMask, addMember, addMembers}
-use Rattle.replica.specs.WellFormed.{wellFormed}
-use Rattle.replica.specs.Outcome.{Outcome, unchanged}
-use Rattle.replica.proofs.Formed.{WellFormed, well-formed}
-use Rattle.commits.specs.Commit.{passable, highestPassable, raiseRound}
+use Rattle.replica.specs.Layout.{stateSize, memberCountAt, timeoutsAt, timeoutsKind}
+use Rattle.replica.specs.State.{memberCount, timeoutsMask, addMember, addMembers}
+use Rattle.replica.specs.WellFormed.{wellFormed, subset}
+use Rattle.replica.specs.Outcome.{Outcome, unchanged, outcome}
+use Rattle.replica.proofs.Formed.{WellFormed, formed, well-formed}
+use Rattle.replica.proofs.Laws.{subset-has}
+use Rattle.replica.specs.Status.{stateQuestions}
+use Rattle.commits.specs.Commit.{raiseRound}
 use Rattle.ordering.specs.Calls.{noteRefusal, takeTimeout, isNew, bundleRefusal, takeTimeouts}
-use Rattle.ordering.specs.Bundle.{followed, takeSingly, newMembers, times, Reordered, EndsAsSingles, RefusedAsSingles}
-use Rattle.ordering.proofs.Rule.{quorum-meets, highest-more, raise-up, raise-not, raise-other, raise-part}
+use Rattle.ordering.specs.Bundle.{followed, takeSingly, newMembers, times, Reordered, EndsAsSingles, NotedDoNoHarm, RefusedAsSingles}
+use Rattle.ordering.proofs.Rule.{raise-other}
 use Rattle.ordering.proofs.Turns.{outcome-zero, outcome-admitted, outcome-refused}
-use Rattle.ordering.proofs.Marks.{formed-raise, formed-note, formed-joined, join-here, join-other, join-more}
+use Rattle.ordering.proofs.Marks.{formed-raise, formed-note, join-here}
 use Rattle.ordering.proofs.Writing.{calm-members, calm-then, raise-calm, note-calm, join-calm}
 use Rattle.ordering.proofs.Bundled.{BundlePassed, bundle-passed}
 use Rattle.ordering.proofs.Taking.{calm-still}
+use Rattle.ordering.proofs.Joined.{join-twice, raise-once}
 
--- ---- the words
+-- ---- the questions
 
--- two words written in either order
-set-swap : (l : List ℕ) (i j x y : ℕ) → (i ≡ j → ⊥) → set (set l i x) j y ≡ set (set l j y) i x
-set-swap [] i j x y h = refl
-set-swap (a ∷ l) zero zero x y h = absurd (h refl)
-set-swap (a ∷ l) zero (suc j) x y h = refl
-set-swap (a ∷ l) (suc i) zero x y h = refl
-set-swap (a ∷ l) (suc i) (suc j) x y h = ap (λ (k : List ℕ). a ∷ k) (set-swap l i j x y (λ e. h (ap suc e)))
+-- questions 1, 3 and 5, where they are passed, with others behind them
+pass-front : (l : List ℕ) → WellFormed l → (r : ℕ) → isRound r ≡ true → (rest : List Question)
+    → firstNo rest ≡ firstNo (stateQuestions l ++ (isRound r, Round) ∷ rest)
+pass-front l S r c rest = next _ _ (eq-eqb _ _ (S .size)) (next _ _ (well-formed l S) (next _ _ c refl))
 
--- the current round written before the timeouts or after them
-join-round : (l : List ℕ) (r m x : ℕ) → addMembers (set l currentRoundAt x) (timeoutsAt r) m ≡ set (addMembers l (timeoutsAt r) m) currentRoundAt x
-unfolding addMembers
-join-round l r m x =
-    ap (λ (w : ℕ). set (set l currentRoundAt x) (timeoutsAt r) (bitOr w m)) (getD-set-other l currentRoundAt (timeoutsAt r) x 0 (λ e. omega arith))
-    ∙ set-swap l currentRoundAt (timeoutsAt r) x _ (λ e. omega arith)
+-- two calls that ask them first end alike, if they do where these are passed
+module _ (l : List ℕ) (r : ℕ) (xs ys : List Question) (same : WellFormed l → isRound r ≡ true → firstNo xs ≡ firstNo ys) where
+  abbrev Alike : Type 0
+  Alike = firstNo (stateQuestions l ++ (isRound r, Round) ∷ xs) ≡ firstNo (stateQuestions l ++ (isRound r, Round) ∷ ys)
 
--- one mask after another is both at once
-or-twice : (k a b c : ℕ) → a < 2 ^ k → b < 2 ^ k → c < 2 ^ k → bitOr (bitOr a b) c ≡ bitOr a (bitOr b c)
-or-twice k a b c x y z = mask-ext k _ _ (or-lt k _ _ (or-lt k a b x y) z) (or-lt k _ _ x (or-lt k b c y z)) (λ p h. has-or (bitOr a b) c p
-    ∙ ap (λ (t : Bool). t || has c p) (has-or a b p) ∙ or-assoc (has a p) (has b p) (has c p)
-    ∙ sym (has-or a (bitOr b c) p ∙ ap (λ (t : Bool). has a p || t) (has-or b c p)))
-
-join-twice : (l : List ℕ) (at k a b : ℕ) → at < length l → getD l at 0 < 2 ^ k → a < 2 ^ k → b < 2 ^ k
-    → addMembers (addMembers l at a) at b ≡ addMembers l at (bitOr a b)
-unfolding addMembers
-join-twice l at k a b fits x y z =
-    set-set l at _ _ ∙ ap (λ (w : ℕ). set l at (bitOr w b)) (join-here l at a fits) ∙ ap (set l at) (or-twice k (getD l at 0) a b x y z)
-
--- ---- the round rule after each mask, and once after both
-
-module _ (l : List ℕ) (S : WellFormed l) (r m : ℕ) (low : 1 ≤ r) (high : r ≤ rounds) (small : m < 2 ^ memberCount l) where
-  abbrev joined : List ℕ
-  joined = addMembers l (timeoutsAt r) m
-
-  fits : timeoutsAt r < length l
-  fits = omega (arith, S .size)
-
-  J : WellFormed joined
-  J = formed-joined l S r m low high small
-
-  other : (j : ℕ) → (j ≡ timeoutsAt r → ⊥) → getD joined j 0 ≡ getD l j 0
-  other = join-other l (timeoutsAt r) m fits
-
-  members : memberCount joined ≡ memberCount l
-  members = other memberCountAt (λ e. omega arith)
-
-  -- a quorum of timeouts stays one
-  quorum-stays : (q : ℕ) → 1 ≤ q → q ≤ rounds → meets (memberCount l) (timeoutsMask l q) ≡ true → meets (memberCount l) (timeoutsMask joined q) ≡ true
-  quorum-stays q a b e =
-      let n = memberCount l in
-      quorum-meets n (timeoutsMask joined q) (rw members at (J .masks .timeouts-low q a b)) (omega (
-        arith,
-        leb-true (quorum n) (count n (has (timeoutsMask l q))) (sym (meets-count n (timeoutsMask l q) (S .masks .timeouts-low q a b)) ∙ e),
-        count-mono n (has (timeoutsMask l q)) (has (timeoutsMask joined q)) (join-more l (timeoutsAt r) m fits (timeoutsAt q)),
-      ))
-
-  -- and so a passable round
-  passable-stays : (q : ℕ) → 1 ≤ q → q ≤ rounds → passable l q ≡ true → passable joined q ≡ true
-  unfolding passable
-  passable-stays q a b e =
-      let led = has (heldMask l q) (leader (memberCount l) q) in
-      let enough = meets (memberCount l) (heldMask l q) in
-      let later = meets (memberCount l) (timeoutsMask joined q) in
-      rw (members, other (heldAt q) (λ d. omega arith)) (and-both {a = enough} (and-left enough _ e) (⊎-elim
-      (λ h. or-left {a = led} later h)
-      (λ h. or-right led (quorum-stays q a b h))
-      (or-cases led (meets (memberCount l) (timeoutsMask l q)) (and-right enough _ e))))
-
-  raise-once : raiseRound (addMembers (raiseRound l) (timeoutsAt r) m) ≡ raiseRound joined
-  raise-once = go (which (ltb (currentRound l) (1 + highestPassable l rounds)))
+  same-front : Alike
+  same-front = size (which (eqb (length l) stateSize))
     where
-      top : highestPassable l rounds ≤ highestPassable joined rounds
-      top = highest-more l joined rounds passable-stays
+      round : eqb (length l) stateSize ≡ true → wellFormed l ≡ true → (isRound r ≡ true) ⊎ (isRound r ≡ false) → Alike
+      round a b (inl c) =
+          let S = formed l (eqb-true _ _ a) b in
+          sym (pass-front l S r c xs) ∙ same S c ∙ pass-front l S r c ys
+      round a b (inr c) = sym (next _ _ a (next _ _ b (stop _ _ c))) ∙ next _ _ a (next _ _ b (stop _ _ c))
 
-      now : currentRound joined ≡ currentRound l
-      now = other currentRoundAt (λ e. omega arith)
+      form : eqb (length l) stateSize ≡ true → (wellFormed l ≡ true) ⊎ (wellFormed l ≡ false) → Alike
+      form a (inl b) = round a b (which (isRound r))
+      form a (inr b) = sym (next _ _ a (stop _ _ b)) ∙ next _ _ a (stop _ _ b)
 
-      go : (ltb (currentRound l) (1 + highestPassable l rounds) ≡ true) ⊎ (ltb (currentRound l) (1 + highestPassable l rounds) ≡ false)
-          → raiseRound (addMembers (raiseRound l) (timeoutsAt r) m) ≡ raiseRound joined
-      go (inl e) =
-          let up : currentRound l < 1 + highestPassable l rounds = ltb-true _ _ e in
-          ap (λ (k : List ℕ). raiseRound (addMembers k (timeoutsAt r) m)) (raise-up l up)
-          ∙ ap raiseRound (join-round l r m (1 + highestPassable l rounds))
-          ∙ raise-part joined (1 + highestPassable l rounds) (omega (arith, J .size)) (omega (arith, now, top, up)) (omega (arith, top))
-      go (inr e) = ap (λ (k : List ℕ). raiseRound (addMembers k (timeoutsAt r) m)) (raise-not l (ltb-false _ _ e))
+      size : (eqb (length l) stateSize ≡ true) ⊎ (eqb (length l) stateSize ≡ false) → Alike
+      size (inl a) = form a (which (wellFormed l))
+      size (inr a) = sym (stop _ _ a) ∙ stop _ _ a
 
 -- ---- a single timeout of a new member
 
@@ -130,7 +74,7 @@ module _ (l : List ℕ) (S : WellFormed l) (r : ℕ) (low : 1 ≤ r) (high : r �
   -- what its last question finds is its answer
   note-last : (why : Refusal) → why ≡ firstNo ((not (has (timeoutsMask l r) p), Duplicate) ∷ []) → why ≡ noteRefusal l r p timeoutsKind
   unfolding signerQuestions
-  note-last why e = next _ _ (eq-eqb _ _ (S .size)) (next _ _ (well-formed l S) (next _ _ (round-in r low high) (next _ _ (lt-ltb _ _ few) e)))
+  note-last why e = next _ _ (lt-ltb _ _ few) e ∙ pass-front l S r (round-in r low high) _
 
   abbrev noted : List ℕ
   noted = addMember l (timeoutsAt r) p
@@ -341,47 +285,99 @@ ends-as-singles l r mask z =
     let ends = calm-still C ∙ outcome-admitted _ (bundleRefusal l r mask) l _ refl h in
     (in-any-order l r mask w (newMembers l r mask) (λ p. refl) ∙ ends, λ ps R. in-any-order l r mask w ps R ∙ ends)
 
+-- ---- members noted before
+
+module _ (l : List ℕ) (r mask noted : ℕ) (old : subset noted (timeoutsMask l r) ≡ true) where
+  same-new : (p : ℕ) → isNew l r (bitOr mask noted) p ≡ isNew l r mask p
+  unfolding isNew
+  same-new p = ap (λ (t : Bool). t && not (has (timeoutsMask l r) p)) (has-or mask noted p) ∙ go (which (has noted p))
+    where
+      go : (has noted p ≡ true) ⊎ (has noted p ≡ false)
+          → ((has mask p || has noted p) && not (has (timeoutsMask l r) p)) ≡ (has mask p && not (has (timeoutsMask l r) p))
+      go (inl d) =
+          let known : not (has (timeoutsMask l r) p) ≡ false = ap not (subset-has noted (timeoutsMask l r) p old d) in
+          and-fails-right (has mask p || has noted p) known ∙ sym (and-fails-right (has mask p) known)
+      go (inr d) = rw d (ap (λ (t : Bool). t && not (has (timeoutsMask l r) p)) (or-false (has mask p)))
+
+  noted-low : WellFormed l → 1 ≤ r → r ≤ rounds → noted < 2 ^ memberCount l
+  noted-low S low high =
+      let part : bitAnd noted (timeoutsMask l r) ≡ noted = eqb-true _ _ old in
+      omega (arith, S .masks .timeouts-low r low high, part, and-le-r noted (timeoutsMask l r))
+
+  same-bits : WellFormed l → isRound r ≡ true → within (memberCount l) (bitOr mask noted) ≡ within (memberCount l) mask
+  same-bits S c =
+      let n = memberCount l in
+      let w = round-range r c in
+      within-or n mask noted
+      ∙ ap (λ (t : Bool). within n mask && t) (lt-within n noted (noted-low S (w .0) (w .1))) ∙ and-true (within n mask)
+
+  same-refusal : bundleRefusal l r (bitOr mask noted) ≡ bundleRefusal l r mask
+  same-refusal = same-front l r _ _ (λ S c. ap₂ (λ (b t : Bool). firstNo ((b, MaskBits) ∷ (t, Duplicate) ∷ [])) (same-bits S c)
+      (any-cong (memberCount l) _ _ (λ p h. same-new p)))
+
+  same-joined : BundlePassed l r mask → addMembers l (timeoutsAt r) (bitOr mask noted) ≡ addMembers l (timeoutsAt r) mask
+  unfolding addMembers
+  same-joined w = ap (set l (timeoutsAt r)) (mask-ext n _ _ (or-lt n _ _ low (or-lt n _ _ (w .small) (noted-low (w .formed) (w .low) (w .high))))
+      (or-lt n _ _ low (w .small))
+      (λ p h. has-or (timeoutsMask l r) (bitOr mask noted) p ∙ ap (λ (t : Bool). has (timeoutsMask l r) p || t) (has-or mask noted p)
+      ∙ go p (which (has noted p)) ∙ sym (has-or (timeoutsMask l r) mask p)))
+    where
+      n : ℕ
+      n = memberCount l
+
+      low : timeoutsMask l r < 2 ^ memberCount l
+      low = w .formed .masks .timeouts-low r (w .low) (w .high)
+
+      go : (p : ℕ) → (has noted p ≡ true) ⊎ (has noted p ≡ false)
+          → (has (timeoutsMask l r) p || (has mask p || has noted p)) ≡ (has (timeoutsMask l r) p || has mask p)
+      go p (inl d) =
+          let known = subset-has noted (timeoutsMask l r) p old d in
+          or-left (has mask p || has noted p) known ∙ sym (or-left (has mask p) known)
+      go p (inr d) = rw d (ap (λ (t : Bool). has (timeoutsMask l r) p || t) (or-false (has mask p)))
+
+-- A bundle ends the same with members noted before and without them.
+pub noted-do-no-harm : NotedDoNoHarm
+unfolding takeTimeouts
+noted-do-no-harm l r mask noted old = go (which (eqb (numberOf why) 0))
+  where
+    why : Refusal
+    why = bundleRefusal l r mask
+
+    go : (eqb (numberOf why) 0 ≡ true) ⊎ (eqb (numberOf why) 0 ≡ false) → takeTimeouts l r (bitOr mask noted) ≡ takeTimeouts l r mask
+    go (inl e) = ap₂ (λ (q : Refusal) (after : List ℕ). outcome q l after) (same-refusal l r mask noted old)
+        (ap raiseRound (same-joined l r mask noted old (bundle-passed l r mask (eqb-true _ _ e))))
+    go (inr e) =
+        let stopped : numberOf why ≡ 0 → ⊥ = eqb-false _ _ e in
+        sym (outcome-refused why _ l _ (sym (same-refusal l r mask noted old)) stopped) ∙ outcome-refused why why l _ refl stopped
+
 -- ---- a refused bundle
 
--- the questions in turn: a single timeout is asked 1, 3, 5 and 12 as well, and 6 of a member is answered yes
+-- behind 1, 3 and 5 a single timeout is asked 6, which is answered yes of a member, and 12
 module _ (l : List ℕ) (r mask p : ℕ) (there : has mask p ≡ true) (some : numberOf (bundleRefusal l r mask) ≡ 0 → ⊥)
     (low-bits : numberOf (bundleRefusal l r mask) ≡ numberOf MaskBits → ⊥) where
-  abbrev Alike : Type 0
-  Alike = noteRefusal l r p timeoutsKind ≡ bundleRefusal l r mask
-
-  -- 12
-  nobody : eqb (length l) stateSize ≡ true → wellFormed l ≡ true → isRound r ≡ true → within (memberCount l) mask ≡ true
-      → (any (memberCount l) (isNew l r mask) ≡ true) ⊎ (any (memberCount l) (isNew l r mask) ≡ false) → Alike
+  refused-alike : noteRefusal l r p timeoutsKind ≡ bundleRefusal l r mask
   unfolding signerQuestions isNew
-  nobody a b c d (inl e) = absurd (some (sym (ap numberOf (next _ _ a (next _ _ b (next _ _ c (next _ _ d (next _ _ e done))))))))
-  nobody a b c d (inr e) =
-      let few : p < memberCount l = has-bound (memberCount l) mask p (within-lt _ _ d) there in
-      let old : has (timeoutsMask l r) p ≡ true = not-false _ (sym (ap (λ (t : Bool). t && not (has (timeoutsMask l r) p)) there)
-      ∙ any-off (memberCount l) (isNew l r mask) e p few) in
-      sym (next _ _ a (next _ _ b (next _ _ c (next _ _ (lt-ltb _ _ few) (stop _ _ (ap not old))))))
-      ∙ next _ _ a (next _ _ b (next _ _ c (next _ _ d (stop _ _ e))))
-
-  -- 7, and those before it
-  refused-alike : Alike
-  unfolding signerQuestions
-  refused-alike = size (which (eqb (length l) stateSize))
+  refused-alike = same-front l r _ _ (λ S c. bits S c (which (within (memberCount l) mask)))
     where
-      bits : eqb (length l) stateSize ≡ true → wellFormed l ≡ true → isRound r ≡ true
-          → (within (memberCount l) mask ≡ true) ⊎ (within (memberCount l) mask ≡ false) → Alike
-      bits a b c (inl d) = nobody a b c d (which (any (memberCount l) (isNew l r mask)))
-      bits a b c (inr d) = absurd (low-bits (sym (ap numberOf (next _ _ a (next _ _ b (next _ _ c (stop _ _ d)))))))
+      asked : List Question
+      asked = (ltb p (memberCount l), Source) ∷ (not (has (timeoutsMask l r) p), Duplicate) ∷ []
 
-      round : eqb (length l) stateSize ≡ true → wellFormed l ≡ true → (isRound r ≡ true) ⊎ (isRound r ≡ false) → Alike
-      round a b (inl c) = bits a b c (which (within (memberCount l) mask))
-      round a b (inr c) = sym (next _ _ a (next _ _ b (stop _ _ c))) ∙ next _ _ a (next _ _ b (stop _ _ c))
+      last : List Question
+      last = (within (memberCount l) mask, MaskBits) ∷ (any (memberCount l) (isNew l r mask), Duplicate) ∷ []
 
-      form : eqb (length l) stateSize ≡ true → (wellFormed l ≡ true) ⊎ (wellFormed l ≡ false) → Alike
-      form a (inl b) = round a b (which (isRound r))
-      form a (inr b) = sym (next _ _ a (stop _ _ b)) ∙ next _ _ a (stop _ _ b)
+      nobody : WellFormed l → isRound r ≡ true → within (memberCount l) mask ≡ true
+          → (any (memberCount l) (isNew l r mask) ≡ true) ⊎ (any (memberCount l) (isNew l r mask) ≡ false) → firstNo asked ≡ firstNo last
+      nobody S c d (inl e) = absurd (some (sym (ap numberOf (next _ _ d (next _ _ e done) ∙ pass-front l S r c last))))
+      nobody S c d (inr e) =
+          let few : p < memberCount l = has-bound (memberCount l) mask p (within-lt _ _ d) there in
+          let known : has (timeoutsMask l r) p ≡ true = not-false _ (sym (ap (λ (t : Bool). t && not (has (timeoutsMask l r) p)) there)
+          ∙ any-off (memberCount l) (isNew l r mask) e p few) in
+          sym (next _ _ (lt-ltb _ _ few) (stop _ _ (ap not known))) ∙ next _ _ d (stop _ _ e)
 
-      size : (eqb (length l) stateSize ≡ true) ⊎ (eqb (length l) stateSize ≡ false) → Alike
-      size (inl a) = form a (which (wellFormed l))
-      size (inr a) = sym (stop _ _ a) ∙ stop _ _ a
+      bits : WellFormed l → isRound r ≡ true → (within (memberCount l) mask ≡ true) ⊎ (within (memberCount l) mask ≡ false)
+          → firstNo asked ≡ firstNo last
+      bits S c (inl d) = nobody S c d (which (any (memberCount l) (isNew l r mask)))
+      bits S c (inr d) = absurd (low-bits (sym (ap numberOf (stop _ _ d ∙ pass-front l S r c last))))
 
 -- A refused bundle, unless for its bits, ends as a single timeout of any of its members.
 pub refused-as-singles : RefusedAsSingles

@@ -3,12 +3,14 @@ use mathlib.Core.Path.{_≡_}
 use mathlib.Core.Bool.{true, cond}
 use mathlib.Core.List.{List, [], _∷_}
 use Prim.Native.Nat.{ℕ, _+_}
+use lib.Bits.{bitOr}
 use lib.Dec.{eqb}
 use Rattle.record.specs.Below.{select}
 use Rattle.record.specs.Members.{has}
 use Rattle.record.specs.Refusals.{numberOf}
 use Rattle.record.specs.declared.refusal.Refusal.the-variants.{None, MaskBits}
-use Rattle.replica.specs.State.{memberCount}
+use Rattle.replica.specs.State.{memberCount, timeoutsMask}
+use Rattle.replica.specs.WellFormed.{subset}
 use Rattle.replica.specs.Outcome.{Outcome, unchanged}
 use Rattle.ordering.specs.Calls.{takeTimeout, isNew, takeTimeouts}
 
@@ -50,9 +52,16 @@ EndsAsSingles = (l : List ℕ) (r mask : ℕ) → takeTimeouts l r mask .number 
     → (takeSingly l r (newMembers l r mask) ≡ takeTimeouts l r mask)
     × ((ps : List ℕ) → Reordered ps (newMembers l r mask) → takeSingly l r ps ≡ takeTimeouts l r mask)
 
--- ---- a refused one
+-- ---- members noted before
 
--- unless that is with 7, a single timeout of any of its members ends as the bundle does
+-- they do no harm: whatever the answer, a bundle ends the same with them and without
+abbrev pub NotedDoNoHarm : Type 0
+NotedDoNoHarm = (l : List ℕ) (r mask noted : ℕ) → subset noted (timeoutsMask l r) ≡ true
+    → takeTimeouts l r (bitOr mask noted) ≡ takeTimeouts l r mask
+
+-- ---- a refused bundle
+
+-- unless it is with 7, a single timeout of any of its members ends as the bundle does
 abbrev pub RefusedAsSingles : Type 0
 RefusedAsSingles = (l : List ℕ) (r mask p : ℕ) → has mask p ≡ true
     → (takeTimeouts l r mask .number ≡ 0 → ⊥) → (takeTimeouts l r mask .number ≡ numberOf MaskBits → ⊥)

@@ -1,25 +1,24 @@
 -- One mask after another in the timeouts of a round: both at once, and the round rule once. Assumes nothing.
 use mathlib.Core.Path.{_≡_, refl, sym, ap, _∙_}
-use mathlib.Core.Bool.{Bool, true, false, _||_, or-assoc}
-use mathlib.Core.Logic.{_⊎_, inl, inr, ⊎-elim}
+use mathlib.Core.Bool.{Bool, true, _||_, or-assoc}
+use mathlib.Core.Logic.{_⊎_, ⊎-elim}
 use mathlib.Core.List.{List, [], _∷_}
 use Prim.Native.Nat.{ℕ, zero, suc, _+_, _^_, _≤_, _<_}
 use native.Mathlib.Omega.{arith}
 use lib.Bits.{bitOr, or-lt}
-use lib.Dec.{ltb}
 use lib.ListN.{length, getD, set}
 use lib.Seq.{getD-set-other, set-set}
-use borrow.Author.Tests.{leb-true, ltb-true, ltb-false}
+use borrow.Author.Tests.{leb-true}
 use Rattle.record.specs.Below.{count}
 use Rattle.record.specs.Members.{leader, has, meets, quorum, rounds}
-use Rattle.record.proofs.Booleans.{which, and-left, and-right, and-both, or-cases, or-left, or-right}
+use Rattle.record.proofs.Booleans.{and-left, and-right, and-both, or-cases, or-left, or-right}
 use Rattle.record.proofs.Below.{count-mono}
 use Rattle.record.proofs.Masks.{has-or, mask-ext, meets-count}
 use Rattle.replica.specs.Layout.{currentRoundAt, memberCountAt, heldAt, timeoutsAt}
 use Rattle.replica.specs.State.{memberCount, currentRound, heldMask, timeoutsMask, addMembers}
 use Rattle.replica.proofs.Formed.{WellFormed}
 use Rattle.commits.specs.Commit.{passable, highestPassable, raiseRound}
-use Rattle.ordering.proofs.Rule.{quorum-meets, highest-more, raise-up, raise-not, raise-part}
+use Rattle.ordering.proofs.Rule.{quorum-meets, highest-more, raise-as, raise-part}
 use Rattle.ordering.proofs.Marks.{formed-joined, join-here, join-other, join-more}
 
 -- ---- the words
@@ -93,19 +92,12 @@ module _ (l : List ℕ) (S : WellFormed l) (r m : ℕ) (low : 1 ≤ r) (high : r
 
   -- the round rule after each mask gives what it gives once after both
   pub raise-once : raiseRound (addMembers (raiseRound l) (timeoutsAt r) m) ≡ raiseRound joined
-  raise-once = go (which (ltb (currentRound l) (1 + highestPassable l rounds)))
+  raise-once = raise-as l (λ k. raiseRound (addMembers k (timeoutsAt r) m) ≡ raiseRound joined) (λ e. refl)
+      (λ up. ap raiseRound (join-round l r m (1 + highestPassable l rounds))
+      ∙ raise-part joined (1 + highestPassable l rounds) (omega (arith, J .size)) (omega (arith, now, top, up)) (omega (arith, top)))
     where
       top : highestPassable l rounds ≤ highestPassable joined rounds
       top = highest-more l joined rounds passable-stays
 
       now : currentRound joined ≡ currentRound l
       now = other currentRoundAt (λ e. omega arith)
-
-      go : (ltb (currentRound l) (1 + highestPassable l rounds) ≡ true) ⊎ (ltb (currentRound l) (1 + highestPassable l rounds) ≡ false)
-          → raiseRound (addMembers (raiseRound l) (timeoutsAt r) m) ≡ raiseRound joined
-      go (inl e) =
-          let up : currentRound l < 1 + highestPassable l rounds = ltb-true _ _ e in
-          ap (λ (k : List ℕ). raiseRound (addMembers k (timeoutsAt r) m)) (raise-up l up)
-          ∙ ap raiseRound (join-round l r m (1 + highestPassable l rounds))
-          ∙ raise-part joined (1 + highestPassable l rounds) (omega (arith, J .size)) (omega (arith, now, top, up)) (omega (arith, top))
-      go (inr e) = ap (λ (k : List ℕ). raiseRound (addMembers k (timeoutsAt r) m)) (raise-not l (ltb-false _ _ e))

@@ -31,7 +31,7 @@ use Rattle.replica.proofs.Keeping.{Keeps, keeps-set, keeps-part, parents-more, 
 use Rattle.replica.proofs.Keeping.{leaders-kept, journal-kept, own-same, Spare, formed-word}
 use Rattle.commits.specs.Commit.{highestPassable, raiseRound}
 use Rattle.ordering.specs.Calls.{putVertex, hear}
-use Rattle.ordering.proofs.Rule.{highest-high}
+use Rattle.ordering.proofs.Rule.{highest-high, raise-as}
 use Rattle.ordering.proofs.Copying.{paste-before, paste-after, paste-part}
 
 -- ---- the current round
@@ -73,13 +73,8 @@ formed-round l x a b S = formed-word l currentRoundAt x round-spare front S
 
 -- The round rule keeps the state formed.
 pub formed-raise : (l : List ℕ) → WellFormed l → WellFormed (raiseRound l)
-unfolding raiseRound
-formed-raise l S = go (which (ltb (currentRound l) (1 + highestPassable l rounds)))
-  where
-    go : (ltb (currentRound l) (1 + highestPassable l rounds) ≡ true) ⊎ (ltb (currentRound l) (1 + highestPassable l rounds) ≡ false)
-        → WellFormed (raiseRound l)
-    go (inl e) = rw e (formed-round l (1 + highestPassable l rounds) (omega arith) (omega (arith, highest-high l rounds)) S)
-    go (inr e) = rw e S
+formed-raise l S = raise-as l WellFormed (λ e. S)
+    (λ e. formed-round l (1 + highestPassable l rounds) (omega arith) (omega (arith, highest-high l rounds)) S)
 
 -- ---- the members of a mask added to a mask
 
@@ -205,7 +200,8 @@ module _ (l : List ℕ) (S : WellFormed l) (r p : ℕ) (low : 1 ≤ r) (high : r
 
   -- a member that is heard in votes, after round 1
   pub formed-votes : (r ≡ 1 → ⊥) → has (heardMask l r) p ≡ true → WellFormed (addMember l (votesAt r) p)
-  formed-votes h e = formed-notes l (addMember l (votesAt r) p) (note-keeps votesKind (omega arith) (omega arith)) (note-masks votesKind (omega arith) (omega arith)
+  formed-votes h e = formed-notes l (addMember l (votesAt r) p) (note-keeps votesKind (omega arith) (omega arith))
+      (note-masks votesKind (omega arith) (omega arith)
       (λ s q a b d. add-more l (votesAt r) p fits (heardAt s) q
       (⊎-elim (λ c. S .masks .votes-heard s q a b c) (λ c. same s q a (c .0) (c .1)) (add-new l (votesAt r) p fits (votesAt s) q d)))
       (add-other l (votesAt r) p fits (votesAt 1) (λ d. h (omega arith)) ∙ S .masks .votes-first)) S

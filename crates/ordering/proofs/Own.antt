@@ -13,7 +13,7 @@ use Rattle.record.specs.Layout.{timeoutsOf}
 use Rattle.record.proofs.Booleans.{which}
 use Rattle.record.proofs.Below.{least-sat}
 use Rattle.replica.specs.Layout.{masksAt, headSize, memberCountAt, currentRoundAt, ownAt, timeoutsKind, noVotesKind}
-use Rattle.replica.specs.State.{currentRound, addMember, addMembers}
+use Rattle.replica.specs.State.{addMember, addMembers}
 use Rattle.replica.proofs.Formed.{WellFormed}
 use Rattle.replica.proofs.Keeping.{Keeps, keeps-refl, keeps-trans, keeps-less, keeps-set}
 use Rattle.commits.specs.Commit.{highestPassable, raiseRound, commit, committable, lowest, commitUpTo, commitAll}
@@ -22,6 +22,7 @@ use Rattle.commits.proofs.Growing.{grown}
 use Rattle.ordering.specs.Calls.{putVertex, carryTimeouts, hear, vertexQuestions, firstQuestions, takeBody, takeFirstBody, takeTimeout, takeNoVote}
 use Rattle.ordering.specs.Calls.{takeTimeouts}
 use Rattle.ordering.proofs.Turns.{outcome-words, record-passed}
+use Rattle.ordering.proofs.Rule.{raise-as}
 use Rattle.ordering.proofs.Writing.{put-head, hear-head, hear-calm}
 use Rattle.ordering.proofs.Marks.{formed-raise, formed-hear}
 use Rattle.ordering.proofs.Carried.{carry-as, written, vertex-written}
@@ -45,13 +46,8 @@ fixed-own j a b = record { head = b; not-round = λ e. omega arith; off-lists = 
 
 -- the round rule
 fixed-raise : (l : List ℕ) → Keeps Fixed l (raiseRound l)
-unfolding raiseRound
-fixed-raise l = go (which (ltb (currentRound l) (1 + highestPassable l rounds)))
-  where
-    go : (ltb (currentRound l) (1 + highestPassable l rounds) ≡ true) ⊎ (ltb (currentRound l) (1 + highestPassable l rounds) ≡ false)
-        → Keeps Fixed l (raiseRound l)
-    go (inl e) = rw e (keeps-set Fixed l currentRoundAt (1 + highestPassable l rounds) (λ j k. k .not-round))
-    go (inr e) = rw e (keeps-refl Fixed l)
+fixed-raise l = raise-as l (Keeps Fixed l) (λ e. keeps-refl Fixed l)
+    (λ e. keeps-set Fixed l currentRoundAt (1 + highestPassable l rounds) (λ j k. k .not-round))
 
 -- the members of a mask in a mask
 fixed-joined : (l : List ℕ) (r i m : ℕ) → Keeps Fixed l (addMembers l (masksAt r + i) m)

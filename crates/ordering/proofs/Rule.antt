@@ -1,5 +1,5 @@
 -- The round rule: which round is the highest passable one, and what is written. Assumes nothing.
-use mathlib.Core.Path.{_≡_, sym, ap, _∙_}
+use mathlib.Core.Path.{_≡_, refl, sym, ap, _∙_}
 use mathlib.Core.Bool.{true, false}
 use mathlib.Core.Logic.{_⊎_, inl, inr, ⊎-elim}
 use mathlib.Core.List.{List}
@@ -8,10 +8,10 @@ use native.Mathlib.Omega.{arith}
 use lib.Dec.{ltb}
 use lib.ListN.{length, getD, set}
 use lib.Seq.{getD-set-same, getD-set-other, set-set}
-use borrow.Author.Tests.{ltb-true, ltb-false, lt-ltb, le-ltb, le-leb}
+use borrow.Author.Tests.{ltb-true, ltb-false, lt-ltb, le-leb}
 use Rattle.record.specs.Below.{count}
 use Rattle.record.specs.Members.{has, meets, quorum, rounds}
-use Rattle.record.proofs.Booleans.{which, never, cond-true, cond-false}
+use Rattle.record.proofs.Booleans.{which, never, cond-true}
 use Rattle.record.proofs.Masks.{meets-count}
 use Rattle.replica.specs.Layout.{currentRoundAt, memberCountAt, heldAt, timeoutsAt}
 use Rattle.replica.specs.State.{currentRound}
@@ -79,53 +79,38 @@ highest-round l x k = omega (
 
 -- ---- the current round
 
--- the current round is above it then
-pub raise-reaches : (l : List ℕ) → WellFormed l → 1 + highestPassable l rounds ≤ currentRound (raiseRound l)
+-- what holds of the words as they were, and of those with the current round raised, holds of those that are left
+pub raise-as : (l : List ℕ) (P : List ℕ → Type 0) → (1 + highestPassable l rounds ≤ currentRound l → P l)
+    → (currentRound l < 1 + highestPassable l rounds → P (set l currentRoundAt (1 + highestPassable l rounds))) → P (raiseRound l)
 unfolding raiseRound
-raise-reaches l S = go (which (ltb (currentRound l) (1 + highestPassable l rounds)))
+raise-as l P same up = go (which (ltb (currentRound l) (1 + highestPassable l rounds)))
   where
-    go : (ltb (currentRound l) (1 + highestPassable l rounds) ≡ true) ⊎ (ltb (currentRound l) (1 + highestPassable l rounds) ≡ false)
-        → 1 + highestPassable l rounds ≤ currentRound (raiseRound l)
-    go (inl e) = rw e (rw (getD-set-same l currentRoundAt (1 + highestPassable l rounds) 0 (omega (arith, S .size))) (omega arith))
-    go (inr e) = rw e (ltb-false (currentRound l) (1 + highestPassable l rounds) e)
+    go : (ltb (currentRound l) (1 + highestPassable l rounds) ≡ true) ⊎ (ltb (currentRound l) (1 + highestPassable l rounds) ≡ false) → P (raiseRound l)
+    go (inl e) = rw e (up (ltb-true _ _ e))
+    go (inr e) = rw e (same (ltb-false _ _ e))
 
--- it is raised, or stays
-pub raise-up : (l : List ℕ) → currentRound l < 1 + highestPassable l rounds → raiseRound l ≡ set l currentRoundAt (1 + highestPassable l rounds)
-unfolding raiseRound
-raise-up l h = cond-true _ _ (lt-ltb _ _ h)
-
-pub raise-not : (l : List ℕ) → 1 + highestPassable l rounds ≤ currentRound l → raiseRound l ≡ l
-unfolding raiseRound
-raise-not l h = cond-false _ _ (le-ltb _ _ h)
+-- it is above the highest passable round then
+pub raise-reaches : (l : List ℕ) → WellFormed l → 1 + highestPassable l rounds ≤ currentRound (raiseRound l)
+raise-reaches l S = raise-as l (λ k. 1 + highestPassable l rounds ≤ currentRound k) (λ h. h)
+    (λ h. rw (getD-set-same l currentRoundAt (1 + highestPassable l rounds) 0 (omega (arith, S .size))) (omega arith))
 
 -- and no other word changes
 pub raise-other : (l : List ℕ) (j : ℕ) → (j ≡ currentRoundAt → ⊥) → getD (raiseRound l) j 0 ≡ getD l j 0
-unfolding raiseRound
-raise-other l j h = go (which (ltb (currentRound l) (1 + highestPassable l rounds)))
-  where
-    go : (ltb (currentRound l) (1 + highestPassable l rounds) ≡ true) ⊎ (ltb (currentRound l) (1 + highestPassable l rounds) ≡ false)
-        → getD (raiseRound l) j 0 ≡ getD l j 0
-    go (inl e) = rw e (getD-set-other l currentRoundAt j (1 + highestPassable l rounds) 0 h)
-    go (inr e) = rw e
+raise-other l j h = raise-as l (λ k. getD k j 0 ≡ getD l j 0) (λ e. refl)
+    (λ e. getD-set-other l currentRoundAt j (1 + highestPassable l rounds) 0 h)
 
 -- a current round below it may as well have been raised a part of the way before
 pub raise-part : (l : List ℕ) (x : ℕ) → currentRoundAt < length l → currentRound l < 1 + highestPassable l rounds → x ≤ 1 + highestPassable l rounds
     → raiseRound (set l currentRoundAt x) ≡ raiseRound l
-raise-part l x fits h k = go (which (ltb x (1 + highestPassable l rounds)))
+raise-part l x fits h k = raise-as (set l currentRoundAt x) (λ m. m ≡ raiseRound l)
+    (λ e. ap (set l currentRoundAt) (whole e) ∙ sym up)
+    (λ e. ap (λ (q : ℕ). set (set l currentRoundAt x) currentRoundAt (1 + q)) same ∙ set-set l currentRoundAt x (1 + highestPassable l rounds) ∙ sym up)
   where
-    here : currentRound (set l currentRoundAt x) ≡ x
-    here = getD-set-same l currentRoundAt x 0 fits
-
     same : highestPassable (set l currentRoundAt x) rounds ≡ highestPassable l rounds
     same = highest-round l x rounds
 
-    go : (ltb x (1 + highestPassable l rounds) ≡ true) ⊎ (ltb x (1 + highestPassable l rounds) ≡ false) → raiseRound (set l currentRoundAt x) ≡ raiseRound l
-    go (inl e) =
-        let low : x < 1 + highestPassable l rounds = ltb-true _ _ e in
-        raise-up (set l currentRoundAt x) (omega (arith, here, same, low))
-        ∙ ap (λ (q : ℕ). set (set l currentRoundAt x) currentRoundAt (1 + q)) same
-        ∙ set-set l currentRoundAt x (1 + highestPassable l rounds) ∙ sym (raise-up l h)
-    go (inr e) =
-        let high : 1 + highestPassable l rounds ≤ x = ltb-false _ _ e in
-        raise-not (set l currentRoundAt x) (omega (arith, here, same, high))
-        ∙ ap (set l currentRoundAt) (omega arith) ∙ sym (raise-up l h)
+    whole : 1 + highestPassable (set l currentRoundAt x) rounds ≤ currentRound (set l currentRoundAt x) → x ≡ 1 + highestPassable l rounds
+    whole e = omega (arith, getD-set-same l currentRoundAt x 0 fits, same)
+
+    up : raiseRound l ≡ set l currentRoundAt (1 + highestPassable l rounds)
+    up = unfold raiseRound in cond-true _ _ (lt-ltb _ _ h)

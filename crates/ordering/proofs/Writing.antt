@@ -17,12 +17,13 @@ use Rattle.record.proofs.Rounds.{round-range, round-in}
 use Rattle.protocol.specs.Dag.{present, votes}
 use Rattle.replica.specs.Layout.{journalSize, cellsAt, leaderCountAt, journalCountAt, timeoutsKind, currentRoundAt, ownAt}
 use Rattle.replica.specs.Layout.{masksAt, heldAt, heardAt, votesAt, cellAt, stateSize, headSize, kinds, leadersAt, leadersSize, journalAt}
-use Rattle.replica.specs.State.{memberCount, currentRound, committedRound, leaderCount, journalCount, heldMask, heardMask, votesMask, leaderList}
+use Rattle.replica.specs.State.{memberCount, committedRound, leaderCount, journalCount, heldMask, heardMask, votesMask, leaderList}
 use Rattle.replica.specs.State.{journalList, cell, vertices, firsts, addMember, addMembers}
 use Rattle.replica.proofs.Keeping.{Keeps, keeps-part, vertices-kept, Spare}
 use Rattle.commits.specs.Commit.{highestPassable, raiseRound}
 use Rattle.ordering.specs.Calls.{putVertex, hear}
 use Rattle.ordering.proofs.Copying.{paste-before, paste-after, paste-part}
+use Rattle.ordering.proofs.Rule.{raise-as}
 use Rattle.ordering.proofs.Marks.{round-spare}
 use Rattle.commits.proofs.Frame.{Alike, alike-self, alike-set, loose-head}
 
@@ -118,21 +119,12 @@ firsts-by l m members s q heard voted = cond-cong
 
 -- the lists stay
 pub raise-calm : (l : List ℕ) → Calm l (raiseRound l)
-unfolding raiseRound
-raise-calm l = go (which (ltb (currentRound l) (1 + highestPassable l rounds)))
-  where
-    go : (ltb (currentRound l) (1 + highestPassable l rounds) ≡ true) ⊎ (ltb (currentRound l) (1 + highestPassable l rounds) ≡ false) → Calm l (raiseRound l)
-    go (inl e) = rw e (calm-spare l currentRoundAt (1 + highestPassable l rounds) round-spare)
-    go (inr e) = rw e (calm-self l)
+raise-calm l = raise-as l (Calm l) (λ e. calm-self l) (λ e. calm-spare l currentRoundAt (1 + highestPassable l rounds) round-spare)
 
 -- the records stay
 pub raise-alike : (l : List ℕ) → Alike l (raiseRound l)
-unfolding raiseRound
-raise-alike l = go (which (ltb (currentRound l) (1 + highestPassable l rounds)))
-  where
-    go : (ltb (currentRound l) (1 + highestPassable l rounds) ≡ true) ⊎ (ltb (currentRound l) (1 + highestPassable l rounds) ≡ false) → Alike l (raiseRound l)
-    go (inl e) = rw e (alike-set l 1 (1 + highestPassable l rounds) (loose-head 1 (omega arith) (omega arith)))
-    go (inr e) = rw e (alike-self l)
+raise-alike l = raise-as l (Alike l) (λ e. alike-self l)
+    (λ e. alike-set l currentRoundAt (1 + highestPassable l rounds) (loose-head currentRoundAt (omega arith) (omega arith)))
 
 -- the members of a mask in the timeouts or in the no-votes of round r
 module _ (l : List ℕ) (r i m : ℕ) (low : 1 ≤ r) (high : r ≤ rounds) where

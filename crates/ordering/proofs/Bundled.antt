@@ -27,7 +27,7 @@ use Rattle.ordering.specs.Calls.{isNew, bundleQuestions, bundleRefusal}
 -- ---- who is new
 
 -- nobody is where the timeouts already have the whole mask
-pub none-new : (l : List ℕ) (r mask : ℕ) → bitOr (timeoutsMask l r) mask ≡ timeoutsMask l r → any (memberCount l) (isNew l r mask) ≡ false
+none-new : (l : List ℕ) (r mask : ℕ) → bitOr (timeoutsMask l r) mask ≡ timeoutsMask l r → any (memberCount l) (isNew l r mask) ≡ false
 unfolding isNew
 none-new l r mask e = any-false (memberCount l) (isNew l r mask) (λ p h. go p (which (has mask p)))
   where
@@ -36,7 +36,7 @@ none-new l r mask e = any-false (memberCount l) (isNew l r mask) (λ p h. go p (
     go p (inr d) = rw d
 
 -- and somebody is where not
-pub some-new : (l : List ℕ) → WellFormed l → (r mask : ℕ) → 1 ≤ r → r ≤ rounds → mask < 2 ^ memberCount l
+some-new : (l : List ℕ) → WellFormed l → (r mask : ℕ) → 1 ≤ r → r ≤ rounds → mask < 2 ^ memberCount l
     → (bitOr (timeoutsMask l r) mask ≡ timeoutsMask l r → ⊥) → any (memberCount l) (isNew l r mask) ≡ true
 unfolding isNew
 some-new l S r mask low high small h = ⊎-elim (λ e. e) (λ e. absurd (h (same e))) (which (any (memberCount l) (isNew l r mask)))
@@ -79,22 +79,21 @@ module _ (l : List ℕ) (r mask : ℕ) (why : Refusal) (e : why ≡ firstNo (sta
       pub bundle-off : not a ≡ true → Round ≡ bundleRefusal l r mask
       bundle-off q = past (stop _ _ (failed ea q))
 
-      module _ (pa : not a ≡ false) where
-        module _ (b : Bool) (eb : b ≡ within (memberCount l) mask) where
-          pub bundle-wide : not b ≡ true → MaskBits ≡ bundleRefusal l r mask
-          bundle-wide q = past (next _ _ (passed ea pa) (stop _ _ (failed eb q)))
+      module _ (pa : not a ≡ false) (b : Bool) (eb : b ≡ within (memberCount l) mask) where
+        pub bundle-wide : not b ≡ true → MaskBits ≡ bundleRefusal l r mask
+        bundle-wide q = past (next _ _ (passed ea pa) (stop _ _ (failed eb q)))
 
-          module _ (pb : not b ≡ false) (m : ℕ) (em : m ≡ timeoutsMask l r) where
-            last : {s : Refusal} → s ≡ firstNo ((any (memberCount l) (isNew l r mask), Duplicate) ∷ []) → s ≡ bundleRefusal l r mask
-            last d = past (next _ _ (passed ea pa) (next _ _ (passed eb pb) d))
+        module _ (pb : not b ≡ false) (m : ℕ) (em : m ≡ timeoutsMask l r) where
+          last : {s : Refusal} → s ≡ firstNo ((any (memberCount l) (isNew l r mask), Duplicate) ∷ []) → s ≡ bundleRefusal l r mask
+          last d = past (next _ _ (passed ea pa) (next _ _ (passed eb pb) d))
 
-            pub bundle-again : bitOr m mask ≡ m → Duplicate ≡ bundleRefusal l r mask
-            bundle-again q = last (stop _ _ (none-new l r mask (rw em at q)))
+          pub bundle-again : bitOr m mask ≡ m → Duplicate ≡ bundleRefusal l r mask
+          bundle-again q = last (stop _ _ (none-new l r mask (rw em at q)))
 
-            pub bundle-new : (bitOr m mask ≡ m → ⊥) → None ≡ bundleRefusal l r mask
-            bundle-new q =
-                let w = round-range r (passed ea pa) in
-                last (next _ _ (some-new l S r mask (w .0) (w .1) (within-lt _ _ (passed eb pb)) (rw em at q)) done)
+          pub bundle-new : (bitOr m mask ≡ m → ⊥) → None ≡ bundleRefusal l r mask
+          bundle-new q =
+              let w = round-range r (passed ea pa) in
+              last (next _ _ (some-new l S r mask (w .0) (w .1) (within-lt _ _ (passed eb pb)) (rw em at q)) done)
 
 -- what is known of a bundle that no question stopped
 pub record BundlePassed (l : List ℕ) (r mask : ℕ) : Type 0 where

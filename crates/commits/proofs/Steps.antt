@@ -236,9 +236,9 @@ unfolding committed
 by-vertices n d q e h = rw (e, h) (sym (or-false (enough n (λ p. votes n q (d .vertex (suc q) p)))))
 
 -- so by the mask of the voters
-pub by-voters : (n : ℕ) (d : Dag) (q : ℕ) (m : Members) → (m .bits ≡ voters n (d .vertex) q n) × (m .n ≡ n)
-    → held (d .vertex) q (leader n q) ≡ true → enough n (λ p. votes n q (d .first (suc q) p)) ≡ false → meets (m .n) (m .bits) ≡ committed n d q
-by-voters n d q m e led none = rw (e .0, e .1) (voters-claim n (d .vertex) q ∙ by-vertices n d q led none)
+pub by-voters : (n : ℕ) (d : Dag) (q : ℕ) (m : Members) → m .bits ≡ voters n (d .vertex) q n
+    → held (d .vertex) q (leader n q) ≡ true → enough n (λ p. votes n q (d .first (suc q) p)) ≡ false → meets n (m .bits) ≡ committed n d q
+by-voters n d q m e led none = rw e (voters-claim n (d .vertex) q ∙ by-vertices n d q led none)
 
 -- ---- the lowest committable round
 
@@ -251,9 +251,8 @@ unfolding committable
 committable-low l q h = and-fails-left _ (le-ltb (committedRound l) q h)
 
 -- the mask has the voters below p among the vertices of round q + 1
-pub record Voters (l : List ℕ) (n q p : ℕ) (m : Members) : Type 0 where
-  pub bits : m .bits ≡ voters n (vertices l) q p
-  pub group : m .n ≡ n
+abbrev pub Voters : List ℕ → ℕ → ℕ → ℕ → Members → Type 0
+Voters l n q p m = m .bits ≡ voters n (vertices l) q p
 
 module _ (l : List ℕ) (n q p at : ℕ) (C : Cell l (q + 1) p at) where
   -- a vertex votes exactly if the strong mask in its cell has the leader
@@ -262,13 +261,8 @@ module _ (l : List ℕ) (n q p at : ℕ) (C : Cell l (q + 1) p at) where
 
   -- so the mask of the voters below p becomes that of the voters below p + 1
   pub voter-in : (m o : Members) → Voters l n q p m → has (getD l (at + strongPlace) 0) (leader n q) ≡ true → o ≡ with m p → Voters l n q (p + 1) o
-  voter-in m o w h e = rw e (record {
-    bits = ap (λ (x : ℕ). add x p) (w .bits) ∙ sym (voters-in n (vertices l) q p (sym vertex-vote ∙ h)) ∙ ap (voters n (vertices l) q) (sym (add-one p));
-    group = w .group;
-  })
+  voter-in m o w h e =
+      rw e (ap (λ (x : ℕ). add x p) w ∙ sym (voters-in n (vertices l) q p (sym vertex-vote ∙ h)) ∙ ap (voters n (vertices l) q) (sym (add-one p)))
 
   pub voter-out : (m o : Members) → Voters l n q p m → has (getD l (at + strongPlace) 0) (leader n q) ≡ false → o ≡ m → Voters l n q (p + 1) o
-  voter-out m o w h e = rw e (record {
-    bits = w .bits ∙ sym (voters-out n (vertices l) q p (sym vertex-vote ∙ h)) ∙ ap (voters n (vertices l) q) (sym (add-one p));
-    group = w .group;
-  })
+  voter-out m o w h e = rw e (w ∙ sym (voters-out n (vertices l) q p (sym vertex-vote ∙ h)) ∙ ap (voters n (vertices l) q) (sym (add-one p)))

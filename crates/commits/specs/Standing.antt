@@ -6,12 +6,20 @@ use Prim.Native.Nat.{ℕ, zero, suc, _+_, _^_, _≤_, _<_}
 use lib.ListN.{length, getD}
 use Rattle.record.specs.Below.{count}
 use Rattle.record.specs.Members.{legal, leader, has, idOf, idMember, idLimit, rounds, slots, votedRounds}
+use Rattle.record.specs.Handed.{QuorumOf}
 use Rattle.protocol.specs.Dag.{held}
 use Rattle.protocol.specs.Premises.{ValidVertices}
 use Rattle.record.specs.Layout.{bodySize}
 use Rattle.replica.specs.Layout.{stateSize, leadersSize, cellAt}
 use Rattle.replica.specs.State.{memberCount, committedRound, leaderCount, journalCount, heldMask, heardMask, votesMask, vertices, orderedId}
 use Rattle.commits.specs.Commit.{enter}
+
+-- the words of a state, its member count n, and q, which is 2f + 1 of n
+pub record GroupOf (l : List ℕ) (n q : ℕ) : Type 0 where
+  pub size : length l ≡ stateSize
+  pub members : n ≡ memberCount l
+  pub some : 0 < n
+  pub quorum-of : QuorumOf n q
 
 pub record Standing (l : List ℕ) : Type 0 where
   pub size : length l ≡ stateSize

@@ -5,6 +5,7 @@ ghost use Prim.Native.Nat.{_<_, _≤_};
 ghost use lib.ListN.{length};
 ghost use Rattle.record.specs.Below.{count, select};
 ghost use Rattle.record.specs.Members.{leader, has, rounds, slots, votedRounds, idLimit};
+ghost use Rattle.record.specs.Handed.{QuorumOf};
 ghost use Rattle.protocol.specs.Dag.{committed};
 ghost use Rattle.protocol.specs.Masks.{voters};
 ghost use Rattle.replica.specs.Layout.{stateSize, journalSize};
@@ -37,9 +38,9 @@ use replica::masks::mask_of;
 // The members whose vertices of round q + 1 vote for the leader of round q.
 fn vertex_voters(state: &[u32], n: u32, q: u32, voted: u32) -> Members
     requires { ⌜ Standing (now state) × (n ≡ memberCount (now state)) × (q ≤ votedRounds) × (voted ≡ leader n q) ⌝ }
-    ensures { λ r. ⌜ (r .bits ≡ voters n (vertices (now (state .entry))) q n) × (r .n ≡ n) ⌝ }
+    ensures { λ r. ⌜ r .bits ≡ voters n (vertices (now (state .entry))) q n ⌝ }
 {
-    let mut voters = Members { bits: 0, n };
+    let mut voters = Members { bits: 0 };
     let mut p: u32 = 0;
     while p < n {
         let at = cell_at(q + 1, p);
@@ -52,8 +53,8 @@ fn vertex_voters(state: &[u32], n: u32, q: u32, voted: u32) -> Members
 }
 
 // Round q is committed directly: its leader's vertex is held, and a quorum of first messages or of vertices votes for it.
-fn is_committed(state: &[u32], n: u32, q: u32) -> bool
-    requires { ⌜ Standing (now state) × (n ≡ memberCount (now state)) × (1 ≤ q) × (q ≤ votedRounds) ⌝ }
+fn is_committed(state: &[u32], n: u32, quorum: u32, q: u32) -> bool
+    requires { ⌜ Standing (now state) × (n ≡ memberCount (now state)) × QuorumOf n quorum × (1 ≤ q) × (q ≤ votedRounds) ⌝ }
     ensures { λ r. ⌜ r ≡ committed n (dag (now (state .entry))) q ⌝ }
 {
     let leader = leader_of(n, q);
@@ -62,23 +63,22 @@ fn is_committed(state: &[u32], n: u32, q: u32) -> bool
     }
     let votes = Members {
         bits: mask_of(state, VOTES, q + 1),
-        n,
     };
-    if votes.meets_quorum() {
+    if votes.meets_quorum(quorum) {
         return true;
     }
     let voters = vertex_voters(state, n, q, leader);
-    voters.meets_quorum()
+    voters.meets_quorum(quorum)
 }
 
 // The lowest committable round, 32 if there is none.
-fn lowest_committable(state: &[u32], n: u32) -> u32
-    requires { ⌜ Standing (now state) × (n ≡ memberCount (now state)) × (committedRound (now state) ≤ votedRounds) ⌝ }
+fn lowest_committable(state: &[u32], n: u32, quorum: u32) -> u32
+    requires { ⌜ Standing (now state) × (n ≡ memberCount (now state)) × QuorumOf n quorum × (committedRound (now state) ≤ votedRounds) ⌝ }
     ensures { λ r. ⌜ r ≡ lowest (now (state .entry)) ⌝ }
 {
     let mut q: u32 = state[COMMITTED_ROUND] + 1;
     while q < ROUNDS {
-        if is_committed(state, n, q) {
+        if is_committed(state, n, quorum, q) {
             return q;
         }
         q += 1;
@@ -191,13 +191,13 @@ fn commit_round(state: &mut [u32], n: u32, q: u32)
 }
 
 // The lowest committable round is committed, and again until none is.
-pub fn commit_all(state: &mut [u32], n: u32)
-    requires { ⌜ Going (now state) × (n ≡ memberCount (now state)) ⌝ }
+pub fn commit_all(state: &mut [u32], n: u32, quorum: u32)
+    requires { ⌜ Going (now state) × (n ≡ memberCount (now state)) × QuorumOf n quorum ⌝ }
     ensures { λ _. ⌜ now (state .exit) ≡ commitAll (now (state .entry)) ⌝ }
 {
-    let mut q: u32 = lowest_committable(state, n);
+    let mut q: u32 = lowest_committable(state, n, quorum);
     while q < ROUNDS {
         commit_round(state, n, q);
-        q = lowest_committable(state, n);
+        q = lowest_committable(state, n, quorum);
     }
 }

@@ -21,6 +21,7 @@ use Rattle.replica.proofs.Formed.{WellFormed, well-formed}
 use Rattle.commits.specs.Commit.{raiseRound, commitAll}
 use Rattle.ordering.specs.Calls.{vertexQuestions, putVertex, carryTimeouts, takeBody, takeVertex, firstQuestions, hear}
 use Rattle.ordering.specs.Calls.{takeFirstBody, takeFirstMessage, noteRefusal, takeNote, takeTimeout, bundleRefusal, takeTimeouts}
+use Rattle.ordering.specs.Inner.{Hearing}
 use Rattle.ordering.proofs.Turns.{outcome-zero, outcome-refused, outcome-admitted, record-passed, note-passed}
 use Rattle.ordering.proofs.Heard.{hear-body}
 use Rattle.ordering.proofs.Counts.{same-growth, no-growth}
@@ -121,7 +122,7 @@ pub record FirstTaken (l rec : List ℕ) : Type 0 where
   pub formed : WellFormed l
   pub admit : Admitted (memberCount l) (roundOf rec) (sourceOf rec) (bodyOf rec)
   pub long : length rec ≡ recordSize
-  pub strong : roundOf rec ≡ 1 → getD rec (bodyPlace + strongPlace) 0 ≡ 0
+  pub hearing : Hearing l (memberCount l) (roundOf rec) (sourceOf rec) (getD rec (bodyPlace + strongPlace) 0)
   pub heard : (m : List ℕ) → m ≡ hear l (roundOf rec) (sourceOf rec) (getD rec (bodyPlace + strongPlace) 0 ∷ []) → Ready (memberCount l) m
   pub done : (m : List ℕ) (o : Outcome) → m ≡ hear l (roundOf rec) (sourceOf rec) (getD rec (bodyPlace + strongPlace) 0 ∷ []) → o ≡ admitted m (commitAll m)
       → o ≡ takeFirstMessage l rec
@@ -149,7 +150,16 @@ module _ (l rec : List ℕ) (why : Refusal) (e : why ≡ firstNo (firstQuestions
       formed = first-passed .0;
       admit = first-passed .1;
       long = omega (arith, first-passed .1 .size, length-drop bodyPlace rec);
-      strong = λ z. sym (getD-drop bodyPlace rec strongPlace 0) ∙ first-passed .1 .strong-first z;
+      hearing = record {
+        size = first-passed .0 .size;
+        members = refl;
+        some = omega (arith, first-passed .0 .front .low);
+        few = first-passed .0 .front .high;
+        low = first-passed .1 .round-low;
+        high = first-passed .1 .round-high;
+        source = omega (arith, first-passed .1 .source-low, first-passed .0 .front .high);
+        first = λ z. sym (getD-drop bodyPlace rec strongPlace 0) ∙ first-passed .1 .strong-first z;
+      };
       heard = λ m d. rw (d, hear-body l (roundOf rec) (sourceOf rec) rec)
           (ready _ _ (formed-hear l (first-passed .0) (roundOf rec) (sourceOf rec) (bodyOf rec) (first-passed .1)) (calm-count calm-heard));
       done = λ m o d f. f ∙ rw (d, hear-body l (roundOf rec) (sourceOf rec) rec) first-done;

@@ -31,60 +31,51 @@ use Rattle.replica.proofs.Formed.{WellFormed, formed}
 use Rattle.record.specs.Admitted.{Admitted}
 use Rattle.ordering.specs.Calls.{sameBody, placeQuestions, noteQuestions}
 
--- ---- the answers of a call that asks the state's questions, then those of a record or a signer, and then the rest
+-- ---- questions asked before others: they stop the call, or the rest decide
 
-module _ (l : List ℕ) (asked rest : List Question) where
-  at-state : (why : Refusal) → why ≡ firstNo (stateQuestions l) → (numberOf why ≡ 0 → ⊥) → why ≡ firstNo (stateQuestions l ++ (asked ++ rest))
-  at-state why e h = e ∙ front-no (stateQuestions l) _ (λ d. h (ap numberOf e ∙ d))
+module _ (asked rest : List Question) (why : Refusal) (e : why ≡ firstNo asked) where
+  stops : (numberOf why ≡ 0 → ⊥) → why ≡ firstNo (asked ++ rest)
+  stops h = e ∙ front-no asked rest (λ d. h (ap numberOf e ∙ d))
 
-  module _ (why : Refusal) (e : why ≡ firstNo (stateQuestions l)) (h : numberOf why ≡ 0) (r : Refusal) (d : r ≡ firstNo asked) where
-    past-state : firstNo (asked ++ rest) ≡ firstNo (stateQuestions l ++ (asked ++ rest))
-    past-state = front-yes (stateQuestions l) _ (state-numbered l) (sym (ap numberOf e) ∙ h)
+  past : numbered asked ≡ true → numberOf why ≡ 0 → (r : Refusal) → r ≡ firstNo rest → r ≡ firstNo (asked ++ rest)
+  past n h r d = d ∙ front-yes asked rest n (sym (ap numberOf e) ∙ h)
 
-    at-asked : (numberOf r ≡ 0 → ⊥) → r ≡ firstNo (stateQuestions l ++ (asked ++ rest))
-    at-asked k = d ∙ front-no asked rest (λ x. k (ap numberOf d ∙ x)) ∙ past-state
+-- those of the state, which come first
+module _ (l : List ℕ) (why : Refusal) (e : why ≡ firstNo (stateQuestions l)) (rest : List Question) where
+  pub state-stops : (numberOf why ≡ 0 → ⊥) → why ≡ firstNo (stateQuestions l ++ rest)
+  state-stops = stops (stateQuestions l) rest why e
 
-    past-asked : numbered asked ≡ true → numberOf r ≡ 0 → (s : Refusal) → s ≡ firstNo rest → s ≡ firstNo (stateQuestions l ++ (asked ++ rest))
-    past-asked n k s f = f ∙ front-yes asked rest n (sym (ap numberOf d) ∙ k) ∙ past-state
+  pub state-past : numberOf why ≡ 0 → (r : Refusal) → r ≡ firstNo rest → r ≡ firstNo (stateQuestions l ++ rest)
+  state-past = past (stateQuestions l) rest why e (state-numbered l)
 
--- what is known where the state's questions are passed; rest are the questions after the record's
-pub record StateKnown (l rec : List ℕ) (rest : List Question) : Type 0 where
-  pub size : length l ≡ stateSize
-  pub stopped : (r : Refusal) → r ≡ recordRefusal (memberCount l) rec → (numberOf r ≡ 0 → ⊥)
-      → r ≡ firstNo (stateQuestions l ++ (recordQuestions (memberCount l) (roundOf rec) (sourceOf rec) (bodyOf rec) ++ rest))
+-- and what they leave known
+pub state-formed : (l : List ℕ) (why : Refusal) → why ≡ firstNo (stateQuestions l) → numberOf why ≡ 0 → WellFormed l
+state-formed l why e h = let s = state-ok l (sym (ap numberOf e) ∙ h) in formed l (s .0) (s .1)
 
--- and where the record's are
-pub record RecordKnown (l rec : List ℕ) (rest : List Question) : Type 0 where
-  pub formed : WellFormed l
-  pub admit : Admitted (memberCount l) (roundOf rec) (sourceOf rec) (bodyOf rec)
+-- what is known of a record that its own questions pass, among n members; rest are the questions after them
+pub record RecordKnown (n : ℕ) (rec : List ℕ) (rest : List Question) : Type 0 where
+  pub admit : Admitted n (roundOf rec) (sourceOf rec) (bodyOf rec)
   pub long : length rec ≡ recordSize
   pub whole : take bodySize (drop bodyPlace rec) ≡ bodyOf rec
-  pub body : numberOf (bodyRefusal (memberCount l) (roundOf rec) (sourceOf rec) (take bodySize (drop bodyPlace rec))) ≡ 0
-  pub last : (s : Refusal) → s ≡ firstNo rest
-      → s ≡ firstNo (stateQuestions l ++ (recordQuestions (memberCount l) (roundOf rec) (sourceOf rec) (bodyOf rec) ++ rest))
+  pub body : numberOf (bodyRefusal n (roundOf rec) (sourceOf rec) (take bodySize (drop bodyPlace rec))) ≡ 0
+  pub last : (s : Refusal) → s ≡ firstNo rest → s ≡ firstNo (recordQuestions n (roundOf rec) (sourceOf rec) (bodyOf rec) ++ rest)
 
--- the state's questions stop the call
-pub state-stops : (l rec : List ℕ) (rest : List Question) (why : Refusal) → why ≡ firstNo (stateQuestions l) → (numberOf why ≡ 0 → ⊥)
-    → why ≡ firstNo (stateQuestions l ++ (recordQuestions (memberCount l) (roundOf rec) (sourceOf rec) (bodyOf rec) ++ rest))
-state-stops l rec rest = at-state l (recordQuestions (memberCount l) (roundOf rec) (sourceOf rec) (bodyOf rec)) rest
+module _ (n : ℕ) (rec : List ℕ) (rest : List Question) (why : Refusal) (e : why ≡ recordRefusal n rec) where
+  -- they stop the call
+  pub record-stops : (numberOf why ≡ 0 → ⊥) → why ≡ firstNo (recordQuestions n (roundOf rec) (sourceOf rec) (bodyOf rec) ++ rest)
+  record-stops = stops _ rest why e
 
-module _ (l rec : List ℕ) (rest : List Question) (why : Refusal) (e : why ≡ firstNo (stateQuestions l)) (h : numberOf why ≡ 0) where
-  pub state-known : StateKnown l rec rest
-  state-known = record { size = state-ok l (sym (ap numberOf e) ∙ h) .0; stopped = λ r d k. at-asked l _ rest why e h r d k }
-
-  pub record-known : (r : Refusal) → r ≡ recordRefusal (memberCount l) rec → numberOf r ≡ 0 → RecordKnown l rec rest
-  record-known r d k =
-      let s = state-ok l (sym (ap numberOf e) ∙ h) in
-      let n = sym (ap numberOf d) ∙ k in
-      let a = turn.admitted (memberCount l) (roundOf rec) (sourceOf rec) (bodyOf rec) n in
+  pub record-known : numberOf why ≡ 0 → RecordKnown n rec rest
+  record-known h =
+      let z = sym (ap numberOf e) ∙ h in
+      let a = turn.admitted n (roundOf rec) (sourceOf rec) (bodyOf rec) z in
       let w = take-all bodySize (drop bodyPlace rec) (omega (arith, a .size)) in
       record {
-        formed = formed l (s .0) (s .1);
         admit = a;
         long = omega (arith, a .size, length-drop bodyPlace rec);
         whole = w;
-        body = rw w n;
-        last = λ t f. past-asked l _ rest why e h r d (numbered-law (memberCount l) (roundOf rec) (sourceOf rec) .1 (bodyOf rec)) k t f;
+        body = rw w z;
+        last = past _ rest why e (numbered-law n (roundOf rec) (sourceOf rec) .1 (bodyOf rec)) h;
       }
 
 -- ---- the smallest missing parent
@@ -150,24 +141,27 @@ pub record SignerKnown (l : List ℕ) (r p mask : ℕ) : Type 0 where
 
 module _ (l : List ℕ) (r p mask : ℕ) (why : Refusal) (e : why ≡ firstNo (stateQuestions l)) where
   pub note-state : (numberOf why ≡ 0 → ⊥) → why ≡ firstNo (noteQuestions l r p mask)
-  note-state = at-state l (signerQuestions (memberCount l) r p) _ why e
+  note-state = state-stops l why e _
 
   module _ (h : numberOf why ≡ 0) where
     pub note-known : NoteKnown l r p mask
-    note-known = record { size = state-ok l (sym (ap numberOf e) ∙ h) .0; stopped = λ s d k. at-asked l _ _ why e h s d k }
+    note-known = record {
+      size = state-formed l why e h .size;
+      stopped = λ s d k. state-past l why e _ h s (stops (signerQuestions (memberCount l) r p) _ s d k);
+    }
 
     pub signer-known : (s : Refusal) → s ≡ signerRefusal (memberCount l) r p → numberOf s ≡ 0 → SignerKnown l r p mask
     signer-known s d k =
-        let t = state-ok l (sym (ap numberOf e) ∙ h) in
+        let S = state-formed l why e h in
         let w = placed (memberCount l) r p (sym (ap numberOf d) ∙ k) in
-        let last = past-asked l _ ((not (has mask p), Duplicate) ∷ []) why e h s d (numbered-law (memberCount l) r p .0) k in
+        let last = past (signerQuestions (memberCount l) r p) _ s d (numbered-law (memberCount l) r p .0) k in
         record {
-          size = t .0;
+          size = S .size;
           low = w .round-low;
           high = w .round-high;
-          few = omega (arith, w .member-low, formed l (t .0) (t .1) .front .high);
-          again = λ f. last Duplicate (heard-before mask p f);
-          new = λ f. last None (heard-first mask p f);
+          few = omega (arith, w .member-low, S .front .high);
+          again = λ f. state-past l why e _ h Duplicate (last Duplicate (heard-before mask p f));
+          new = λ f. state-past l why e _ h None (last None (heard-first mask p f));
         }
 
 -- ---- outcomes

@@ -1,14 +1,26 @@
--- What an inner function of the calls asks of what it is lent. No claim rests on it.
+-- What the inner functions of the calls ask and answer. No claim rests on it.
 use mathlib.Core.Path.{_≡_}
-use mathlib.Core.Bool.{true}
-use mathlib.Core.List.{List}
+use mathlib.Core.Bool.{true, not}
+use mathlib.Core.List.{List, [], _∷_, _++_}
 use Prim.Native.Nat.{ℕ, _≤_, _<_}
 use lib.ListN.{length}
-use Rattle.record.specs.Members.{legal, rounds, slots}
-use Rattle.record.specs.Refusals.{numberOf}
-use Rattle.record.specs.Questions.{bodyRefusal}
+use Rattle.record.specs.Members.{legal, has, rounds, slots}
+use Rattle.record.specs.Refusals.{numberOf, Question}
+use Rattle.record.specs.Layout.{roundOf, sourceOf, bodyOf}
+use Rattle.record.specs.Questions.{recordQuestions, bodyRefusal}
+use Rattle.record.specs.declared.refusal.Refusal.the-variants.{Duplicate}
 use Rattle.replica.specs.Layout.{stateSize}
-use Rattle.replica.specs.State.{memberCount}
+use Rattle.replica.specs.State.{memberCount, heardMask}
+use Rattle.ordering.specs.Calls.{placeQuestions}
+
+-- questions 4 to 14 of a vertex, and 4 to 12 of a first message, of a record among n members
+abbrev pub admissionQuestions : List ℕ → ℕ → List ℕ → List Question
+admissionQuestions l n rec =
+    recordQuestions n (roundOf rec) (sourceOf rec) (bodyOf rec) ++ placeQuestions l (roundOf rec) (sourceOf rec) (bodyOf rec)
+
+abbrev pub hearingQuestions : List ℕ → ℕ → List ℕ → List Question
+hearingQuestions l n rec =
+    recordQuestions n (roundOf rec) (sourceOf rec) (bodyOf rec) ++ ((not (has (heardMask l (roundOf rec)) (sourceOf rec)), Duplicate) ∷ [])
 
 -- the words of a state, and a vertex that the record's questions admit among n members
 pub record Placing (l : List ℕ) (n r p : ℕ) (body : List ℕ) : Type 0 where

@@ -5,6 +5,7 @@ ghost use Rattle.ordering.specs.Calls.{bundleRefusal, takeTimeouts};
 use commits::rounds::raise_round;
 use record::members::is_round;
 use record::members::is_within;
+use record::members::quorum_of;
 use record::refusal::Refusal;
 use record::refusal::number;
 use replica::answer::Answer;
@@ -49,7 +50,8 @@ pub fn take_timeouts(state: &mut [u32], round: u32, mask: u32) -> Answer
     let at = masks_at(round) + TIMEOUTS;
     add_members(state, at, mask);
     let n = state[MEMBER_COUNT];
-    raise_round(state, n);
+    let quorum = quorum_of(n);
+    raise_round(state, n, quorum);
     Answer {
         refusal: Refusal::None,
         leaders: 0,

@@ -1,9 +1,15 @@
 // Taking a first message.
 ghost use mathlib.Core.Path.{_≡_};
+ghost use mathlib.Core.Bool.{true};
 ghost use mathlib.Core.List.{[], _∷_};
+ghost use lib.ListN.{length};
+ghost use Rattle.record.specs.Refusals.{firstNo};
+ghost use Rattle.record.specs.Members.{legal};
+ghost use Rattle.record.specs.Handed.{QuorumOf};
+ghost use Rattle.replica.specs.Layout.{stateSize};
 ghost use Rattle.replica.specs.Outcome.{told};
-ghost use Rattle.ordering.specs.Calls.{firstRefusal, hear, takeFirstMessage};
-ghost use Rattle.ordering.specs.Inner.{Hearing};
+ghost use Rattle.ordering.specs.Calls.{hear, takeFirstMessage};
+ghost use Rattle.ordering.specs.Inner.{Hearing, hearingQuestions};
 use super::steps::settle;
 use record::layout::BODY;
 use record::layout::ROUND;
@@ -11,6 +17,7 @@ use record::layout::SOURCE;
 use record::layout::STRONG;
 use record::members::has_bit;
 use record::members::leader_of;
+use record::members::quorum_of;
 use record::questions::check;
 use record::refusal::Refusal;
 use record::refusal::number;
@@ -24,18 +31,14 @@ use replica::masks::add_member;
 use replica::masks::mask_of;
 use replica::status::check_state;
 
-// All questions of a first message.
-fn check_first(state: &[u32], rec: &[u32]) -> Refusal
-    ensures { λ r. ⌜ r ≡ firstRefusal (now (state .entry)) (now (rec .entry)) ⌝ }
+// Questions 4 to 12, of a first message for a state whose own questions are passed.
+fn check_first(state: &[u32], n: u32, quorum: u32, rec: &[u32]) -> Refusal
+    requires { ⌜ (length (now state) ≡ stateSize) × (legal n ≡ true) × QuorumOf n quorum ⌝ }
+    ensures { λ r. ⌜ r ≡ firstNo (hearingQuestions (now (state .entry)) n (now (rec .entry))) ⌝ }
 {
-    let why = check_state(state);
+    let why = check(n, quorum, rec);
     if number(why) != 0 {
         return why;
-    }
-    let n = state[MEMBER_COUNT];
-    let refused = check(n, rec);
-    if number(refused) != 0 {
-        return refused;
     }
     if has_bit(mask_of(state, HEARD, rec[ROUND]), rec[SOURCE]) {
         return Refusal::Duplicate;
@@ -58,15 +61,20 @@ fn hear_record(state: &mut [u32], n: u32, round: u32, source: u32, strong: u32)
     }
 }
 
-// Takes a first message.
+// Takes a first message. The quorum is worked out once, for the questions and the commits.
 pub fn take_first_message(state: &mut [u32], rec: &[u32]) -> Answer
     ensures { λ r. ⌜ told r (now (state .exit)) ≡ takeFirstMessage (now (state .entry)) (now (rec .entry)) ⌝ }
 {
-    let why = check_first(state, rec);
+    let why = check_state(state);
     if number(why) != 0 {
         return refuse(why);
     }
     let n = state[MEMBER_COUNT];
+    let quorum = quorum_of(n);
+    let refused = check_first(state, n, quorum, rec);
+    if number(refused) != 0 {
+        return refuse(refused);
+    }
     hear_record(state, n, rec[ROUND], rec[SOURCE], rec[BODY + STRONG]);
-    settle(state, n)
+    settle(state, n, quorum)
 }

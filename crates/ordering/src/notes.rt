@@ -6,6 +6,7 @@ ghost use Rattle.ordering.specs.Calls.{noteRefusal, takeNote, takeTimeou
 ghost use Rattle.replica.specs.Layout.{kinds};
 use commits::rounds::raise_round;
 use record::members::has_bit;
+use record::members::quorum_of;
 use record::questions::check_signer;
 use record::refusal::Refusal;
 use record::refusal::number;
@@ -67,7 +68,8 @@ pub fn take_timeout(state: &mut [u32], round: u32, signer: u32) -> Answer
         return answer;
     }
     let n = state[MEMBER_COUNT];
-    raise_round(state, n);
+    let quorum = quorum_of(n);
+    raise_round(state, n, quorum);
     answer
 }
 

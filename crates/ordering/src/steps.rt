@@ -2,6 +2,7 @@
 ghost use mathlib.Core.Path.{_≡_};
 ghost use mathlib.Core.Bool.{true};
 ghost use lib.ListN.{length};
+ghost use Rattle.record.specs.Handed.{QuorumOf};
 ghost use Rattle.replica.specs.Layout.{stateSize};
 ghost use Rattle.replica.specs.State.{memberCount};
 ghost use Rattle.replica.specs.WellFormed.{wellFormed};
@@ -14,13 +15,13 @@ use replica::layout::JOURNAL_COUNT;
 use replica::layout::LEADER_COUNT;
 
 // The commits that follow an admitted record, and the answer.
-pub fn settle(state: &mut [u32], n: u32) -> Answer
-    requires { ⌜ (length (now state) ≡ stateSize) × (wellFormed (now state) ≡ true) × (n ≡ memberCount (now state)) ⌝ }
+pub fn settle(state: &mut [u32], n: u32, quorum: u32) -> Answer
+    requires { ⌜ (length (now state) ≡ stateSize) × (wellFormed (now state) ≡ true) × (n ≡ memberCount (now state)) × QuorumOf n quorum ⌝ }
     ensures { λ r. ⌜ told r (now (state .exit)) ≡ admitted (now (state .entry)) (commitAll (now (state .entry))) ⌝ }
 {
     let leaders = state[LEADER_COUNT];
     let journal = state[JOURNAL_COUNT];
-    commit_all(state, n);
+    commit_all(state, n, quorum);
     Answer {
         refusal: Refusal::None,
         leaders: state[LEADER_COUNT] - leaders,

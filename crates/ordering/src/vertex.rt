@@ -1,16 +1,18 @@
 // Taking a vertex.
 ghost use mathlib.Core.Path.{_≡_};
+ghost use mathlib.Core.Bool.{true};
 ghost use Prim.Native.Nat.{_<_, _≤_};
 ghost use lib.ListN.{length};
 ghost use Rattle.record.specs.Refusals.{firstNo};
-ghost use Rattle.record.specs.Members.{rounds, slots};
+ghost use Rattle.record.specs.Members.{rounds, slots, legal};
+ghost use Rattle.record.specs.Handed.{QuorumOf};
 ghost use Rattle.record.specs.Layout.{bodySize};
 ghost use Rattle.replica.specs.Layout.{stateSize};
-ghost use Rattle.replica.specs.State.{memberCount};
 ghost use Rattle.replica.specs.Outcome.{told};
 ghost use Rattle.commits.specs.Commit.{raiseRound};
-ghost use Rattle.ordering.specs.Calls.{sameBody, placeQuestions, vertexRefusal, putVertex, carryTimeouts, takeVertex};
-ghost use Rattle.ordering.specs.Inner.{Placing};
+ghost use Rattle.commits.specs.Standing.{GroupOf};
+ghost use Rattle.ordering.specs.Calls.{sameBody, placeQuestions, putVertex, carryTimeouts, takeVertex};
+ghost use Rattle.ordering.specs.Inner.{Placing, admissionQuestions};
 use super::search::NONE;
 use super::search::first_missing;
 use super::steps::settle;
@@ -22,6 +24,7 @@ use record::layout::ROUND;
 use record::layout::SOURCE;
 use record::layout::TIMEOUTS as RECORD_TIMEOUTS;
 use record::members::has_bit;
+use record::members::quorum_of;
 use record::questions::check;
 use record::refusal::Refusal;
 use record::refusal::number;
@@ -90,12 +93,12 @@ fn carry_timeouts(state: &mut [u32], round: u32, mask: u32)
 }
 
 // The timeout mask of a vertex counts, and then the round rule.
-fn advance(state: &mut [u32], n: u32, round: u32, mask: u32)
-    requires { ⌜ (length (now state) ≡ stateSize) × (n ≡ memberCount (now state)) × (0 < n) × (1 ≤ round) × (round ≤ rounds) ⌝ }
+fn advance(state: &mut [u32], n: u32, quorum: u32, round: u32, mask: u32)
+    requires { ⌜ GroupOf (now state) n quorum × (1 ≤ round) × (round ≤ rounds) ⌝ }
     ensures { λ _. ⌜ now (state .exit) ≡ raiseRound (carryTimeouts (now (state .entry)) round mask) ⌝ }
 {
     carry_timeouts(state, round, mask);
-    raise_round(state, n);
+    raise_round(state, n, quorum);
 }
 
 // Questions 12 to 14, of a vertex that the record's questions admit.
@@ -116,32 +119,33 @@ fn check_place(state: &[u32], n: u32, round: u32, source: u32, body: &[u32]) -> 
     Refusal::None
 }
 
-// All questions of a vertex.
-fn check_vertex(state: &[u32], rec: &[u32]) -> Refusal
-    ensures { λ r. ⌜ r ≡ vertexRefusal (now (state .entry)) (now (rec .entry)) ⌝ }
+// Questions 4 to 14, of a vertex for a state whose own questions are passed.
+fn check_vertex(state: &[u32], n: u32, quorum: u32, rec: &[u32]) -> Refusal
+    requires { ⌜ (length (now state) ≡ stateSize) × (legal n ≡ true) × QuorumOf n quorum ⌝ }
+    ensures { λ r. ⌜ r ≡ firstNo (admissionQuestions (now (state .entry)) n (now (rec .entry))) ⌝ }
 {
-    let why = check_state(state);
+    let why = check(n, quorum, rec);
     if number(why) != 0 {
         return why;
-    }
-    let n = state[MEMBER_COUNT];
-    let refused = check(n, rec);
-    if number(refused) != 0 {
-        return refused;
     }
     check_place(state, n, rec[ROUND], rec[SOURCE], &rec[BODY..RECORD_SIZE])
 }
 
-// Takes a vertex.
+// Takes a vertex. The quorum is worked out once, for the questions, the round rule and the commits.
 pub fn take_vertex(state: &mut [u32], rec: &[u32]) -> Answer
     ensures { λ r. ⌜ told r (now (state .exit)) ≡ takeVertex (now (state .entry)) (now (rec .entry)) ⌝ }
 {
-    let why = check_vertex(state, rec);
+    let why = check_state(state);
     if number(why) != 0 {
         return refuse(why);
     }
     let n = state[MEMBER_COUNT];
+    let quorum = quorum_of(n);
+    let refused = check_vertex(state, n, quorum, rec);
+    if number(refused) != 0 {
+        return refuse(refused);
+    }
     put_vertex(state, rec[ROUND], rec[SOURCE], &rec[BODY..RECORD_SIZE]);
-    advance(state, n, rec[ROUND], rec[BODY + RECORD_TIMEOUTS]);
-    settle(state, n)
+    advance(state, n, quorum, rec[ROUND], rec[BODY + RECORD_TIMEOUTS]);
+    settle(state, n, quorum)
 }

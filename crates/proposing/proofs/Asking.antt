@@ -4,17 +4,20 @@ use mathlib.Core.Bool.{Bool, true, false, not, _&&_}
 use mathlib.Core.List.{List, [], _∷_}
 use Prim.Native.Nat.{ℕ, _+_, _-_, _≤_, _<_}
 use native.Mathlib.Omega.{arith}
+use lib.Count.{ones}
 use lib.Dec.{leb}
 use lib.ListN.{length, drop}
 use borrow.Author.Tests.{eq-eqb, ne-eqb, leb-true, le-leb, lt-leb}
 use Rattle.record.specs.Members.{isRound, leader, has, meets, rounds, slots}
 use Rattle.record.specs.Refusals.{numberOf, firstNo, numbered}
 use Rattle.record.specs.Questions.{quorumIf}
+use Rattle.record.specs.Handed.{QuorumOf, handedIf}
 use Rattle.record.specs.declared.refusal.Refusal.{Refusal}
 use Rattle.record.specs.declared.refusal.Refusal.the-variants.{None, Watcher, Round, Timeouts, NoVotes, Duplicate, FewParents, Signing}
 use Rattle.record.proofs.Booleans.{and-left, and-fails-left, and-fails-right, cond-true, cond-false, passed, failed}
 use Rattle.record.proofs.Rounds.{round-in, round-range}
-use Rattle.record.proofs.Turn.{next, stop, done, front-no, front-yes}
+use Rattle.record.proofs.Masks.{meets-handed}
+use Rattle.record.proofs.Turn.{next, stop, done, front-no, front-yes, if-handed}
 use Rattle.record.proofs.Composed.{strong-ok-first, strong-ok-later}
 use Rattle.replica.specs.Layout.{stateSize, watcher, leaderCountAt, journalCountAt, madeAt, signedAt, masksAt, noVotesKind}
 use Rattle.replica.specs.State.{memberCount, currentRound, ownWord, madeRounds, signedRounds, heldMask, addMember}
@@ -84,12 +87,18 @@ module _ (l : List ℕ) (n round : ℕ) (d : Draft) (C : Current l n round) (ed 
   abbrev asked : Refusal
   asked = firstNo (drop 1 (makingQuestions l))
 
-  module _ (a : Bool) (ea : a ≡ quorumIf n (d .«wants_timeouts») (d .timeouts)) where
+  module _ (q : ℕ) (g : QuorumOf n q) (a : Bool) (ha : a ≡ handedIf q (d .«wants_timeouts») (d .timeouts)) where
+    ea : a ≡ quorumIf n (d .«wants_timeouts») (d .timeouts)
+    ea = if-handed n q _ _ g ha
+
     pub draft-timeouts : not a ≡ true → Timeouts ≡ asked
     unfolding makingQuestions
     draft-timeouts h = stop _ _ (rw (ed, C .opened .members) at (failed ea h))
 
-    module _ (pa : not a ≡ false) (b : Bool) (eb : b ≡ quorumIf n (d .«wants_no_votes») (d .«no_votes»)) where
+    module _ (pa : not a ≡ false) (b : Bool) (hb : b ≡ handedIf q (d .«wants_no_votes») (d .«no_votes»)) where
+      eb : b ≡ quorumIf n (d .«wants_no_votes») (d .«no_votes»)
+      eb = if-handed n q _ _ g hb
+
       pub draft-no-votes : not b ≡ true → NoVotes ≡ asked
       unfolding makingQuestions
       draft-no-votes h = next _ _ (rw (ed, C .opened .members) at (passed ea pa)) (stop _ _ (rw (ed, C .opened .members) at (failed eb h)))
@@ -114,16 +123,19 @@ module _ (l : List ℕ) (n round : ℕ) (d : Draft) (C : Current l n round) (ed 
               let one : currentRound l ≡ 1 = sym (C .opened .current) ∙ h in
               last-one (next _ _ (rw one (strong-ok-first (memberCount l))) done)
 
-          module _ (later : round ≡ 1 → ⊥) (q : Bool) (eq : q ≡ meets n (d .strong)) where
-            pub draft-few : not q ≡ true → FewParents ≡ asked
+          module _ (later : round ≡ 1 → ⊥) (z : Bool) (hz : z ≡ leb q (ones (d .strong))) where
+            ez : z ≡ meets n (d .strong)
+            ez = meets-handed n q _ g hz
+
+            pub draft-few : not z ≡ true → FewParents ≡ asked
             unfolding makingQuestions
             draft-few h = last-one (stop _ _ (strong-ok-later (memberCount l) (currentRound l) (madeStrong l) (λ x. later (C .opened .current ∙ x))
-                ∙ (rw (ed, C .opened .members) at (failed eq h))))
+                ∙ (rw (ed, C .opened .members) at (failed ez h))))
 
-            pub draft-done : not q ≡ false → None ≡ asked
+            pub draft-done : not z ≡ false → None ≡ asked
             unfolding makingQuestions
             draft-done h = last-one (next _ _ (strong-ok-later (memberCount l) (currentRound l) (madeStrong l) (λ x. later (C .opened .current ∙ x))
-                ∙ (rw (ed, C .opened .members) at (passed eq h))) done)
+                ∙ (rw (ed, C .opened .members) at (passed ez h))) done)
 
 -- ---- making
 

@@ -116,7 +116,7 @@ module _ (l : List ℕ) (n round : ℕ) (C : Current l n round) where
     unfolding parentsIn
     strong-held p = eh ∙ sym (from-before ∙ cond-false _ _ (failed eb p))
 
-    pub strong-less : not b ≡ false → (q : ℕ) → q ≡ leader n (round - 1) → (x : Members) → x ≡ without (record { bits = h; n = n }) q
+    pub strong-less : not b ≡ false → (q : ℕ) → q ≡ leader n (round - 1) → (x : Members) → x ≡ without (record { bits = h }) q
         → x .bits ≡ madeStrong l
     unfolding parentsIn
     strong-less p q eq x ex =

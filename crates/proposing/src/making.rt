@@ -29,6 +29,7 @@ use record::members::Members;
 use record::members::ROUNDS;
 use record::members::faulty_of;
 use record::members::leader_of;
+use record::members::quorum_of;
 use record::questions::lacks_leader;
 use record::questions::quorum_if;
 use record::questions::terms_of;
@@ -82,7 +83,6 @@ fn strong_of(state: &[u32], n: u32, round: u32) -> u32
     }
     let held = Members {
         bits: mask_of(state, HELD, round - 1),
-        n,
     };
     if !marks_round(state[SIGNED], round - 1) {
         return held.bits;
@@ -132,15 +132,16 @@ fn draft_of(state: &[u32], n: u32, round: u32) -> Draft
     }
 }
 
-// Questions 9, 10, 12 and 18.
+// Questions 9, 10, 12 and 18. The quorum is worked out once.
 fn check_draft(state: &[u32], n: u32, round: u32, draft: Draft) -> Refusal
     requires { ⌜ Current (now state) n round × (draft ≡ draftOf (now state)) ⌝ }
     ensures { λ r. ⌜ r ≡ firstNo (drop 1 (makingQuestions (now (state .entry)))) ⌝ }
 {
-    if !quorum_if(n, draft.wants_timeouts, draft.timeouts) {
+    let quorum = quorum_of(n);
+    if !quorum_if(quorum, draft.wants_timeouts, draft.timeouts) {
         return Refusal::Timeouts;
     }
-    if !quorum_if(n, draft.wants_no_votes, draft.no_votes) {
+    if !quorum_if(quorum, draft.wants_no_votes, draft.no_votes) {
         return Refusal::NoVotes;
     }
     if marks_round(state[MADE], round) {
@@ -149,11 +150,8 @@ fn check_draft(state: &[u32], n: u32, round: u32, draft: Draft) -> Refusal
     if round == 1 {
         return Refusal::None;
     }
-    let parents = Members {
-        bits: draft.strong,
-        n,
-    };
-    if !parents.meets_quorum() {
+    let parents = Members { bits: draft.strong };
+    if !parents.meets_quorum(quorum) {
         return Refusal::FewParents;
     }
     Refusal::None

@@ -33,7 +33,6 @@ fn may_sign(state: &[u32], n: u32, round: u32) -> bool
     }
     let held = Members {
         bits: mask_of(state, HELD, round - 1),
-        n,
     };
     if held.has(leader_of(n, round - 1)) {
         return false;

@@ -139,7 +139,7 @@ pub composed : ComposedLaw
 unfolding recordQuestions signerQuestions
 composed n round source strong timeouts noVotes tag weak c =
     let b : List ℕ = body n round source strong timeouts noVotes tag weak in
-    ap numberOf (sym (known n round source b (c .placed .round-low) (c .placed .round-high) (c .placed .member-low)
+    ap numberOf (sym (known n round source b _ (c .placed .round-low) (c .placed .round-high) (c .placed .member-low)
     (long n round source strong timeouts noVotes tag weak c)
     (next _ _ (masks n round source strong timeouts noVotes tag weak c)
     (next _ _ (ap (strongOk n round) (strong-is n round source strong timeouts noVotes tag weak) ∙ c .strong-enough)

@@ -5,17 +5,18 @@ use mathlib.Core.List.{List, [], _∷_, _++_}
 use Prim.Native.Nat.{ℕ, _+_, _-_, _^_, _≤_, _<_}
 use native.Mathlib.Omega.{arith}
 use lib.Dec.{eqb, leb, ltb}
-use lib.ListN.{length, drop}
+use lib.ListN.{length}
 use borrow.Author.Tests.{leb-true, ltb-true, lt-ltb, eqb-true, eqb-false, ne-eqb, eq-eqb, le-leb}
 use Rattle.record.specs.Below.{count}
 use Rattle.record.specs.Members.{faulty, quorum, leader, has, within, meets, idRound, idMember, rounds}
 use Rattle.record.specs.Refusals.{numberOf, Question, firstNo, numbered}
 use Rattle.record.specs.Layout.{strongOf, timeoutsOf, noVotesOf, weakCountOf, weakOf, bodySize, weakSlots}
 use Rattle.record.specs.Questions.{masksOk, strongOk, lacksLeader, quorumIf, timeoutsOk, noVotesOk, weakIdOk, rises, slotOk, weakOk}
-use Rattle.record.specs.Questions.{signerQuestions, recordQuestions, bodyRefusal}
+use Rattle.record.specs.Questions.{signerQuestions, recordQuestions}
+use Rattle.record.specs.Handed.{QuorumOf, handedStrong, handedIf, handedTimeouts, handedNoVotes, handedQuestions, HandedLaw}
 use Rattle.record.specs.Admitted.{SignerLaw, AdmittedLaw, NumberedLaw}
 use Rattle.record.specs.declared.refusal.Refusal.{Refusal}
-use Rattle.record.specs.declared.refusal.Refusal.the-variants.{None}
+use Rattle.record.specs.declared.refusal.Refusal.the-variants.{None, RecordSize}
 use Rattle.record.proofs.Booleans.{never, and-left, and-right, and-both, cond-true, cond-false}
 use Rattle.record.proofs.Below.{all-elim}
 use Rattle.record.proofs.Rounds.{round-in, round-range}
@@ -65,19 +66,31 @@ unfolding numbered signerQuestions recordQuestions
 numbered-law n round source = (refl, λ body. refl)
 
 -- where questions 4 to 6 are answered yes, those from 7 on decide
-pub known : (n round source : ℕ) (body : List ℕ) {r : Refusal} → 1 ≤ round → round ≤ rounds → source < n → length body ≡ bodySize
-    → r ≡ firstNo (drop 3 (recordQuestions n round source body)) → r ≡ bodyRefusal n round source body
-unfolding recordQuestions signerQuestions
-known n round source body l h k e d =
+pub known : (n round source : ℕ) (body : List ℕ) (rest : List Question) {r : Refusal} → 1 ≤ round → round ≤ rounds → source < n → length body ≡ bodySize
+    → r ≡ firstNo rest → r ≡ firstNo ((eqb (length body) bodySize, RecordSize) ∷ (signerQuestions n round source ++ rest))
+unfolding signerQuestions
+known n round source body rest l h k e d =
     next _ _ (eq-eqb _ _ e) (next _ _ (round-in round l h) (next _ _ (lt-ltb source n k) d))
 
--- question 10's mask, where the source leads its round and where not
-pub wanted-leading : (n : ℕ) (lack leads : Bool) (mask : ℕ) → leads ≡ true → quorumIf n lack mask ≡ quorumIf n (lack && leads) mask
-wanted-leading n lack leads mask e = ap (λ (b : Bool). quorumIf n b mask) (sym (ap (λ (b : Bool). lack && b) e ∙ and-true lack))
+-- ---- the questions handed a quorum
 
-pub wanted-not : (n : ℕ) (lack leads : Bool) (mask : ℕ) → leads ≡ false → eqb mask 0 ≡ quorumIf n (lack && leads) mask
-unfolding quorumIf
-wanted-not n lack leads mask e = sym (cond-false _ _ (ap (λ (b : Bool). lack && b) e ∙ and-false lack))
+-- handed 2f + 1 of n, they are those of n alone
+pub handed-law : HandedLaw
+unfolding handedQuestions handedStrong handedTimeouts handedNoVotes handedIf recordQuestions signerQuestions strongOk timeoutsOk noVotesOk quorumIf meets
+handed-law n q e round source body = rw e
+
+-- so is the test of a mask that may be wanted
+pub if-handed : (n q : ℕ) (wanted : Bool) (mask : ℕ) {b : Bool} → QuorumOf n q → b ≡ handedIf q wanted mask → b ≡ quorumIf n wanted mask
+unfolding handedIf quorumIf meets
+if-handed n q wanted mask e d = rw e at d
+
+-- question 10's mask, where the source leads its round and where not
+pub wanted-leading : (q : ℕ) (lack leads : Bool) (mask : ℕ) → leads ≡ true → handedIf q lack mask ≡ handedIf q (lack && leads) mask
+wanted-leading q lack leads mask e = ap (λ (b : Bool). handedIf q b mask) (sym (ap (λ (b : Bool). lack && b) e ∙ and-true lack))
+
+pub wanted-not : (q : ℕ) (lack leads : Bool) (mask : ℕ) → leads ≡ false → eqb mask 0 ≡ handedIf q (lack && leads) mask
+unfolding handedIf
+wanted-not q lack leads mask e = sym (cond-false _ _ (ap (λ (b : Bool). lack && b) e ∙ and-false lack))
 
 -- ---- an admitted record
 

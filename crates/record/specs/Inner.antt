@@ -1,13 +1,14 @@
 -- What the inner functions of the questions ask and answer. No claim rests on it.
 use mathlib.Core.Path.{_≡_}
-use mathlib.Core.Bool.{Bool, cond, _&&_}
+use mathlib.Core.Bool.{Bool, true, cond, _&&_}
 use mathlib.Core.List.{List}
 use Prim.Native.Nat.{ℕ, _-_, _^_, _≤_, _<_}
 use lib.Dec.{eqb, leb, ltb}
 use lib.ListN.{length}
-use Rattle.record.specs.Members.{rounds, leader, slots}
+use Rattle.record.specs.Members.{rounds, leader, within, slots}
 use Rattle.record.specs.Layout.{bodySize, weakSlots, strongOf, weakCountOf}
-use Rattle.record.specs.Questions.{masksOk, strongOk, timeoutsOk, noVotesOk}
+use Rattle.record.specs.Questions.{masksOk}
+use Rattle.record.specs.Handed.{handedStrong, handedIf, handedTimeouts, handedNoVotes}
 use Rattle.record.specs.declared.questions.Terms.{Terms}
 
 -- the largest mask of n members: of 32 or more every word is one
@@ -31,10 +32,14 @@ pub record Known (terms : Terms) (round source : ℕ) (body : List ℕ) : Type 0
   pub source-low : source < terms .n
   pub size : length body ≡ bodySize
 
+-- 9 and 10, and 7 of the two masks, where the strong mask lacks the previous leader
+unfoldable pub certified : ℕ → ℕ → Bool → ℕ → ℕ → Bool
+certified n q leads timeouts noVotes = (within n timeouts && within n noVotes) && (handedIf q true timeouts && handedIf q leads noVotes)
+
 -- 7 to 10 together: what is asked of the three masks
-unfoldable pub masksAdmitted : ℕ → ℕ → ℕ → List ℕ → Bool
-masksAdmitted n round source body =
-    masksOk n body && (strongOk n round (strongOf body) && (timeoutsOk n round body && noVotesOk n round source body))
+unfoldable pub masksAdmitted : ℕ → ℕ → ℕ → ℕ → List ℕ → Bool
+masksAdmitted n q round source body =
+    masksOk n body && (handedStrong q round (strongOf body) && (handedTimeouts n q round body && handedNoVotes n q round source body))
 
 -- the number before the first id
 abbrev pub beforeIds : ℕ

@@ -3,6 +3,7 @@ pub mod Members
 pub mod Refusals
 pub mod Layout
 pub mod Questions
+pub mod Handed
 pub mod Inner
 pub mod Admitted
 pub mod Claims

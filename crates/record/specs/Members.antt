@@ -59,11 +59,11 @@ meets n m = leb (quorum n) (ones m)
 
 -- the members m with member p added
 abbrev pub with : Members → ℕ → Members
-with m p = record { bits = add (m .bits) p; n = m .n }
+with m p = record { bits = add (m .bits) p }
 
 -- the members m without member p
 abbrev pub without : Members → ℕ → Members
-without m p = record { bits = remove (m .bits) p; n = m .n }
+without m p = record { bits = remove (m .bits) p }
 
 -- the id (01: ref) of the vertex of round r and member p, and its round and member
 abbrev pub idOf : ℕ → ℕ → ℕ

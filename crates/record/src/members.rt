@@ -1,7 +1,9 @@
 // Rounds, masks of members, quorums and leaders.
 ghost use mathlib.Core.Path.{_≡_};
 ghost use Prim.Native.Nat.{_<_, _≤_, _^_};
-ghost use Rattle.record.specs.Members.{isRound, legal, faulty, quorum, leader, has, add, remove, within, meets, with, without};
+ghost use lib.Count.{ones};
+ghost use lib.Dec.{leb};
+ghost use Rattle.record.specs.Members.{isRound, legal, faulty, quorum, leader, has, add, remove, within, with, without};
 ghost use Rattle.record.specs.Inner.{largestMask};
 
 pub const ROUNDS: u32 = 32;
@@ -18,10 +20,9 @@ pub const SLOTS: u32 = 16;
 // Every id of a round of the group is below it.
 pub const ID_LIMIT: u32 = SLOTS * (ROUNDS + 1);
 
-// A mask of members of a group of n.
+// A mask of members.
 pub struct Members {
     pub bits: u32,
-    pub n: u32,
 }
 
 // The round is 1 to 32.
@@ -125,7 +126,6 @@ impl Members {
     {
         Members {
             bits: with_bit(self.bits, p),
-            n: self.n,
         }
     }
 
@@ -135,7 +135,6 @@ impl Members {
     {
         Members {
             bits: without_bit(self.bits, p),
-            n: self.n,
         }
     }
 
@@ -146,9 +145,10 @@ impl Members {
         has_bit(self.bits, p)
     }
 
-    pub fn meets_quorum(self) -> bool
-        ensures { λ r. ⌜ r ≡ meets (self .n) (self .bits) ⌝ }
+    // The mask has at least so many members. Every quorum test is this one.
+    pub fn meets_quorum(self, quorum: u32) -> bool
+        ensures { λ r. ⌜ r ≡ leb quorum (ones (self .bits)) ⌝ }
     {
-        quorum_of(self.n) <= u32::count_ones(self.bits)
+        quorum <= u32::count_ones(self.bits)
     }
 }

@@ -5,12 +5,13 @@ ghost use Prim.Native.Nat.{_<_, _≤_};
 ghost use lib.Dec.{eqb, ltb};
 ghost use lib.ListN.{length};
 ghost use Rattle.record.specs.Below.{all};
-ghost use Rattle.record.specs.Members.{rounds, within, meets};
+ghost use Rattle.record.specs.Members.{rounds, within};
 ghost use Rattle.record.specs.Refusals.{numberOf};
 ghost use Rattle.record.specs.Layout.{bodySize, weakSlots, weakOf};
-ghost use Rattle.record.specs.Questions.{allWithin, strongOk, lacksLeader, quorumIf, weakIdOk, usedOk, weakOk};
+ghost use Rattle.record.specs.Questions.{allWithin, lacksLeader, weakIdOk, usedOk, weakOk};
 ghost use Rattle.record.specs.Questions.{signerRefusal, bodyRefusal, recordRefusal};
-ghost use Rattle.record.specs.Inner.{masksAdmitted, termsOf, Known, usedSlots, beforeIds};
+ghost use Rattle.record.specs.Handed.{QuorumOf, handedStrong, handedIf, handedRefusal};
+ghost use Rattle.record.specs.Inner.{largestMask, certified, masksAdmitted, termsOf, Known, usedSlots, beforeIds};
 use super::layout::BODY;
 use super::layout::BODY_SIZE;
 use super::layout::NO_VOTES;
@@ -42,7 +43,7 @@ pub struct Terms {
     pub n: u32,
     pub previous: u32,
     pub leader: u32,
-    // The largest strong mask: 0 in round 1.
+    // The largest strong mask: 0 in round 1, and that of the group later.
     pub largest: u32,
 }
 
@@ -77,9 +78,9 @@ fn masks_ok(n: u32, strong: u32, timeouts: u32, no_votes: u32) -> bool
 }
 
 // 8, and 7 of the strong mask.
-fn strong_ok(terms: Terms, round: u32, strong: u32) -> bool
+fn strong_ok(terms: Terms, quorum: u32, round: u32, strong: u32) -> bool
     requires { ⌜ terms ≡ termsOf (terms .n) round ⌝ }
-    ensures { λ r. ⌜ r ≡ (within (terms .n) strong && strongOk (terms .n) round strong) ⌝ }
+    ensures { λ r. ⌜ r ≡ (within (terms .n) strong && handedStrong quorum round strong) ⌝ }
 {
     if terms.largest < strong {
         return false;
@@ -87,11 +88,8 @@ fn strong_ok(terms: Terms, round: u32, strong: u32) -> bool
     if round == 1 {
         return true;
     }
-    let members = Members {
-        bits: strong,
-        n: terms.n,
-    };
-    members.meets_quorum()
+    let members = Members { bits: strong };
+    members.meets_quorum(quorum)
 }
 
 // The strong mask lacks the previous leader.
@@ -106,22 +104,22 @@ pub fn lacks_leader(terms: Terms, round: u32, strong: u32) -> bool
 }
 
 // The mask is a quorum where it is wanted, and 0 where not: 9, of the timeout mask.
-pub fn quorum_if(n: u32, wanted: bool, mask: u32) -> bool
-    ensures { λ r. ⌜ r ≡ quorumIf n wanted mask ⌝ }
+pub fn quorum_if(quorum: u32, wanted: bool, mask: u32) -> bool
+    ensures { λ r. ⌜ r ≡ handedIf quorum wanted mask ⌝ }
 {
     if wanted {
-        let members = Members { bits: mask, n };
-        return members.meets_quorum();
+        let members = Members { bits: mask };
+        return members.meets_quorum(quorum);
     }
     mask == 0
 }
 
 // 10
-fn no_votes_ok(terms: Terms, source: u32, lack: bool, no_votes: u32) -> bool
-    ensures { λ r. ⌜ r ≡ quorumIf (terms .n) (lack && eqb source (terms .leader)) «no_votes» ⌝ }
+fn no_votes_ok(terms: Terms, quorum: u32, source: u32, lack: bool, no_votes: u32) -> bool
+    ensures { λ r. ⌜ r ≡ handedIf quorum (lack && eqb source (terms .leader)) «no_votes» ⌝ }
 {
     if source == terms.leader {
-        return quorum_if(terms.n, lack, no_votes);
+        return quorum_if(quorum, lack, no_votes);
     }
     no_votes == 0
 }
@@ -214,52 +212,53 @@ fn weak_ok(n: u32, round: u32, body: &[u32]) -> bool
     slots_zero(body, count)
 }
 
-// 9 and 10, of masks that lack the previous leader.
-fn certificates_ok(terms: Terms, source: u32, timeouts: u32, no_votes: u32) -> bool
-    ensures { λ r. ⌜ r ≡ (meets (terms .n) timeouts && quorumIf (terms .n) (eqb source (terms .leader)) «no_votes») ⌝ }
+// 9 and 10, and 7 of the two masks, where the strong mask lacks the previous leader. The round is not the first then.
+fn certificates_ok(terms: Terms, quorum: u32, source: u32, timeouts: u32, no_votes: u32) -> bool
+    requires { ⌜ terms .largest ≡ largestMask (terms .n) ⌝ }
+    ensures { λ r. ⌜ r ≡ certified (terms .n) quorum (eqb source (terms .leader)) timeouts «no_votes» ⌝ }
 {
-    if !quorum_if(terms.n, true, timeouts) {
+    if terms.largest < timeouts | no_votes {
         return false;
     }
-    no_votes_ok(terms, source, true, no_votes)
+    if !quorum_if(quorum, true, timeouts) {
+        return false;
+    }
+    no_votes_ok(terms, quorum, source, true, no_votes)
 }
 
 // 7 to 10, of a body of which 4 to 6 are known to be answered yes. Most masks have the previous leader: for them the other two masks
 // are tested at once.
-fn masks_admitted(terms: Terms, round: u32, source: u32, body: &[u32]) -> bool
+fn masks_admitted(terms: Terms, quorum: u32, round: u32, source: u32, body: &[u32]) -> bool
     requires { ⌜ Known terms round source (now body) ⌝ }
-    ensures { λ r. ⌜ r ≡ masksAdmitted (terms .n) round source (now (body .entry)) ⌝ }
+    ensures { λ r. ⌜ r ≡ masksAdmitted (terms .n) quorum round source (now (body .entry)) ⌝ }
 {
     let strong = body[STRONG];
     let timeouts = body[TIMEOUTS];
     let no_votes = body[NO_VOTES];
-    if !strong_ok(terms, round, strong) {
+    if !strong_ok(terms, quorum, round, strong) {
         return false;
     }
     if lacks_leader(terms, round, strong) {
-        if !masks_ok(terms.n, strong, timeouts, no_votes) {
-            return false;
-        }
-        return certificates_ok(terms, source, timeouts, no_votes);
+        return certificates_ok(terms, quorum, source, timeouts, no_votes);
     }
     timeouts | no_votes == 0
 }
 
 // Whether 5 to 11 are all answered yes, of a body of which 4 to 6 are known to be.
-pub fn is_admitted(terms: Terms, round: u32, source: u32, body: &[u32]) -> bool
-    requires { ⌜ Known terms round source (now body) ⌝ }
+pub fn is_admitted(terms: Terms, quorum: u32, round: u32, source: u32, body: &[u32]) -> bool
+    requires { ⌜ Known terms round source (now body) × QuorumOf (terms .n) quorum ⌝ }
     ensures { λ r. ⌜ r ≡ eqb (numberOf (bodyRefusal (terms .n) round source (now (body .entry)))) 0 ⌝ }
 {
-    if !masks_admitted(terms, round, source, body) {
+    if !masks_admitted(terms, quorum, round, source, body) {
         return false;
     }
     weak_ok(terms.n, round, body)
 }
 
 // 7 to 11 in turn, of a body of which 4 to 6 are known to be answered yes.
-fn check_known(terms: Terms, round: u32, source: u32, body: &[u32]) -> Refusal
+fn check_known(terms: Terms, quorum: u32, round: u32, source: u32, body: &[u32]) -> Refusal
     requires { ⌜ Known terms round source (now body) ⌝ }
-    ensures { λ r. ⌜ r ≡ bodyRefusal (terms .n) round source (now (body .entry)) ⌝ }
+    ensures { λ r. ⌜ r ≡ handedRefusal (terms .n) quorum round source (now (body .entry)) ⌝ }
 {
     let n = terms.n;
     let strong = body[STRONG];
@@ -268,14 +267,14 @@ fn check_known(terms: Terms, round: u32, source: u32, body: &[u32]) -> Refusal
     if !masks_ok(n, strong, timeouts, no_votes) {
         return Refusal::MaskBits;
     }
-    if !strong_ok(terms, round, strong) {
+    if !strong_ok(terms, quorum, round, strong) {
         return Refusal::Strong;
     }
     let lack = lacks_leader(terms, round, strong);
-    if !quorum_if(n, lack, timeouts) {
+    if !quorum_if(quorum, lack, timeouts) {
         return Refusal::Timeouts;
     }
-    if !no_votes_ok(terms, source, lack, no_votes) {
+    if !no_votes_ok(terms, quorum, source, lack, no_votes) {
         return Refusal::NoVotes;
     }
     if !weak_ok(n, round, body) {
@@ -298,7 +297,8 @@ pub fn check_signer(n: u32, round: u32, signer: u32) -> Refusal
 }
 
 // 4 to 11 in turn, of a body whose round and source are given.
-pub fn check_body(n: u32, round: u32, source: u32, body: &[u32]) -> Refusal
+pub fn check_body(n: u32, quorum: u32, round: u32, source: u32, body: &[u32]) -> Refusal
+    requires { ⌜ QuorumOf n quorum ⌝ }
     ensures { λ r. ⌜ r ≡ bodyRefusal n round source (now (body .entry)) ⌝ }
 {
     if body.len() != BODY_SIZE {
@@ -308,15 +308,16 @@ pub fn check_body(n: u32, round: u32, source: u32, body: &[u32]) -> Refusal
     if number(why) != 0 {
         return why;
     }
-    check_known(terms_of(n, round), round, source, body)
+    check_known(terms_of(n, round), quorum, round, source, body)
 }
 
 // 4 to 11 in turn, of a whole record.
-pub fn check(n: u32, rec: &[u32]) -> Refusal
+pub fn check(n: u32, quorum: u32, rec: &[u32]) -> Refusal
+    requires { ⌜ QuorumOf n quorum ⌝ }
     ensures { λ r. ⌜ r ≡ recordRefusal n (now (rec .entry)) ⌝ }
 {
     if rec.len() != RECORD_SIZE {
         return Refusal::RecordSize;
     }
-    check_body(n, rec[ROUND], rec[SOURCE], &rec[BODY..RECORD_SIZE])
+    check_body(n, quorum, rec[ROUND], rec[SOURCE], &rec[BODY..RECORD_SIZE])
 }

@@ -10,7 +10,6 @@ use lib.ListN.{length, getD, take, drop, length-drop}
 use lib.Seq.{length-take-le}
 use Rattle.record.specs.Below.{all}
 use Rattle.record.specs.Members.{legal, has, rounds, slots}
-use Rattle.record.specs.Inner.{termsOf, Known}
 use Rattle.record.specs.declared.questions.Terms.{Terms}
 use Rattle.record.proofs.Booleans.{which, cond-true, cond-false, and-fails-left, passed, failed}
 use Rattle.record.proofs.Below.{all-none, all-cong, all-join}
@@ -19,7 +18,7 @@ use Rattle.record.specs.Layout.{bodySize}
 use Rattle.replica.specs.Layout.{cellAt, stateSize, roundSize}
 use Rattle.replica.specs.State.{memberCount, heldMask, cell}
 use Rattle.replica.specs.WellFormed.{eachRound, masksWithin, recordOk, cellOk}
-use Rattle.replica.specs.Inner.{Grouped}
+use Rattle.replica.specs.Inner.{GroupedRound, KnownIn}
 use Rattle.replica.proofs.Laws.{blank, part-zero}
 use Rattle.replica.proofs.Words.{masks-small, round-elim}
 
@@ -53,10 +52,6 @@ cell-long : (l : List ℕ) (r p at : ℕ) → length l ≡ stateSize → r ≤ r
 cell-long l r p at size high few place =
     ap length (cell-part l at (cellAt r p) place) ∙ length-take-le bodySize (drop (cellAt r p) l) (omega (arith, length-drop (cellAt r p) l))
 
--- the terms are those of the group
-pub terms-count : (l : List ℕ) (t : Terms) (r : ℕ) → t ≡ termsOf (memberCount l) r → t .n ≡ memberCount l
-terms-count l t r e = rw e
-
 module _ (l : List ℕ) (r p at h : ℕ) (b : Bool) (place : at ≡ cellAt r p) (mask : h ≡ heldMask l r) (bit : b ≡ has h p) where
   -- nobody holds the cell
   pub cell-blank : length l ≡ stateSize → r ≤ rounds → p < slots → not b ≡ true → (z : Bool) → z ≡ blank l at (at + bodySize) → z ≡ cellOk l r p
@@ -64,14 +59,18 @@ module _ (l : List ℕ) (r p at h : ℕ) (b : Bool) (place : at ≡ cellAt r p) 
       e ∙ words-part l at (at + bodySize) (cellAt r p) bodySize place (omega arith) (omega arith) ∙ sym (cell-empty l r p (failed (rw mask at bit) t))
 
   -- or it is held: of its record 4 to 6 are answered yes, and it decides
-  pub cell-known : not b ≡ false → Grouped l → 1 ≤ r → r ≤ rounds → p < slots → (t : Terms) → t ≡ termsOf (memberCount l) r
-      → Known t r p (take ((at + bodySize) - at) (drop at l))
-  cell-known held g low high few t e = rw e (record {
-    terms-of = refl;
-    round-low = low;
-    round-high = high;
-    source-low = has-bound _ _ _ (masks-small l r (round-elim (masksWithin l) (g .masks) r low high) .held) (passed (rw mask at bit) held);
-    size = cell-long l r p at (g .size) high few place;
+  pub cell-known : not b ≡ false → p < slots → (t : Terms) (q : ℕ) → GroupedRound l t q r → KnownIn l t q r p (take ((at + bodySize) - at) (drop at l))
+  cell-known held few t q g = rw (g .terms-of) (record {
+    words = g .words;
+    members = refl;
+    quorum-of = g .quorum-of;
+    known = record {
+      terms-of = refl;
+      round-low = g .low;
+      round-high = g .high;
+      source-low = has-bound _ _ _ (masks-small l r (round-elim (masksWithin l) (g .words .masks) r (g .low) (g .high)) .held) (passed (rw mask at bit) held);
+      size = cell-long l r p at (g .words .size) (g .high) few place;
+    };
   })
 
   pub cell-decides : not b ≡ false → (z : Bool) → z ≡ recordOk l r p (take ((at + bodySize) - at) (drop at l)) → z ≡ cellOk l r p

@@ -25,7 +25,7 @@ use Rattle.record.proofs.Turn.{admitted}
 use Rattle.replica.specs.State.{memberCount, heldMask, heldId}
 use Rattle.replica.specs.Parents.{isParent, missing, parentsHeld}
 use Rattle.replica.specs.WellFormed.{subset, recordOk}
-use Rattle.replica.specs.Inner.{Grouped, AdmittedIn, WeakIn}
+use Rattle.replica.specs.Inner.{KnownIn, AdmittedIn, WeakIn}
 use Rattle.replica.proofs.Laws.{subset-has, has-subset}
 
 -- ---- who is a parent
@@ -161,16 +161,16 @@ weak-held-id l body W i low b e = rw (round-in _ (W .low i low) (W .high i low))
 
 -- ---- the test of a record: it is admitted, and then its parents decide
 
-module _ (l : List ℕ) (t : Terms) (r p : ℕ) (body : List ℕ) (e : t .n ≡ memberCount l) (m : Bool)
+module _ (l : List ℕ) (t : Terms) (q r p : ℕ) (body : List ℕ) (k : KnownIn l t q r p body) (m : Bool)
     (em : m ≡ eqb (numberOf (bodyRefusal (t .n) r p body)) 0) where
   asked : m ≡ eqb (numberOf (bodyRefusal (memberCount l) r p body)) 0
-  asked = rw e at em
+  asked = rw (k .members) at em
 
   pub record-no : not m ≡ true → false ≡ recordOk l r p body
   record-no h = sym (and-fails-left _ (failed asked h))
 
-  pub record-in : not m ≡ false → Grouped l → AdmittedIn l r body
-  record-in h g = record { size = g .size; group = g .group; source = p; admitted = eqb-true _ 0 (passed asked h) }
+  pub record-in : not m ≡ false → AdmittedIn l r body
+  record-in h = record { size = k .words .size; group = k .words .group; source = p; admitted = eqb-true _ 0 (passed asked h) }
 
   pub parents-decide : not m ≡ false → (z : Bool) → z ≡ parentsHeld l r body → z ≡ recordOk l r p body
   parents-decide h z d = d ∙ sym (rw (passed asked h))

@@ -37,9 +37,9 @@ ordered-id l r p a b h = rw (id-round r p h, id-member r p h, round-in r a b)
 -- ---- masks
 
 -- the word with the member added
-pub member-added : (l : List ℕ) (at n p : ℕ) (m : Members) → m ≡ with (record { bits = getD l at 0; n = n }) p → set l at (m .bits) ≡ addMember l at p
+pub member-added : (l : List ℕ) (at p : ℕ) (m : Members) → m ≡ with (record { bits = getD l at 0 }) p → set l at (m .bits) ≡ addMember l at p
 unfolding addMember
-member-added l at n p m e = rw e
+member-added l at p m e = rw e
 
 -- the masks of a round, below 2 ^ n
 pub record Small (n : ℕ) (l : List ℕ) (r : ℕ) : Type 0 where

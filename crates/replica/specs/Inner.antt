@@ -8,7 +8,8 @@ use Rattle.record.specs.Members.{rounds, legal, idRound}
 use Rattle.record.specs.Layout.{bodySize, weakSlots, weakCountOf, weakOf}
 use Rattle.record.specs.Refusals.{numberOf}
 use Rattle.record.specs.Questions.{bodyRefusal}
-use Rattle.record.specs.Inner.{termsOf}
+use Rattle.record.specs.Handed.{QuorumOf}
+use Rattle.record.specs.Inner.{termsOf, Known}
 use Rattle.record.specs.declared.questions.Terms.{Terms}
 use Rattle.replica.specs.Layout.{stateSize}
 use Rattle.replica.specs.State.{memberCount}
@@ -20,12 +21,20 @@ pub record Grouped (l : List ℕ) : Type 0 where
   pub group : legal (memberCount l) ≡ true
   pub masks : eachRound (masksWithin l) ≡ true
 
--- such words, and a round with its terms
-pub record GroupedRound (l : List ℕ) (terms : Terms) (r : ℕ) : Type 0 where
+-- such words, a round with its terms, and q, which is 2f + 1
+pub record GroupedRound (l : List ℕ) (terms : Terms) (q r : ℕ) : Type 0 where
   pub words : Grouped l
   pub terms-of : terms ≡ termsOf (memberCount l) r
+  pub quorum-of : QuorumOf (memberCount l) q
   pub low : 1 ≤ r
   pub high : r ≤ rounds
+
+-- such words, and the body of a record of round r and member p of which 4 to 6 are answered yes, with the terms and q
+pub record KnownIn (l : List ℕ) (terms : Terms) (q r p : ℕ) (body : List ℕ) : Type 0 where
+  pub words : Grouped l
+  pub members : terms .n ≡ memberCount l
+  pub quorum-of : QuorumOf (terms .n) q
+  pub known : Known terms r p body
 
 -- the words of a state, and the body of a record of round r that its group admits
 pub record AdmittedIn (l : List ℕ) (r : ℕ) (body : List ℕ) : Type 0 where

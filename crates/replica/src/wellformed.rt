@@ -6,13 +6,13 @@ ghost use lib.Dec.{eqb};
 ghost use lib.ListN.{length, getD, take, drop};
 ghost use Rattle.record.specs.Below.{all};
 ghost use Rattle.record.specs.Members.{rounds, slots, legal};
-ghost use Rattle.record.specs.Inner.{Known};
+ghost use Rattle.record.specs.Handed.{QuorumOf};
 ghost use Rattle.record.specs.Layout.{bodySize};
 ghost use Rattle.replica.specs.Layout.{cellAt, stateSize, kinds, leadersSize, journalSize, roundSize};
 ghost use Rattle.replica.specs.State.{memberCount, committedRound, leaderCount, journalCount, orderedMask};
 ghost use Rattle.replica.specs.WellFormed.{ownOk, eachRound, masksWithin, kindWithin, recordOk, cellOk, leaderOk, lastLeaderRound, leadersOk, journalOk};
 ghost use Rattle.replica.specs.WellFormed.{restZero, every, clauses, wellFormed};
-ghost use Rattle.replica.specs.Inner.{Grouped, GroupedRound};
+ghost use Rattle.replica.specs.Inner.{Grouped, GroupedRound, KnownIn};
 use super::layout::CELLS;
 use super::layout::COMMITTED_ROUND;
 use super::layout::CURRENT_ROUND;
@@ -51,6 +51,7 @@ use record::members::has_bit;
 use record::members::is_legal;
 use record::members::is_within;
 use record::members::leader_of;
+use record::members::quorum_of;
 use record::questions::Terms;
 use record::questions::is_admitted;
 use record::questions::terms_of;
@@ -151,38 +152,45 @@ fn kind_within(state: &[u32], kind: usize, other: usize) -> bool
 }
 
 // The record passes questions 5 to 11 and 14.
-fn record_ok(state: &[u32], terms: Terms, round: u32, source: u32, body: &[u32]) -> bool
-    requires { ⌜ Grouped (now state) × (terms .n ≡ memberCount (now state)) × Known terms round source (now body) ⌝ }
+fn record_ok(
+    state: &[u32],
+    terms: Terms,
+    quorum: u32,
+    round: u32,
+    source: u32,
+    body: &[u32],
+) -> bool
+    requires { ⌜ KnownIn (now state) terms quorum round source (now body) ⌝ }
     ensures { λ r. ⌜ r ≡ recordOk (now (state .entry)) round source (now (body .entry)) ⌝ }
 {
-    if !is_admitted(terms, round, source, body) {
+    if !is_admitted(terms, quorum, round, source, body) {
         return false;
     }
     parents_held(state, round, body)
 }
 
 // A held record passes questions 5 to 11 and 14, and a cell not held is zero. The cell stands at the given word.
-fn cell_ok(state: &[u32], terms: Terms, round: u32, member: u32, at: usize) -> bool
-    requires { ⌜ GroupedRound (now state) terms round × (member < slots) × (at ≡ cellAt round member) ⌝ }
+fn cell_ok(state: &[u32], terms: Terms, quorum: u32, round: u32, member: u32, at: usize) -> bool
+    requires { ⌜ GroupedRound (now state) terms quorum round × (member < slots) × (at ≡ cellAt round member) ⌝ }
     ensures { λ r. ⌜ r ≡ cellOk (now (state .entry)) round member ⌝ }
 {
     let end = at + BODY_SIZE;
     if !has_bit(mask_of(state, HELD, round), member) {
         return is_zero(&state[at..end]);
     }
-    record_ok(state, terms, round, member, &state[at..end])
+    record_ok(state, terms, quorum, round, member, &state[at..end])
 }
 
 // The cells of the members pass.
-fn members_ok(state: &[u32], n: u32, round: u32) -> bool
-    requires { ⌜ Grouped (now state) × (n ≡ memberCount (now state)) × (1 ≤ round) × (round ≤ rounds) ⌝ }
+fn members_ok(state: &[u32], n: u32, quorum: u32, round: u32) -> bool
+    requires { ⌜ Grouped (now state) × (n ≡ memberCount (now state)) × QuorumOf n quorum × (1 ≤ round) × (round ≤ rounds) ⌝ }
     ensures { λ r. ⌜ r ≡ all n (cellOk (now (state .entry)) round) ⌝ }
 {
     let terms = terms_of(n, round);
     let mut at: usize = cell_at(round, 0);
     let mut p: u32 = 0;
     while p < n {
-        if !cell_ok(state, terms, round, p, at) {
+        if !cell_ok(state, terms, quorum, round, p, at) {
             return false;
         }
         at += BODY_SIZE;
@@ -217,8 +225,8 @@ fn rest_cells_zero(state: &[u32], n: u32, start: usize) -> bool
 }
 
 // Cells that nobody holds are tested together: all of a round that holds none, and those from n on.
-fn round_cells_ok(state: &[u32], round: u32) -> bool
-    requires { ⌜ Grouped (now state) × (1 ≤ round) × (round ≤ rounds) ⌝ }
+fn round_cells_ok(state: &[u32], quorum: u32, round: u32) -> bool
+    requires { ⌜ Grouped (now state) × QuorumOf (memberCount (now state)) quorum × (1 ≤ round) × (round ≤ rounds) ⌝ }
     ensures { λ r. ⌜ r ≡ all slots (cellOk (now (state .entry)) round) ⌝ }
 {
     let n = state[MEMBER_COUNT];
@@ -227,19 +235,21 @@ fn round_cells_ok(state: &[u32], round: u32) -> bool
     if mask_of(state, HELD, round) == 0 {
         return is_zero(&state[start..end]);
     }
-    if !members_ok(state, n, round) {
+    if !members_ok(state, n, quorum, round) {
         return false;
     }
     rest_cells_zero(state, n, start)
 }
 
+// The quorum is worked out here, ahead of the loops over rounds and members, and handed on to the questions of every record.
 fn cells_ok(state: &[u32]) -> bool
     requires { ⌜ Grouped (now state) ⌝ }
     ensures { λ r. ⌜ r ≡ eachRound (λ r. all slots (cellOk (now (state .entry)) r)) ⌝ }
 {
+    let quorum = quorum_of(state[MEMBER_COUNT]);
     let mut i: u32 = 0;
     while i < ROUNDS {
-        if !round_cells_ok(state, i + 1) {
+        if !round_cells_ok(state, quorum, i + 1) {
             return false;
         }
         i += 1;
@@ -315,7 +325,6 @@ fn journal_ok(state: &[u32]) -> bool
     requires { ⌜ Grouped (now state) ⌝ }
     ensures { λ r. ⌜ r ≡ journalOk (now (state .entry)) ⌝ }
 {
-    let n = state[MEMBER_COUNT];
     let count = wide(state[JOURNAL_COUNT]);
     if JOURNAL_SIZE < count {
         return false;
@@ -328,7 +337,7 @@ fn journal_ok(state: &[u32]) -> bool
             return false;
         }
         let at = wide(x / SLOTS - 1);
-        let marked = Members { bits: marks[at], n };
+        let marked = Members { bits: marks[at] };
         if marked.has(x % SLOTS) {
             return false;
         }

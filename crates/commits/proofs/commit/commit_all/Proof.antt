@@ -10,10 +10,10 @@ use Rattle.commits.proofs.commit.commit_all.Tie as tie
 use Rattle.record.specs.Members.{rounds}
 
 abbrev Inv-loop : tie.InvT-loop
-Inv-loop state₀ n q₀ state q = (q ≡ lowest state) × Onward state₀ state
+Inv-loop state₀ n quorum q₀ state q = (q ≡ lowest state) × Onward state₀ state
 
 abbrev μ-loop : tie.MeasureT-loop
-μ-loop state₀ n q₀ state q = rounds - q
+μ-loop state₀ n quorum q₀ state q = rounds - q
 
 known : (c : tie.In-loop Inv-loop μ-loop) → let s : tie.Start Inv-loop μ-loop = search in let a : tie.At-loop Inv-loop μ-loop = search in
     Soon (s .args .n) (s .args .state .now) (a .loop .q) (a .loop .state)

@@ -4,7 +4,7 @@ use Rattle.replica.specs.State.{dag, vertices, firsts}
 use Rattle.protocol.specs.Dag.{enough, held, votes}
 use Rattle.record.specs.Members.{leader}
 use Rattle.record.proofs.Booleans.{passed, failed}
-use Rattle.record.proofs.Masks.{leader-small, leader-lt}
+use Rattle.record.proofs.Masks.{leader-small, leader-lt, meets-handed}
 use native.Mathlib.Numerals.{add-one}
 use native.Mathlib.Omega.{arith}
 use mathlib.Core.Path.{_≡_, sym, _∙_}
@@ -19,13 +19,14 @@ led : (c : tie.After-has-bit) → let a = (let s : tie.Start = search in s .args
 led c =
     let s : tie.Start = search in
     let small = leader-lt (s .args .n) (s .args .q) (omega (arith, s .pre .0 .low)) in
-    cc (held-word _ (s .pre .0) (s .args .q) (leader (s .args .n) (s .args .q)) (s .pre .2) (omega arith) (omega (arith, s .pre .0 .high)))
+    cc (held-word _ (s .pre .0) (s .args .q) (leader (s .args .n) (s .args .q)) (s .pre .3) (omega arith) (omega (arith, s .pre .0 .high)))
 
 heard : (c : tie.After-meets-quorum) → let a = (let s : tie.Start = search in s .args) in c .meets-quorum .result
     ≡ enough (a .n) (λ p. votes (a .n) (a .q) (firsts (a .state .now) (suc (a .q)) p))
 heard c =
     let s : tie.Start = search in
-    cc (add-one (s .args .q), first-quorum _ (s .pre .0) (s .args .n) (s .args .q) (s .pre .1) (s .pre .2) (s .pre .3))
+    let m = meets-handed _ _ _ (s .pre .2) (c .meets-quorum .ensures) in
+    cc (add-one (s .args .q), first-quorum _ (s .pre .0) (s .args .n) (s .args .q) (s .pre .1) (s .pre .3) (s .pre .4))
 
 leader-of-requires : tie.Need-leader-of-requires
 leader-of-requires c κs = let s : tie.Start = search in search needs
@@ -45,7 +46,7 @@ returns-3 c =
     let f : tie.Else2 = search in
     let v : tie.After-vertex-voters = search in
     let s : tie.Start = search in
-    c .meets-quorum2 .ensures
+    meets-handed _ _ _ (s .pre .2) (c .meets-quorum2 .ensures)
     ∙ by-voters _ (dag (s .args .state .now)) _ _ (v .vertex-voters .ensures) (passed (led (search)) (e .if1 .left)) (sym (heard (search)) ∙ f .if2 .left)
 
 pub is-committed-spec : {M : Type 1} → statement M

@@ -13,15 +13,15 @@ use Rattle.commits.proofs.commit.lowest_committable.Statement.{statemen
 use Rattle.commits.proofs.commit.lowest_committable.Tie as tie
 
 abbrev Inv-loop : tie.InvT-loop
-Inv-loop state n q₀ q = (committedRound state < q) × (q ≤ rounds) × (any q (committable state) ≡ false)
+Inv-loop state n quorum q₀ q = (committedRound state < q) × (q ≤ rounds) × (any q (committable state) ≡ false)
 
 abbrev μ-loop : tie.MeasureT-loop
-μ-loop state n q₀ q = rounds - q
+μ-loop state n quorum q₀ q = rounds - q
 
 loop-holds : tie.Need-loop-holds Inv-loop μ-loop
 loop-holds c =
     let start : tie.Start Inv-loop μ-loop = search in
-    (omega arith, omega (arith, start .pre .2), any-false _ _ (λ i l. committable-low _ i (omega arith)))
+    (omega arith, omega (arith, start .pre .3), any-false _ _ (λ i l. committable-low _ i (omega arith)))
 
 returns : tie.Need-returns Inv-loop μ-loop
 returns c =

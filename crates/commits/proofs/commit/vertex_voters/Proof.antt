@@ -3,7 +3,7 @@ use Rattle.commits.proofs.Steps.{Voters, voter-in, voter-out}
 use Rattle.commits.proofs.Laws.{Cell, cell-known}
 use Rattle.protocol.proofs.Voters.{voters-none}
 use Rattle.record.proofs.Masks.{leader-small}
-use mathlib.Core.Path.{_≡_, refl, sym, _∙_}
+use mathlib.Core.Path.{_≡_, sym, _∙_}
 use mathlib.Core.Logic.{⊎-elim}
 use Prim.Native.Nat.{_+_, _≤_, _<_, _-_}
 use native.Mathlib.Omega.{arith}
@@ -45,7 +45,7 @@ returns c =
     let s : tie.Start Inv-loop μ-loop = search in
     let a : tie.At-loop Inv-loop μ-loop = search in
     let e : a .loop .p ≡ s .args .n = omega arith in
-    (rw e at (a .loop .inv .1 .bits), a .loop .inv .1 .group)
+    rw e at (a .loop .inv .1)
 
 pub vertex-voters-spec : {M : Type 1} → statement M
 vertex-voters-spec =
@@ -53,7 +53,7 @@ vertex-voters-spec =
     (tie.spec
     Inv-loop
     μ-loop
-    (λ c. (omega arith, record { bits = sym (voters-none _ _ _); group = refl }))
+    (λ c. (omega arith, sym (voters-none _ _ _)))
     (λ c. search needs)
     (λ c κs. let s : tie.Start Inv-loop μ-loop = search in search needs)
     (λ c. search needs)

@@ -9,10 +9,10 @@ use Rattle.commits.proofs.rounds.highest_passable.Tie as tie
 use Rattle.record.specs.Members.{rounds}
 
 abbrev Inv-loop : tie.InvT-loop
-Inv-loop state n round₀ round = (round ≤ rounds) × (highestPassable state rounds ≡ highestPassable state round)
+Inv-loop state n q round₀ round = (round ≤ rounds) × (highestPassable state rounds ≡ highestPassable state round)
 
 abbrev μ-loop : tie.MeasureT-loop
-μ-loop state n round₀ round = round
+μ-loop state n q round₀ round = round
 
 loop-holds : tie.Need-loop-holds Inv-loop μ-loop
 loop-holds c = (omega arith, refl)

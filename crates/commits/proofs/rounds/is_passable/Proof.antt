@@ -3,7 +3,7 @@ use Rattle.commits.proofs.Laws.{passable-few, passable-led, passable-la
 use Rattle.replica.specs.State.{heldMask}
 use Rattle.record.specs.Members.{leader, has, meets}
 use Rattle.record.proofs.Booleans.{passed, failed}
-use Rattle.record.proofs.Masks.{leader-small}
+use Rattle.record.proofs.Masks.{leader-small, meets-handed}
 use mathlib.Core.Path.{_≡_, sym, _∙_}
 use Prim.Native.Nat.{ℕ}
 use native.Mathlib.Omega.{arith}
@@ -15,7 +15,10 @@ abbrev held : tie.Start → ℕ
 held s = heldMask (s .args .state .now) (s .args .round)
 
 many : (c : tie.After-meets-quorum) → let s : tie.Start = search in c .meets-quorum .result ≡ meets (s .args .n) (held s)
-many c = let m : tie.After-mask-of = search in rw (m .mask-of .ensures) at (c .meets-quorum .ensures)
+many c =
+    let s : tie.Start = search in
+    let m : tie.After-mask-of = search in
+    meets-handed _ _ _ (s .pre .0 .quorum-of) (rw (m .mask-of .ensures) at (c .meets-quorum .ensures))
 
 led : (c : tie.After-has) → let s : tie.Start = search in c .has .result ≡ has (held s) (leader (s .args .n) (s .args .round))
 led c =
@@ -24,7 +27,7 @@ led c =
     rw (m .mask-of .ensures, p .leader-of .ensures) at (c .has .ensures)
 
 returns : tie.Need-returns
-returns c = let s : tie.Start = search in passable-few _ _ _ (s .pre .1) (failed (many (search)) (c .if1 .taken))
+returns c = let s : tie.Start = search in passable-few _ _ _ (s .pre .0 .members) (failed (many (search)) (c .if1 .taken))
 
 has-requires : tie.Need-has-requires
 has-requires c κs = let s : tie.Start = search in let small = leader-small (s .args .n) (s .args .round) (omega arith) in search needs
@@ -33,7 +36,7 @@ returns-2 : tie.Need-returns-2
 returns-2 c =
     let s : tie.Start = search in
     let e : tie.Else1 = search in
-    passable-led _ _ _ (s .pre .1) (passed (many (search)) (e .if1 .left)) (sym (led (search)) ∙ c .if2 .taken)
+    passable-led _ _ _ (s .pre .0 .members) (passed (many (search)) (e .if1 .left)) (sym (led (search)) ∙ c .if2 .taken)
 
 returns-3 : tie.Need-returns-3
 returns-3 c =
@@ -41,8 +44,8 @@ returns-3 c =
     let e : tie.Else1 = search in
     let t : tie.After-mask-of2 = search in
     let d : tie.Else2 = search in
-    rw (t .mask-of2 .ensures) at (c .meets-quorum2 .ensures)
-    ∙ passable-late _ _ _ (s .pre .1) (passed (many (search)) (e .if1 .left)) (sym (led (search)) ∙ d .if2 .left)
+    meets-handed _ _ _ (s .pre .0 .quorum-of) (rw (t .mask-of2 .ensures) at (c .meets-quorum2 .ensures))
+    ∙ passable-late _ _ _ (s .pre .0 .members) (passed (many (search)) (e .if1 .left)) (sym (led (search)) ∙ d .if2 .left)
 
 pub is-passable-spec : {M : Type 1} → statement M
 is-passable-spec =

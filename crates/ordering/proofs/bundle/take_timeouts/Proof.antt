@@ -26,6 +26,7 @@ take-timeouts-spec =
     (λ c. search needs)
     (λ c κs. let k = known (search) in search needs)
     (λ c. let k = joined (search) in search needs)
+    (λ c κs. search needs)
     (λ c κs. let k = joined (search) in search needs)
     (λ c. search needs)
     (λ c. search (known (search) .done)))

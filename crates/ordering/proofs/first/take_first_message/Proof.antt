@@ -1,5 +1,12 @@
 -- `take_first_message` meets its contract. Assumes nothing.
 use Rattle.ordering.proofs.Taking.{first-refused, FirstTaken, first-taken}
+use Rattle.ordering.proofs.Turns.{state-stops, state-past, state-formed}
+use Rattle.ordering.specs.Calls.{firstRefusal}
+use Rattle.ordering.specs.Inner.{hearingQuestions}
+use Rattle.record.specs.Refusals.{Question}
+use Rattle.replica.specs.State.{memberCount}
+use Rattle.replica.proofs.Formed.{WellFormed}
+use mathlib.Core.Path.{_≡_}
 use mathlib.Core.List.{List}
 use Prim.Native.Nat.{ℕ}
 use borrow.Author.Needs.{needs}
@@ -12,18 +19,41 @@ words s = s .args .state .now
 abbrev rec : tie.Start → List ℕ
 rec s = s .args .rec .now
 
--- no question stopped the message
-known : (c : tie.Else1) → FirstTaken (words (search)) (rec (search))
-known c = let a : tie.After-check-first = search in first-taken _ _ _ (a .check-first .ensures) (cc)
+-- the questions after those of the state
+abbrev after : tie.Start → List Question
+after s = hearingQuestions (words s) (memberCount (words s)) (rec s)
+
+-- the state's questions are passed
+state : (c : tie.Else1) → WellFormed (words (search))
+state c = let a : tie.After-check-state = search in state-formed _ _ (a .check-state .ensures) (cc)
+
+-- so those of the message decide
+asked : (c : tie.After-check-first) → c .check-first .result ≡ firstRefusal (words (search)) (rec (search))
+asked c =
+    let a : tie.After-check-state = search in
+    state-past (words (search)) _ (a .check-state .ensures) (after (search)) (cc) _ (c .check-first .ensures)
+
+-- and stopped nothing
+known : (c : tie.Else2) → FirstTaken (words (search)) (rec (search))
+known c = first-taken _ _ _ (asked (search)) (cc)
 
 returns : tie.Need-returns
 returns c =
-    let a : tie.After-check-first = search in
+    let a : tie.After-check-state = search in
     let t : tie.Then1 = search in
-    first-refused (words (search)) (rec (search)) _ (a .check-first .ensures) (λ d. t .if1 .taken (cc)) _ (c .refuse .ensures)
+    first-refused (words (search)) (rec (search)) _ (state-stops (words (search)) _ (a .check-state .ensures) (after (search)) (λ d. t .if1 .taken (cc)))
+    (λ d. t .if1 .taken (cc)) _ (c .refuse .ensures)
 
 slice-read-n : tie.Need-slice-read-n
-slice-read-n c = let k = known (search) in search needs
+slice-read-n c = let k = state (search) in search needs
+
+check-first-requires : tie.Need-check-first-requires
+check-first-requires c κs = let k = state (search) in search needs
+
+returns-2 : tie.Need-returns-2
+returns-2 c =
+    let t : tie.Then2 = search in
+    first-refused (words (search)) (rec (search)) _ (asked (search)) (λ d. t .if2 .taken (cc)) _ (c .refuse2 .ensures)
 
 shared-slice-read-hear-record : tie.Need-shared-slice-read-hear-record
 shared-slice-read-hear-record c = let k = known (search) in search needs
@@ -35,7 +65,7 @@ shared-slice-read-hear-record-3 : tie.Need-shared-slice-read-hear-record-3
 shared-slice-read-hear-record-3 c = let k = known (search) in search needs
 
 hear-record-requires : tie.Need-hear-record-requires
-hear-record-requires c κs = let k = known (search) in search needs
+hear-record-requires c κs = known (search) .hearing
 
 settle-requires : tie.Need-settle-requires
 settle-requires c κs =
@@ -43,8 +73,8 @@ settle-requires c κs =
     let ready = known (search) .heard _ (h .hear-record .ensures) in
     search needs
 
-returns-2 : tie.Need-returns-2
-returns-2 c =
+returns-3 : tie.Need-returns-3
+returns-3 c =
     let h : tie.After-hear-record = search in
     let s : tie.After-settle = search in
     known (search) .done _ _ (h .hear-record .ensures) (s .settle .ensures)
@@ -59,6 +89,12 @@ take-first-message-spec =
     (search needs)
     returns
     slice-read-n
+    (search needs)
+    check-first-requires
+    (search needs)
+    (search needs)
+    (search needs)
+    returns-2
     shared-slice-read-hear-record
     shared-slice-read-hear-record-2
     (search needs)
@@ -67,4 +103,4 @@ take-first-message-spec =
     hear-record-requires
     settle-requires
     (search needs)
-    returns-2)
+    returns-3)

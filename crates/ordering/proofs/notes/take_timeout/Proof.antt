@@ -18,6 +18,7 @@ take-timeout-spec =
     (λ c. search needs)
     (λ c. search timeout-refused)
     (λ c. let k = known (search) in search needs)
+    (λ c κs. search needs)
     (λ c κs. let k = known (search) in search needs)
     (λ c. search needs)
     (λ c. search (known (search) .done)))

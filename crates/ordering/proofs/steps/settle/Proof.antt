@@ -10,7 +10,7 @@ commit-all-requires : tie.Need-commit-all-requires
 commit-all-requires c κs =
     let s : tie.Start = search in
     let S = formed _ (s .pre .0) (s .pre .1) in
-    (record { standing = standing _ S; room = room _ S; few = leaders-few _ S; high = S .leaders .committed-high }, s .pre .2)
+    (record { standing = standing _ S; room = room _ S; few = leaders-few _ S; high = S .leaders .committed-high }, s .pre .2, s .pre .3)
 
 known : (c : tie.After-commit-all) → let s : tie.Start = search in Settled (s .args .state .now) (c .commit-all .last .0)
 known c = let s : tie.Start = search in settled _ _ (formed _ (s .pre .0) (s .pre .1)) (c .commit-all .ensures)

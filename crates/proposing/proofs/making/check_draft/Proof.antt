@@ -9,6 +9,7 @@ check-draft-spec =
     tie.close
     (tie.spec
     (λ c κs. search needs)
+    (λ c κs. search needs)
     (λ c. search draft-timeouts)
     (λ c κs. search needs)
     (λ c. search draft-no-votes)

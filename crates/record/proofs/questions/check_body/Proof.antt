@@ -1,7 +1,7 @@
 -- Question 4 by itself, 5 and 6 as `check_signer` answers them; then the others decide.
 use Rattle.record.specs.Questions.{recordQuestions}
 use Rattle.record.specs.Admitted.{Placed}
-use Rattle.record.proofs.Turn.{next, stop, front-no, placed}
+use Rattle.record.proofs.Turn.{next, stop, front-no, placed, handed-law}
 use mathlib.Core.Path.{refl, _∙_}
 use borrow.Author.Tests.{eq-eqb, ne-eqb}
 use borrow.Author.Needs.{needs}
@@ -32,8 +32,9 @@ check-known-requires c κs =
 
 returns-3 : tie.Need-returns-3
 returns-3 c =
+    let start : tie.Start = search in
     let after-terms-of : tie.After-terms-of = search in
-    rw (after-terms-of .terms-of .ensures) at (c .check-known .ensures)
+    rw (after-terms-of .terms-of .ensures) at (c .check-known .ensures) ∙ handed-law _ _ (start .pre) _ _ _
 
 pub check-body-spec : {M : Type 1} → statement M
 check-body-spec =

@@ -13,7 +13,7 @@ returns c =
 returns-2 : tie.Need-returns-2
 returns-2 c =
     let start : tie.Start = search in
-    wanted-not (start .args .terms .n) (start .args .lack) _ (start .args .no-votes) (ne-eqb _ _ (c .if1 .left))
+    wanted-not (start .args .quorum) (start .args .lack) _ (start .args .no-votes) (ne-eqb _ _ (c .if1 .left))
 
 pub no-votes-ok-spec : {M : Type 1} → statement M
 no-votes-ok-spec = tie.close (tie.spec

@@ -10,20 +10,20 @@ use Rattle.record.proofs.questions.strong_ok.Tie as tie
 returns : tie.Need-returns
 returns c =
     let s : tie.Start = search in
-    strong-above _ _ _ _ (ap (λ (t : Terms). t .largest) (s .pre)) (omega arith) (c .if1 .taken)
+    strong-above _ _ _ _ _ (ap (λ (t : Terms). t .largest) (s .pre)) (omega arith) (c .if1 .taken)
 
 returns-2 : tie.Need-returns-2
 returns-2 c =
     let s : tie.Start = search in
     let e : tie.Else1 = search in
-    strong-first _ _ _ _ (ap (λ (t : Terms). t .largest) (s .pre)) (c .if2 .taken) (e .if1 .left)
+    strong-first _ _ _ _ _ (ap (λ (t : Terms). t .largest) (s .pre)) (c .if2 .taken) (e .if1 .left)
 
 returns-3 : tie.Need-returns-3
 returns-3 c =
     let s : tie.Start = search in
     let e : tie.Else1 = search in
     let d : tie.Else2 = search in
-    c .meets-quorum .ensures ∙ strong-later _ _ _ _ (ap (λ (t : Terms). t .largest) (s .pre)) (omega arith) (d .if2 .left) (e .if1 .left)
+    c .meets-quorum .ensures ∙ strong-later _ _ _ _ _ (ap (λ (t : Terms). t .largest) (s .pre)) (omega arith) (d .if2 .left) (e .if1 .left)
 
 pub strong-ok-spec : {M : Type 1} → statement M
 strong-ok-spec =

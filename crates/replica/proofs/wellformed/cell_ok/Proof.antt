@@ -1,6 +1,6 @@
 -- A cell that nobody holds is blank; the record of a held one decides: the lemmas are of `Cells`.
 use borrow.Author.Needs.{needs}
-use Rattle.replica.proofs.Cells.{terms-count, cell-blank, cell-known, cell-decides}
+use Rattle.replica.proofs.Cells.{cell-blank, cell-known, cell-decides}
 use Rattle.replica.proofs.wellformed.cell_ok.Statement.{statement}
 use Rattle.replica.proofs.wellformed.cell_ok.Tie as tie
 
@@ -21,5 +21,5 @@ cell-ok-spec =
     (λ c. search needs)
     (λ c. search needs)
     (λ c. search needs)
-    (λ c κs. search (cell-known, terms-count))
+    (λ c κs. search cell-known)
     (λ c. search cell-decides))

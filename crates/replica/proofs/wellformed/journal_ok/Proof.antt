@@ -12,10 +12,10 @@ use Rattle.replica.proofs.wellformed.journal_ok.Statement.{statement}
 use Rattle.replica.proofs.wellformed.journal_ok.Tie as tie
 
 abbrev Inv-loop : tie.InvT-loop
-Inv-loop state n count marks₀ i₀ marks i = Reading state count i marks
+Inv-loop state count marks₀ i₀ marks i = Reading state count i marks
 
 abbrev μ-loop : tie.MeasureT-loop
-μ-loop state n count marks₀ i₀ marks i = count - i
+μ-loop state count marks₀ i₀ marks i = count - i
 
 -- the entry is an id
 known : (c : tie.Else2 Inv-loop μ-loop)
@@ -42,7 +42,6 @@ journal-ok-spec =
     (tie.spec
     Inv-loop
     μ-loop
-    (λ c. search needs)
     (λ c. search needs)
     (λ c κs. search needs)
     (λ c. search journal-long)

@@ -17,11 +17,11 @@ use Rattle.replica.proofs.wellformed.members_ok.Statement.{statement}
 use Rattle.replica.proofs.wellformed.members_ok.Tie as tie
 
 abbrev Inv-loop : tie.InvT-loop
-Inv-loop state n round terms at₀ p₀ at p =
+Inv-loop state n q round terms at₀ p₀ at p =
     (p ≤ n) × (at ≡ cellAt round p) × (terms ≡ termsOf (memberCount state) round) × (all p (cellOk state round) ≡ true)
 
 abbrev μ-loop : tie.MeasureT-loop
-μ-loop state n round terms at₀ p₀ at p = n - p
+μ-loop state n q round terms at₀ p₀ at p = n - p
 
 known : (c : tie.Start Inv-loop μ-loop) → (0 < c .args .n) × (c .args .n ≤ slots)
 known c = let g = legal-range _ (c .pre .0 .group) in (omega arith, omega arith)

@@ -1,4 +1,5 @@
--- What the commits rely on in a state while they change its lists: every well-formed state has it, and no change of a list takes it away.
+-- What the round rule asks of a state, and what the commits rely on while they change its lists: every well-formed state has it, and no change
+-- of a list takes it away.
 use mathlib.Core.Path.{_≡_}
 use mathlib.Core.Bool.{true, cond, not, _&&_}
 use mathlib.Core.List.{List}

@@ -16,11 +16,12 @@ use Rattle.record.proofs.Booleans.{which, never, or-right, passed, failed}
 use Rattle.record.proofs.Below.{any-intro, any-false}
 use Rattle.record.proofs.Masks.{has-or, mask-ext, within-lt}
 use Rattle.record.proofs.Rounds.{round-range}
-use Rattle.record.proofs.Turn.{next, stop, done, both-yes, front-no, front-yes, both-fronts}
+use Rattle.record.proofs.Turn.{next, stop, done, both-yes, both-fronts}
 use Rattle.replica.specs.Layout.{stateSize}
 use Rattle.replica.specs.State.{memberCount, timeoutsMask}
 use Rattle.replica.specs.Status.{stateQuestions}
 use Rattle.replica.proofs.StatusLaws.{state-numbered, state-ok}
+use Rattle.ordering.proofs.Turns.{state-stops, state-past, state-formed}
 use Rattle.replica.proofs.Formed.{WellFormed, formed}
 use Rattle.ordering.specs.Calls.{isNew, bundleQuestions, bundleRefusal}
 
@@ -58,21 +59,18 @@ some-new l S r mask low high small h = ⊎-elim (λ e. e) (λ e. absurd (h (same
 -- ---- the questions
 
 module _ (l : List ℕ) (r mask : ℕ) (why : Refusal) (e : why ≡ firstNo (stateQuestions l)) (x : ℕ) (f : x ≡ numberOf why) where
-  number : x ≡ numberOf (firstNo (stateQuestions l))
-  number = f ∙ ap numberOf e
-
   pub bundle-state : (x ≡ 0 → ⊥) → why ≡ bundleRefusal l r mask
-  bundle-state h = e ∙ front-no (stateQuestions l) _ (λ d. h (number ∙ d))
+  bundle-state h = state-stops l why e _ (λ d. h (f ∙ d))
 
   module _ (h : x ≡ 0) where
     past : {s : Refusal} → s ≡ firstNo (bundleQuestions l r mask) → s ≡ bundleRefusal l r mask
-    past d = d ∙ front-yes (stateQuestions l) _ (state-numbered l) (sym number ∙ h)
-
-    pub bundle-size : length l ≡ stateSize
-    bundle-size = state-ok l (sym number ∙ h) .0
+    past d = state-past l why e _ (sym f ∙ h) _ d
 
     S : WellFormed l
-    S = formed l bundle-size (state-ok l (sym number ∙ h) .1)
+    S = state-formed l why e (sym f ∙ h)
+
+    pub bundle-size : length l ≡ stateSize
+    bundle-size = S .size
 
     -- a is the code's answer to 5, b to 7, and m the timeouts of the round
     module _ (a : Bool) (ea : a ≡ isRound r) where

@@ -37,10 +37,6 @@ placeQuestions l r p body =
 abbrev pub vertexQuestions : List ℕ → ℕ → ℕ → List ℕ → List Question
 vertexQuestions l r p body = stateQuestions l ++ (recordQuestions (memberCount l) r p body ++ placeQuestions l r p body)
 
--- the first question that a record fails as a vertex
-abbrev pub vertexRefusal : List ℕ → List ℕ → Refusal
-vertexRefusal l rec = firstNo (vertexQuestions l (roundOf rec) (sourceOf rec) (bodyOf rec))
-
 -- the vertex is written to its cell and marked held
 unfoldable pub putVertex : List ℕ → ℕ → ℕ → List ℕ → List ℕ
 putVertex l r p body = paste (addMember l (heldAt r) p) (cellAt r p) body bodySize
@@ -61,9 +57,6 @@ takeVertex l rec = takeBody l (roundOf rec) (sourceOf rec) (bodyOf rec)
 
 abbrev pub firstQuestions : List ℕ → ℕ → ℕ → List ℕ → List Question
 firstQuestions l r p body = stateQuestions l ++ (recordQuestions (memberCount l) r p body ++ ((not (has (heardMask l r) p), Duplicate) ∷ []))
-
-abbrev pub firstRefusal : List ℕ → List ℕ → Refusal
-firstRefusal l rec = firstNo (firstQuestions l (roundOf rec) (sourceOf rec) (bodyOf rec))
 
 -- the source is heard, and in votes if the record votes for the previous round's leader
 unfoldable pub hear : List ℕ → ℕ → ℕ → List ℕ → List ℕ

@@ -25,9 +25,8 @@ use Rattle.replica.specs.Outcome.{Outcome, told, nothingAdded, outcome}
 use Rattle.replica.specs.Status.{stateQuestions}
 use Rattle.replica.specs.declared.answer.Answer.{Answer}
 use Rattle.replica.proofs.Formed.{formed, well-formed}
-use Rattle.replica.proofs.StatusLaws.{state-numbered, state-ok}
 use Rattle.ordering.proofs.Counts.{no-growth}
-use Rattle.ordering.proofs.Turns.{outcome-refused, outcome-admitted}
+use Rattle.ordering.proofs.Turns.{state-stops, state-past, state-formed, outcome-refused, outcome-admitted}
 use Rattle.ordering.proofs.Writing.{Calm}
 use Rattle.proposing.specs.Own.{isMember, marksRound, markRound, memberQuestions}
 use Rattle.proposing.specs.Making.{madeStrong, madeRecord, noRecord, makingQuestions, proposeRefusal, Proposed, toldProposal, proposeVertex}
@@ -45,14 +44,14 @@ member-numbered l = refl
 
 module _ (l : List ℕ) (why : Refusal) (e : why ≡ firstNo (stateQuestions l)) where
   pub member-state : (numberOf why ≡ 0 → ⊥) → why ≡ firstNo (memberQuestions l)
-  member-state h = e ∙ front-no (stateQuestions l) _ (λ d. h (ap numberOf e ∙ d))
+  member-state = state-stops l why e _
 
   module _ (h : numberOf why ≡ 0) where
     past-state : {r : Refusal} → r ≡ firstNo ((isMember l, Watcher) ∷ []) → r ≡ firstNo (memberQuestions l)
-    past-state d = d ∙ front-yes (stateQuestions l) _ (state-numbered l) (sym (ap numberOf e) ∙ h)
+    past-state d = state-past l why e _ h _ d
 
     pub member-size : length l ≡ stateSize
-    member-size = state-ok l (sym (ap numberOf e) ∙ h) .0
+    member-size = state-formed l why e h .size
 
     pub member-watcher : ownWord l ≡ watcher → Watcher ≡ firstNo (memberQuestions l)
     member-watcher d = past-state (stop _ _ (ap not (eq-eqb _ _ d)))

@@ -1,9 +1,10 @@
 -- `take_vertex` meets its contract. Assumes nothing.
 use Rattle.ordering.proofs.Taking.{vertex-refused, VertexTaken, vertex-taken}
 use Rattle.ordering.proofs.Turns.{state-stops, state-past, state-formed}
-use Rattle.ordering.specs.Calls.{vertexRefusal}
+use Rattle.ordering.specs.Calls.{vertexQuestions}
 use Rattle.ordering.specs.Inner.{admissionQuestions}
-use Rattle.record.specs.Refusals.{Question}
+use Rattle.record.specs.Refusals.{Question, firstNo}
+use Rattle.record.specs.Layout.{roundOf, sourceOf, bodyOf}
 use Rattle.replica.specs.State.{memberCount}
 use Rattle.replica.proofs.Formed.{WellFormed}
 use mathlib.Core.Path.{_≡_}
@@ -28,7 +29,8 @@ state : (c : tie.Else1) → WellFormed (words (search))
 state c = let a : tie.After-check-state = search in state-formed _ _ (a .check-state .ensures) (cc)
 
 -- so those of the vertex decide
-asked : (c : tie.After-check-vertex) → c .check-vertex .result ≡ vertexRefusal (words (search)) (rec (search))
+asked : (c : tie.After-check-vertex) → let s : tie.Start = search in c .check-vertex .result
+    ≡ firstNo (vertexQuestions (words s) (roundOf (rec s)) (sourceOf (rec s)) (bodyOf (rec s)))
 asked c =
     let a : tie.After-check-state = search in
     state-past (words (search)) _ (a .check-state .ensures) (after (search)) (cc) _ (c .check-vertex .ensures)

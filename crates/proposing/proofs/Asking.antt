@@ -16,8 +16,8 @@ use Rattle.record.specs.declared.refusal.Refusal.{Refusal}
 use Rattle.record.specs.declared.refusal.Refusal.the-variants.{None, Watcher, Round, Timeouts, NoVotes, Duplicate, FewParents, Signing}
 use Rattle.record.proofs.Booleans.{and-left, and-fails-left, and-fails-right, cond-true, cond-false, passed, failed}
 use Rattle.record.proofs.Rounds.{round-in, round-range}
-use Rattle.record.proofs.Masks.{meets-handed}
-use Rattle.record.proofs.Turn.{next, stop, done, front-no, front-yes, if-handed}
+use Rattle.record.proofs.Turn.{next, stop, done, front-no, front-yes}
+use Rattle.record.proofs.Handed.{meets-handed, if-handed}
 use Rattle.record.proofs.Composed.{strong-ok-first, strong-ok-later}
 use Rattle.replica.specs.Layout.{stateSize, watcher, leaderCountAt, journalCountAt, madeAt, signedAt, masksAt, noVotesKind}
 use Rattle.replica.specs.State.{memberCount, currentRound, ownWord, madeRounds, signedRounds, heldMask, addMember}

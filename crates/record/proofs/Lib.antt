@@ -3,6 +3,7 @@ pub mod Below
 pub mod Masks
 pub mod Rounds
 pub mod Turn
+pub mod Handed
 pub mod Parts
 pub mod Weak
 pub mod Composed

@@ -13,7 +13,6 @@ use lib.Pow.{pow-mono, pow-lt, pow-pos, shl-exact}
 use borrow.Author.Tests.{leb-true, leb-false, le-leb, lt-ltb, le-ltb, ltb-true, ltb-false, eqb-true, eq-eqb, ne-eqb}
 use Rattle.record.specs.Below.{count}
 use Rattle.record.specs.Members.{legal, faulty, quorum, leader, has, add, remove, within, meets, rounds, slots}
-use Rattle.record.specs.Handed.{QuorumOf}
 use Rattle.record.specs.Inner.{largestMask}
 use Rattle.record.proofs.Booleans.{which, and-left, and-right, and-both, and-fails-right, or-right, bool-ext, cond-true, cond-false}
 use Rattle.record.proofs.Below.{count-cong, count-low}
@@ -197,7 +196,7 @@ mask-ext (suc k) a b la lb h =
 
 -- ---- counting
 
-ones-zero : ones 0 ≡ 0
+pub ones-zero : ones 0 ≡ 0
 unfolding ones
 ones-zero = refl
 
@@ -209,11 +208,6 @@ ones-count (suc k) m h =
     ones-step m
     ∙ ap₂ _+_ (sym (has-low m)) (ones-count k (m / 2) (omega arith) ∙ count-cong k (has (m / 2)) (λ i. has m (suc i)) (λ i l. sym (has-suc m i)))
     ∙ sym (count-low k (has m))
-
--- handed 2f + 1 of n, the quorum test is that of n
-pub meets-handed : (n q m : ℕ) {b : Bool} → QuorumOf n q → b ≡ leb q (ones m) → b ≡ meets n m
-unfolding meets
-meets-handed n q m e d = rw e at d
 
 -- a mask below 2 ^ n that meets the quorum has so many members
 pub meets-count : (n m : ℕ) → m < 2 ^ n → meets n m ≡ leb (quorum n) (count n (has m))

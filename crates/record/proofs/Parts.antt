@@ -23,7 +23,8 @@ use Rattle.record.proofs.Booleans.{which, and-left, and-right, and-both
 use Rattle.record.proofs.Booleans.{cond-true, cond-false}
 use Rattle.record.proofs.Masks.{or-zero, lt-within, within-or, within-largest}
 use Rattle.record.proofs.Composed.{lacks-later}
-use Rattle.record.proofs.Turn.{next, done, known, handed-law, both-yes}
+use Rattle.record.proofs.Handed.{handed-law}
+use Rattle.record.proofs.Turn.{next, done, known, both-yes}
 
 -- ---- the strong mask: 7 and 8 of it together
 

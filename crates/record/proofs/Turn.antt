@@ -13,7 +13,7 @@ use Rattle.record.specs.Refusals.{numberOf, Question, firstNo, numbered}
 use Rattle.record.specs.Layout.{strongOf, timeoutsOf, noVotesOf, weakCountOf, weakOf, bodySize, weakSlots}
 use Rattle.record.specs.Questions.{masksOk, strongOk, lacksLeader, quorumIf, timeoutsOk, noVotesOk, weakIdOk, rises, slotOk, weakOk}
 use Rattle.record.specs.Questions.{signerQuestions, recordQuestions}
-use Rattle.record.specs.Handed.{QuorumOf, handedStrong, handedIf, handedTimeouts, handedNoVotes, handedQuestions, HandedLaw}
+use Rattle.record.specs.Handed.{handedIf}
 use Rattle.record.specs.Admitted.{SignerLaw, AdmittedLaw, NumberedLaw}
 use Rattle.record.specs.declared.refusal.Refusal.{Refusal}
 use Rattle.record.specs.declared.refusal.Refusal.the-variants.{None, RecordSize}
@@ -71,18 +71,6 @@ pub known : (n round source : ℕ) (body : List ℕ) (rest : List Question) {r :
 unfolding signerQuestions
 known n round source body rest l h k e d =
     next _ _ (eq-eqb _ _ e) (next _ _ (round-in round l h) (next _ _ (lt-ltb source n k) d))
-
--- ---- the questions handed a quorum
-
--- handed 2f + 1 of n, they are those of n alone
-pub handed-law : HandedLaw
-unfolding handedQuestions handedStrong handedTimeouts handedNoVotes handedIf recordQuestions signerQuestions strongOk timeoutsOk noVotesOk quorumIf meets
-handed-law n q e round source body = rw e
-
--- so is the test of a mask that may be wanted
-pub if-handed : (n q : ℕ) (wanted : Bool) (mask : ℕ) {b : Bool} → QuorumOf n q → b ≡ handedIf q wanted mask → b ≡ quorumIf n wanted mask
-unfolding handedIf quorumIf meets
-if-handed n q wanted mask e d = rw e at d
 
 -- question 10's mask, where the source leads its round and where not
 pub wanted-leading : (q : ℕ) (lack leads : Bool) (mask : ℕ) → leads ≡ true → handedIf q lack mask ≡ handedIf q (lack && leads) mask

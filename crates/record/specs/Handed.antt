@@ -1,13 +1,13 @@
--- Questions 4 to 11 handed the number q that is to make a quorum, and the claim that 2f + 1 of n makes them those of n alone.
+-- Questions 4 to 11 handed the number q that is to make a quorum, and the claims that 2f + 1 of n makes them those of n alone, and nothing else does.
 use mathlib.Core.Path.{_≡_}
-use mathlib.Core.Bool.{Bool, cond, _&&_}
+use mathlib.Core.Bool.{Bool, true, cond, _&&_}
 use mathlib.Core.List.{List, _∷_, _++_}
 use Prim.Native.Nat.{ℕ}
 use lib.Count.{ones}
 use lib.Dec.{eqb, leb}
 use lib.ListN.{take, drop}
-use Rattle.record.specs.Members.{quorum, leader}
-use Rattle.record.specs.Refusals.{Question, firstNo}
+use Rattle.record.specs.Members.{legal, quorum, leader}
+use Rattle.record.specs.Refusals.{numberOf, Question, firstNo}
 use Rattle.record.specs.Layout.{strongOf, timeoutsOf, noVotesOf}
 use Rattle.record.specs.Questions.{lacksLeader, recordQuestions, bodyRefusal}
 use Rattle.record.specs.declared.refusal.Refusal.{Refusal}
@@ -47,3 +47,9 @@ handedRefusal n q round source body = firstNo (handedQuestions n q round source 
 -- This holds of every n, so of every legal one.
 abbrev pub HandedLaw : Type 0
 HandedLaw = (n q : ℕ) → QuorumOf n q → (round source : ℕ) (body : List ℕ) → handedRefusal n q round source body ≡ bodyRefusal n round source body
+
+-- And handed any other number, with a legal n, they give some record another number.
+abbrev pub OnlyQuorumLaw : Type 0
+OnlyQuorumLaw = (n q : ℕ) → legal n ≡ true
+    → ((round source : ℕ) (body : List ℕ) → numberOf (handedRefusal n q round source body) ≡ numberOf (bodyRefusal n round source body))
+    → QuorumOf n q

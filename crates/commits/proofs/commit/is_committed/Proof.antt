@@ -4,7 +4,8 @@ use Rattle.replica.specs.State.{dag, vertices, firsts}
 use Rattle.protocol.specs.Dag.{enough, held, votes}
 use Rattle.record.specs.Members.{leader}
 use Rattle.record.proofs.Booleans.{passed, failed}
-use Rattle.record.proofs.Masks.{leader-small, leader-lt, meets-handed}
+use Rattle.record.proofs.Masks.{leader-small, leader-lt}
+use Rattle.record.proofs.Handed.{meets-handed}
 use native.Mathlib.Numerals.{add-one}
 use native.Mathlib.Omega.{arith}
 use mathlib.Core.Path.{_≡_, sym, _∙_}

@@ -3,7 +3,8 @@ use Rattle.commits.proofs.Laws.{passable-few, passable-led, passable-la
 use Rattle.replica.specs.State.{heldMask}
 use Rattle.record.specs.Members.{leader, has, meets}
 use Rattle.record.proofs.Booleans.{passed, failed}
-use Rattle.record.proofs.Masks.{leader-small, meets-handed}
+use Rattle.record.proofs.Masks.{leader-small}
+use Rattle.record.proofs.Handed.{meets-handed}
 use mathlib.Core.Path.{_≡_, sym, _∙_}
 use Prim.Native.Nat.{ℕ}
 use native.Mathlib.Omega.{arith}

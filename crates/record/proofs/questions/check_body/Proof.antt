@@ -1,7 +1,8 @@
 -- Question 4 by itself, 5 and 6 as `check_signer` answers them; then the others decide.
 use Rattle.record.specs.Questions.{recordQuestions}
 use Rattle.record.specs.Admitted.{Placed}
-use Rattle.record.proofs.Turn.{next, stop, front-no, placed, handed-law}
+use Rattle.record.proofs.Turn.{next, stop, front-no, placed}
+use Rattle.record.proofs.Handed.{handed-law}
 use mathlib.Core.Path.{refl, _∙_}
 use borrow.Author.Tests.{eq-eqb, ne-eqb}
 use borrow.Author.Needs.{needs}

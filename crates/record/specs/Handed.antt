@@ -1,4 +1,5 @@
--- Questions 4 to 11 handed the number q that is to make a quorum, and the claims that 2f + 1 of n makes them those of n alone, and nothing else does.
+-- Questions 4 to 11 handed the number q that is to make a quorum, and the claims that 2f + 1 of n makes them those of n alone, and of a legal n
+-- no other number does.
 use mathlib.Core.Path.{_≡_}
 use mathlib.Core.Bool.{Bool, true, cond, _&&_}
 use mathlib.Core.List.{List, _∷_, _++_}

@@ -24,7 +24,7 @@ use Rattle.protocol.specs.Journal.{journal}
 use Rattle.replica.proofs.Opened.{opened-members, opened-word, opened-leaders, opened-journal, opened-vertices, opened-firsts, opened-formed}
 use Rattle.commits.specs.Commit.{raiseRound, commitAll}
 use Rattle.ordering.specs.Calls.{hear, vertexQuestions, firstQuestions, noteRefusal, bundleRefusal, takeBody, takeFirstBody, takeTimeout, takeNoVote}
-use Rattle.ordering.specs.Calls.{takeTimeouts}
+use Rattle.ordering.specs.Calls.{takeTimeouts, takeVertex}
 use Rattle.ordering.proofs.Carried.{written}
 use Rattle.commits.proofs.Steps.{not-led}
 use Rattle.ordering.proofs.Marks.{formed-raise, formed-joined}
@@ -36,15 +36,21 @@ use Rattle.proposing.specs.Own.{markRound}
 use Rattle.proposing.specs.Making.{proposeRefusal, proposeVertex}
 use Rattle.proposing.specs.Signing.{signingRound, signRefusal, putOwnNoVote, signNoVote}
 use Rattle.proposing.proofs.Kept.{mark-calm, mark-alike, signed-calm, signed-alike, signing-passed, signing-round, formed-making, formed-signing}
-use Rattle.runs.specs.Call.{Call, opening, vertex, firstMessage, timeout, noVote, bundle, status, askLeaderList, askJournalList, handLeaderList}
-use Rattle.runs.specs.Call.{handJournalList, making, signing, outcomeOf, run, allowed, allAllowed}
-use Rattle.runs.proofs.Asked.{number-yes, words-yes, number-no, words-no, decided, open-yes, open-no}
+use Rattle.runs.specs.Call.{Call, opening, vertex, vertexWith, firstMessage, timeout, noVote, bundle, status, askLeaderList, askJournalList}
+use Rattle.runs.specs.Call.{handLeaderList, handJournalList, making, signing, outcomeOf, run, allowed, allAllowed}
+use Rattle.ordering.proofs.Numbers.{number-yes, words-yes, number-no, words-no, decided}
+use Rattle.pending.specs.Buffer.{recordsIn, recordsOk}
+use Rattle.pending.specs.Early.{refusalWith, takeVertexWith}
+use Rattle.pending.proofs.Holding.{joined-words}
+use Rattle.pending.proofs.Claims.{Taken, Stopped, end-of}
+use Rattle.runs.proofs.Asked.{open-yes, open-no}
 use Rattle.agreement.specs.Model.{Model, empty, admit, follow, modelOf, dagOf}
 use Rattle.agreement.specs.Claim.{Premises, Matches, Agreed, AgreementClaim}
 use Rattle.agreement.proofs.Records.{records-none}
 use Rattle.agreement.proofs.Family.{Inside, inside-self, inside-then, Either, either-before, Part, partDag, family}
 use Rattle.agreement.proofs.Tracking.{at-open, at-leaders, at-journal}
 use Rattle.agreement.proofs.Handing.{hand-leaders, hand-journal}
+use Rattle.agreement.proofs.Released.{release-more, release-follows}
 use Rattle.agreement.proofs.Following.{Follows, alike, at-cast, formed, follows-alike, vertex-follows, first-follows}
 
 -- ---- refused records
@@ -59,12 +65,23 @@ first-out : (rec : List ℕ) (number : ℕ) (m : Model) → (number ≡ 0 → �
 first-out rec zero m d = absurd (d refl)
 first-out rec (suc number) m d = refl
 
+-- nor a record with a pending buffer
+with-out : (s rec : List ℕ) (number : ℕ) (m : Model) → (number ≡ 0 → ⊥) → admit (vertexWith s rec) number m ≡ m
+with-out s rec zero m d = absurd (d refl)
+with-out s rec (suc number) m d = refl
+
 -- ---- models only gain records
 
 -- by one call
 pub admit-more : (c : Call) (number : ℕ) (m : Model) → Inside m (admit c number m)
 admit-more (vertex rec) zero m = record { members = refl; vertices = λ x h. List·Memᴰ·tail h; firsts = λ x h. h }
 admit-more (vertex rec) (suc number) m = inside-self m
+admit-more (vertexWith s rec) zero m = record {
+  members = refl;
+  vertices = λ x h. release-more (recordsIn s) (rec ∷ m .vertices) x (List·Memᴰ·tail h);
+  firsts = λ x h. h;
+}
+admit-more (vertexWith s rec) (suc number) m = inside-self m
 admit-more (firstMessage rec) zero m = record { members = refl; vertices = λ x h. h; firsts = λ x h. List·Memᴰ·tail h }
 admit-more (firstMessage rec) (suc number) m = inside-self m
 admit-more (opening n own) number m = inside-self m
@@ -147,6 +164,26 @@ module _ (n : ℕ) (a b : Model) (honest : ℕ → Bool) (g : legal n ≡ true) 
   noted : (why : Refusal) (l after : List ℕ) (m : Model) → Follows n l m → (numberOf why ≡ 0 → Follows n after m) → Follows n (outcome why l after .words) m
   noted why l after m f h = outcome-words (λ k. Follows n k m) why l after f h
 
+  -- a vertex with a pending buffer
+  with-follows : (s rec l : List ℕ) (m : Model) → Follows n l m → Either a b m → Either a b (admit (vertexWith s rec) (takeVertexWith l s rec .outcome .number) m)
+      → Follows n (takeVertexWith l s rec .outcome .words) (admit (vertexWith s rec) (takeVertexWith l s rec .outcome .number) m)
+  with-follows s rec l m f i j = go (end-of l s rec)
+    where
+      go : Taken l s rec ⊎ Stopped l s rec
+          → Follows n (takeVertexWith l s rec .outcome .words) (admit (vertexWith s rec) (takeVertexWith l s rec .outcome .number) m)
+      go (inl T) =
+          let j′ : Either a b (admit (vertexWith s rec) 0 m) = rw (T .end) at j in
+          let k : Either a b (admit (vertex rec) 0 m) = either-before (record {
+            members = refl;
+            vertices = release-more (recordsIn s) (rec ∷ m .vertices);
+            firsts = λ x h. h;
+          }) j′ in
+          let F : Follows n (takeVertex l rec .words) (admit (vertex rec) 0 m) = rw (joined-words l rec (T .passes))
+          (vertex-follows n a b honest g P l m rec (f .holds) (T .passes) i k) in
+          let ok : recordsOk n 0 (recordsIn s) ≡ true = rw (f .holds .members) at (T .buffer .records) in
+          rw (T .end) (release-follows n a b honest g P m (recordsIn s) (takeVertex l rec .words) (rec ∷ m .vertices) ok F j′)
+      go (inr x) = rw (x .end, with-out s rec (numberOf (refusalWith l s rec)) m (x .number)) f
+
   -- one call
   pub step : (c : Call) (l : List ℕ) (m : Model) → allowed c ≡ true → Follows n l m → Either a b m → Either a b (admit c (outcomeOf c l .number) m)
       → Follows n (outcomeOf c l .words) (admit c (outcomeOf c l .number) m)
@@ -165,6 +202,7 @@ module _ (n : ℕ) (a b : Model) (honest : ℕ → Bool) (g : legal n ≡ true) 
       go (inl e) j = rw (words-yes why l after e, number-yes why l after e) (vertex-follows n a b honest g P l m rec (f .holds) e i
           (rw (number-yes why l after e) at j))
       go (inr d) j = rw (words-no why l after d, number-no why l after d, vertex-out rec (numberOf why) m d) f
+  step (vertexWith s rec) l m ok f i j = with-follows s rec l m f i j
   step (firstMessage rec) l m ok f i j = go (decided why) j
     where
       why : Refusal

@@ -24,28 +24,30 @@ use Rattle.replica.proofs.Dags.{held-vertex, held-id}
 use Rattle.replica.proofs.ParentLaws.{parent-cases, parents-intro, weak-five}
 use Rattle.record.proofs.Rounds.{round-in}
 use Rattle.ordering.specs.Calls.{sameBody, vertexQuestions, firstQuestions, takeBody, takeFirstBody}
-use Rattle.runs.specs.Call.{Call, opening, vertex, firstMessage, timeout, noVote, bundle, status, askLeaderList, askJournalList, handLeaderList}
-use Rattle.runs.specs.Call.{handJournalList, making, signing, outcomeOf, allowed, allAllowed}
-use Rattle.runs.proofs.Asked.{number-yes, past-state}
-use Rattle.agreement.specs.Model.{Model, admit, follow}
+use Rattle.runs.specs.Call.{Call, opening, vertex, vertexWith, firstMessage, timeout, noVote, bundle, status, askLeaderList, askJournalList}
+use Rattle.runs.specs.Call.{handLeaderList, handJournalList, making, signing, outcomeOf, allowed, allAllowed}
+use Rattle.ordering.proofs.Numbers.{number-yes, past-state}
+use Rattle.pending.specs.Buffer.{bufferOk}
+use Rattle.pending.proofs.Claims.{with-zero}
+use Rattle.agreement.specs.Model.{Model, parentsThere, admit, follow}
 use Rattle.agreement.specs.Claim.{Premises}
 use Rattle.agreement.proofs.Family.{Inside, inside-self, inside-then, Either, either-before}
 use Rattle.agreement.proofs.Following.{Holds, Follows}
+use Rattle.agreement.proofs.Released.{parent-there}
 use Rattle.agreement.proofs.Claim.{admit-more, step}
 
 -- ---- by what the model holds
 
--- all parents of a body of round r are in v
-unfoldable pub parentsIn : Records → ℕ → List ℕ → Bool
-parentsIn v r body =
-    all slots (λ q. not (has (strongOf body) q) || held v (r - 1) q)
-    && all weakSlots (λ i. not (ltb i (weakCountOf body)) || held v (idRound (weakOf body i)) (idMember (weakOf body i)))
+-- the record is taken as a vertex
+unfoldable pub vertexTaken : ℕ → Model → List ℕ → Bool
+vertexTaken n m rec =
+    eqb (numberOf (bodyRefusal n (roundOf rec) (sourceOf rec) (bodyOf rec))) 0
+    && (not (held (recordsOf (m .vertices)) (roundOf rec) (sourceOf rec)) && parentsThere (recordsOf (m .vertices)) (roundOf rec) (bodyOf rec))
 
 -- the call is taken, or does not concern the model
 unfoldable pub taken : ℕ → Model → Call → Bool
-taken n m (vertex rec) =
-    eqb (numberOf (bodyRefusal n (roundOf rec) (sourceOf rec) (bodyOf rec))) 0
-    && (not (held (recordsOf (m .vertices)) (roundOf rec) (sourceOf rec)) && parentsIn (recordsOf (m .vertices)) (roundOf rec) (bodyOf rec))
+taken n m (vertex rec) = vertexTaken n m rec
+taken n m (vertexWith s rec) = bufferOk n s && vertexTaken n m rec
 taken n m (firstMessage rec) =
     eqb (numberOf (bodyRefusal n (roundOf rec) (sourceOf rec) (bodyOf rec))) 0 && not (present (recordsOf (m .firsts) (roundOf rec) (sourceOf rec)))
 taken n m (opening k own) = not (legal k && leb own k)
@@ -92,33 +94,15 @@ module _ (n : ℕ) (l : List ℕ) (m : Model) (h : Holds n l m) (r p : ℕ) (bod
       front-yes (recordQuestions (memberCount l) r p body) rest (numbered-law (memberCount l) r p .1 body) (rw (h .members) ok)
       ∙ past-state l _ (h .formed)
 
-  -- a parent is held in the model
-  held-in : (y : ℕ) → parentsIn (recordsOf (m .vertices)) r body ≡ true → isParent r body y ≡ true
-      → held (recordsOf (m .vertices)) (idRound y) (idMember y) ≡ true
-  unfolding parentsIn
-  held-in y e d = ⊎-elim
-      (λ w.
-      let z : r - 1 ≡ idRound y = omega (arith, w .0) in
-      ap (λ (t : ℕ). held v t (idMember y)) (sym z)
-      ∙ imp-elim (has (strongOf body) (idMember y)) _
-      (all-elim slots (λ q. not (has (strongOf body) q) || held v (r - 1) q) (and-left _ _ e) (idMember y) (omega arith)) (w .1))
-      (λ w.
-      let k : w .0 < weakSlots = omega (arith, w .1, weak-five (memberCount l) r p l body (h .formed .front .members) A) in
-      ap (λ (t : ℕ). held v (idRound t) (idMember t)) (sym (w .2))
-      ∙ imp-elim (ltb (w .0) (weakCountOf body)) _
-      (all-elim weakSlots (λ i. not (ltb i (weakCountOf body)) || held v (idRound (weakOf body i)) (idMember (weakOf body i)))
-      (and-right (all slots (λ q. not (has (strongOf body) q) || held v (r - 1) q)) _ e) (w .0) k) (lt-ltb (w .0) (weakCountOf body) (w .1)))
-      (parent-cases r body y d)
-
   -- a vertex has the number 0
-  vertex-passes : held (recordsOf (m .vertices)) r p ≡ false → parentsIn (recordsOf (m .vertices)) r body ≡ true
+  vertex-passes : held (recordsOf (m .vertices)) r p ≡ false → ((y : ℕ) → isParent r body y ≡ true → held (recordsOf (m .vertices)) (idRound y) (idMember y) ≡ true)
       → numberOf (firstNo (vertexQuestions l r p body)) ≡ 0
   vertex-passes new there =
       let few : p < slots = omega (arith, A .source-low, h .formed .front .high) in
       let free : (isRound r && has (heldMask l r) p) ≡ false = sym (held-vertex l (h .formed .size) r p few) ∙ ap present (h .vertex r p) ∙ new in
       let off : has (heldMask l r) p ≡ false = rw (round-in r (A .round-low) (A .round-high)) at free in
       let parents : parentsHeld l r body ≡ true = parents-intro l r body
-      (λ y b d. held-id l (h .formed .size) y ∙ ap present (h .vertex (idRound y) (idMember y)) ∙ held-in y there d) in
+      (λ y b d. held-id l (h .formed .size) y ∙ ap present (h .vertex (idRound y) (idMember y)) ∙ there y d) in
       ap numberOf (sym (next _ _ (ap not (and-fails-left (sameBody l r p body) off)) (next _ _ (ap not off) (next _ _ parents done)) ∙ in-record _))
 
   -- a first message has the number 0
@@ -132,15 +116,21 @@ module _ (n : ℕ) (l : List ℕ) (m : Model) (h : Holds n l m) (r p : ℕ) (bod
 -- ---- the model
 
 module _ (n : ℕ) (l : List ℕ) (m : Model) (h : Holds n l m) where
+  -- the questions of a vertex that is taken are answered yes
+  passes : (rec : List ℕ) → vertexTaken n m rec ≡ true → numberOf (firstNo (vertexQuestions l (roundOf rec) (sourceOf rec) (bodyOf rec))) ≡ 0
+  unfolding vertexTaken
+  passes rec e =
+      let ok : numberOf (bodyRefusal n (roundOf rec) (sourceOf rec) (bodyOf rec)) ≡ 0 = eqb-true _ 0 (and-left _ _ e) in
+      let rest = and-right (eqb (numberOf (bodyRefusal n (roundOf rec) (sourceOf rec) (bodyOf rec))) 0) _ e in
+      vertex-passes n l m h (roundOf rec) (sourceOf rec) (bodyOf rec) ok (not-true _ (and-left _ _ rest))
+      (parent-there n l m h rec ok (and-right (not (held (recordsOf (m .vertices)) (roundOf rec) (sourceOf rec))) _ rest))
+
   -- a record that is taken has the number 0; of other calls the number does not matter
   admit-taken : (c : Call) → taken n m c ≡ true → admit c (outcomeOf c l .number) m ≡ admit c 0 m
   unfolding taken takeBody takeFirstBody
-  admit-taken (vertex rec) e =
-      let ok : numberOf (bodyRefusal n (roundOf rec) (sourceOf rec) (bodyOf rec)) ≡ 0 = eqb-true _ 0 (and-left _ _ e) in
-      let rest = and-right (eqb (numberOf (bodyRefusal n (roundOf rec) (sourceOf rec) (bodyOf rec))) 0) _ e in
-      ap (λ (k : ℕ). admit (vertex rec) k m)
-      (number-yes _ l _ (vertex-passes n l m h (roundOf rec) (sourceOf rec) (bodyOf rec) ok (not-true _ (and-left _ _ rest))
-      (and-right (not (held (recordsOf (m .vertices)) (roundOf rec) (sourceOf rec))) _ rest)))
+  admit-taken (vertex rec) e = ap (λ (k : ℕ). admit (vertex rec) k m) (number-yes _ l _ (passes rec e))
+  admit-taken (vertexWith s rec) e = ap (λ (k : ℕ). admit (vertexWith s rec) k m)
+      (with-zero l s rec (h .formed) (rw (h .members) (and-left (bufferOk n s) _ e)) (passes rec (and-right (bufferOk n s) _ e)))
   admit-taken (firstMessage rec) e =
       let ok : numberOf (bodyRefusal n (roundOf rec) (sourceOf rec) (bodyOf rec)) ≡ 0 = eqb-true _ 0 (and-left _ _ e) in
       ap (λ (k : ℕ). admit (firstMessage rec) k m) (number-yes _ l _ (first-passes n l m h (roundOf rec) (sourceOf rec) (bodyOf rec) ok
@@ -161,6 +151,7 @@ module _ (n : ℕ) (l : List ℕ) (m : Model) (h : Holds n l m) where
 taken-allowed : (n : ℕ) (m : Model) (c : Call) → taken n m c ≡ true → allowed c ≡ true
 unfolding taken
 taken-allowed n m (vertex rec) e = refl
+taken-allowed n m (vertexWith s rec) e = refl
 taken-allowed n m (firstMessage rec) e = refl
 taken-allowed n m (opening k own) e = e
 taken-allowed n m (timeout r p) e = refl

@@ -11,7 +11,8 @@ use Rattle.protocol.specs.Dag.{Dag, recordsOf, votes}
 use Rattle.protocol.specs.Premises.{ValidVertices, DagPremises}
 use Rattle.protocol.proofs.Paths.{parent-present, no-vote-present}
 use Rattle.agreement.specs.Model.{Model, dagOf}
-use Rattle.agreement.specs.Claim.{In, Vertex, First, Premises}
+use Rattle.agreement.specs.Claim.{Vertex, First, Premises}
+use Rattle.pending.specs.Buffer.{In}
 use Rattle.agreement.proofs.Records.{Found, find-in}
 
 -- every record of the first model is one of the second

@@ -34,7 +34,7 @@ use Rattle.commits.proofs.Frames.{lists-members}
 use Rattle.commits.proofs.Growing.{grown, commit-vertices, commit-firsts, commit-round, commit-leaders, commit-journal}
 use Rattle.ordering.proofs.Marks.{formed-raise, formed-hear}
 use Rattle.ordering.proofs.Kept.{formed-commit, committable-round}
-use Rattle.runs.proofs.Asked.{vertex-yes, first-yes}
+use Rattle.ordering.proofs.Numbers.{vertex-yes, first-yes}
 use Rattle.agreement.specs.Model.{Model, dagOf}
 use Rattle.agreement.specs.Claim.{Premises}
 use Rattle.agreement.proofs.Records.{records-here, records-there, by-record, records-more}

@@ -3,6 +3,7 @@ pub mod Family
 pub mod Tracking
 pub mod Handing
 pub mod Following
+pub mod Released
 pub mod Claim
 pub mod Dry
 pub mod Witness

@@ -9,7 +9,7 @@ use borrow.Author.Tests.{eqb-true, eq-eqb}
 use Rattle.record.specs.Layout.{roundOf, sourceOf, bodyOf}
 use Rattle.record.proofs.Booleans.{which, never, and-left, and-right, and-both, cond-true, cond-false}
 use Rattle.protocol.specs.Dag.{recordsOf, present}
-use Rattle.agreement.specs.Claim.{In}
+use Rattle.pending.specs.Buffer.{In}
 
 -- the record of a list that stands for a round and a source
 pub record Found (l : List (List ℕ)) (r p : ℕ) : Type 0 where

@@ -25,16 +25,18 @@ use Rattle.protocol.proofs.Witness as protocol
 use Rattle.replica.specs.Layout.{watcher}
 use Rattle.replica.specs.Opening.{opened, openState}
 use Rattle.replica.proofs.Opened.{opened-size}
+use Rattle.pending.specs.Buffer.{In, recordsFrom, wordsOf, bufferOf, recordsOk, restZero, bufferOk}
+use Rattle.pending.specs.Passes.{pass, passes}
 use Rattle.runs.specs.Call.{run}
 use Rattle.runs.proofs.Asked.{four, open-yes, open-taken}
-use Rattle.agreement.specs.Model.{Model, empty, dagOf}
-use Rattle.agreement.specs.Claim.{In, Twins, Vertex, First, Premises, Agreed}
-use Rattle.agreement.specs.Witness.{start, callsOf, modelFor, Witness}
+use Rattle.agreement.specs.Model.{Model, empty, dagOf, parentsThere}
+use Rattle.agreement.specs.Claim.{Twins, Vertex, First, Premises, Agreed}
+use Rattle.agreement.specs.Witness.{start, vertexCalls, callsOf, modelFor, Witness}
 use Rattle.agreement.proofs.Records.{Found, find-in}
 use Rattle.agreement.proofs.Family.{inside-self}
 use Rattle.agreement.proofs.Following.{Follows}
 use Rattle.agreement.proofs.Claim.{opened-follows, follow-more, agreement-claim}
-use Rattle.agreement.proofs.Dry.{parentsIn, taken, allTaken, dry, all-allowed, dry-follow}
+use Rattle.agreement.proofs.Dry.{vertexTaken, taken, allTaken, dry, all-allowed, dry-follow}
 
 -- ---- tests over lists of records
 
@@ -88,8 +90,8 @@ same-records l m e d = records-ext (recordsOf l) (recordsOf m) (λ r p. go r p (
 
 -- every call is taken
 all-taken : (i : Bool) → allTaken 4 (empty 4) (callsOf i) ≡ true
-unfolding callsOf vertexOf firstOf early late allTaken taken parentsIn recordsOf legal leader has within meets strongOf timeoutsOf noVotesOf
-    weakCountOf weakOf signerQuestions recordQuestions
+unfolding callsOf vertexCalls firstOf early late allTaken taken vertexTaken parentsThere pass passes recordsOf legal leader has within meets strongOf timeoutsOf
+    noVotesOf weakCountOf weakOf signerQuestions recordQuestions bufferOf wordsOf recordsFrom recordsOk restZero bufferOk
     firstNo isRound masksOk strongOk lacksLeader quorumIf timeoutsOk noVotesOk weakIdOk rises slotOk weakOk all ones
 all-taken true = refl
 all-taken false = refl
@@ -100,13 +102,14 @@ made i = dry (empty 4) (callsOf i)
 
 -- its vertices
 made-vertices : (i : Bool) → recordsOf (made i .vertices) ≡ recordsOf (vertexOf i)
-unfolding made dry callsOf vertexOf firstOf early late every agree same recordsOf
+unfolding made dry callsOf vertexCalls vertexOf firstOf early late every agree same recordsOf pass passes bufferOf wordsOf recordsFrom
+    parentsThere has strongOf weakCountOf weakOf all
 made-vertices true = same-records (made true .vertices) (vertexOf true) refl refl
 made-vertices false = same-records (made false .vertices) (vertexOf false) refl refl
 
 -- its first messages
 made-firsts : (i : Bool) → recordsOf (made i .firsts) ≡ recordsOf (firstOf i)
-unfolding made dry callsOf vertexOf firstOf early late every agree same recordsOf
+unfolding made dry callsOf vertexCalls firstOf early late every agree same recordsOf
 made-firsts true = same-records (made true .firsts) (firstOf true) refl refl
 made-firsts false = same-records (made false .firsts) (firstOf false) refl refl
 
@@ -146,15 +149,18 @@ both x y = eqb (roundOf x) (roundOf y) && (honest (sourceOf x) && (votes 4 (roun
 
 -- they are met
 vertices-one : pairs oneVertex allVertices allVertices ≡ true
-unfolding allVertices made dry callsOf vertexOf firstOf early late pairs every oneVertex twin same
+unfolding allVertices made dry callsOf vertexCalls firstOf early late pairs every oneVertex twin same
+    pass passes bufferOf wordsOf recordsFrom recordsOf parentsThere has strongOf weakCountOf weakOf all
 vertices-one = refl
 
 records-one : pairs oneRecord allFirsts allVertices ≡ true
-unfolding allVertices allFirsts made dry callsOf vertexOf firstOf early late pairs every oneRecord twin same
+unfolding allVertices allFirsts made dry callsOf vertexCalls firstOf early late pairs every oneRecord twin same
+    pass passes bufferOf wordsOf recordsFrom recordsOf parentsThere has strongOf weakCountOf weakOf all
 records-one = refl
 
 never-both : pairs (λ x y. not (both x y)) (allVertices ++ allFirsts) allVertices ≡ true
-unfolding allVertices allFirsts made dry callsOf vertexOf firstOf early late pairs every both leader has strongOf noVotesOf
+unfolding allVertices allFirsts made dry callsOf vertexCalls firstOf early late pairs every both leader has strongOf noVotesOf
+    pass passes bufferOf wordsOf recordsFrom recordsOf parentsThere weakCountOf weakOf all
 never-both = refl
 
 -- the premises hold of these models

@@ -37,7 +37,10 @@ use Rattle.ordering.specs.Calls.{sameBody, putVertex, carryTimeouts, hear, isNe
 use Rattle.runs.specs.Call.{Call, opening, outcomeOf, Given, nothing, givenOf, run}
 use Rattle.runs.proofs.Asked.{four, open-yes, open-taken}
 use Rattle.runs.proofs.Short.{line, listed, byList, commitBy, shortCommits, shortVertex, shortFirst, shortNote, shortList, shortSpan, shortOf, shortGiven}
-use Rattle.runs.proofs.Short.{shortBundle, shortRun, short-is, given-is, formed-after, run-is}
+use Rattle.pending.specs.Buffer.{sameRecord, some, putIn, recordsFrom, wordsOf, bufferOf, recordsOk, restZero, bufferOk}
+use Rattle.pending.specs.Passes.{pass, passes}
+use Rattle.pending.specs.Early.{inPlace}
+use Rattle.runs.proofs.Short.{shortTake, shortWith, shortTry, shortEnding, shortBundle, shortRun, short-is, given-is, formed-after, run-is}
 use Rattle.agreement.specs.Worked.{Seen, seen, Row, zeros, allAdmitted, ending, Passes, rows, Worked}
 use Rattle.agreement.proofs.Handing.{hand-leaders, hand-journal}
 
@@ -141,6 +144,7 @@ computed x = (shortAdmitted (opened 4 watcher) (drop 1 (x .calls)), shortEnd x)
 
 ends : map computed later ≡ map (λ (x : Row). (true, x .end)) later
 unfolding later rows computed shortAdmitted shortEnd shortSeen shortOf shortGiven shortSpan spanIf shortVertex shortFirst shortNote shortBundle shortList
+    shortTake shortWith shortTry shortEnding inPlace pass passes bufferOf wordsOf recordsFrom sameRecord some putIn recordsOk restZero bufferOk
     shortRun opened outcome legal leader
     has within meets
     firstNo strongOf timeoutsOf noVotesOf weakCountOf weakOf isRound masksOk strongOk lacksLeader quorumIf timeoutsOk noVotesOk weakIdOk rises

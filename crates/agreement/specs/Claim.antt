@@ -2,7 +2,7 @@
 use mathlib.Core.Path.{_≡_}
 use mathlib.Core.Bool.{Bool, true, not}
 use mathlib.Core.Logic.{_⊎_}
-use mathlib.Core.List.{List, List·Memᴰ}
+use mathlib.Core.List.{List}
 use Prim.Native.Nat.{ℕ, _-_, _≤_}
 use Rattle.record.specs.Below.{count}
 use Rattle.record.specs.Members.{faulty, has}
@@ -14,12 +14,9 @@ use Rattle.protocol.specs.Claims.{Prefix}
 use Rattle.replica.specs.Opening.{openState}
 use Rattle.replica.specs.Place.{wordsIn}
 use Rattle.replica.specs.Lists.{handLeaders, handJournal}
+use Rattle.pending.specs.Buffer.{In}
 use Rattle.runs.specs.Call.{Call, run, allAllowed}
 use Rattle.agreement.specs.Model.{Model, modelOf, dagOf}
-
--- the record stands in the list
-abbrev pub In : List ℕ → List (List ℕ) → Type 0
-In x l = List·Memᴰ x l
 
 -- two records are of one round and one source
 pub record Twins (x y : List ℕ) : Type 0 where

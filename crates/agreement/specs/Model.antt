@@ -1,8 +1,14 @@
 -- The model (01: plain book) of a list of calls: the records that were admitted.
+use mathlib.Core.Bool.{Bool, cond, not, _&&_, _||_}
 use mathlib.Core.List.{List, [], _∷_}
-use Prim.Native.Nat.{ℕ, zero, suc}
-use Rattle.protocol.specs.Dag.{Dag, recordsOf}
-use Rattle.runs.specs.Call.{Call, opening, vertex, firstMessage, timeout, noVote, bundle}
+use Prim.Native.Nat.{ℕ, zero, suc, _-_}
+use Rattle.record.specs.Below.{all}
+use Rattle.record.specs.Members.{slots, has, idRound, idMember}
+use Rattle.record.specs.Layout.{roundOf, sourceOf, bodyOf, strongOf, weakCountOf, weakOf}
+use Rattle.protocol.specs.Dag.{Records, Dag, recordsOf, held}
+use Rattle.pending.specs.Buffer.{recordsIn}
+use Rattle.pending.specs.Passes.{joins, stays, leaves, Trial, release}
+use Rattle.runs.specs.Call.{Call, opening, vertex, vertexWith, firstMessage, timeout, noVote, bundle}
 use Rattle.runs.specs.Call.{status, askLeaderList, askJournalList, handLeaderList, handJournalList, making, signing, outcomeOf}
 
 pub record Model : Type 0 where
@@ -14,10 +20,27 @@ pub record Model : Type 0 where
 abbrev pub empty : ℕ → Model
 empty n = record { n = n; vertices = []; firsts = [] }
 
--- a record that was taken with the number 0 joins its kind; nothing else changes the model
+-- all strong and weak parents of a body of round r are there
+unfoldable pub parentsThere : Records → ℕ → List ℕ → Bool
+parentsThere v r body =
+    all slots (λ q. not (has (strongOf body) q) || held v (r - 1) q)
+    && all (weakCountOf body) (λ i. held v (idRound (weakOf body i)) (idMember (weakOf body i)))
+
+-- a waiting record tried against these vertices: one of its id there drops it, and with all parents there it joins
+abbrev pub tryRecord : List (List ℕ) → List ℕ → Trial (List (List ℕ))
+tryRecord v rec =
+    cond (held (recordsOf v) (roundOf rec) (sourceOf rec))
+    (record { fate = leaves; after = v })
+    (cond (parentsThere (recordsOf v) (roundOf rec) (bodyOf rec)) (record { fate = joins; after = rec ∷ v }) (record { fate = stays; after = v }))
+
+-- A record that was taken with the number 0 joins its kind, and of a pending buffer as lent those that the passes admit then; nothing else changes
+-- the model.
 abbrev pub admit : Call → ℕ → Model → Model
 admit (vertex rec) zero m = record { n = m .n; vertices = rec ∷ m .vertices; firsts = m .firsts }
 admit (vertex rec) (suc number) m = m
+admit (vertexWith s rec) zero m =
+    record { n = m .n; vertices = release tryRecord (rec ∷ m .vertices) (recordsIn s) .after; firsts = m .firsts }
+admit (vertexWith s rec) (suc number) m = m
 admit (firstMessage rec) zero m = record { n = m .n; vertices = m .vertices; firsts = rec ∷ m .firsts }
 admit (firstMessage rec) (suc number) m = m
 admit (opening n own) number m = m

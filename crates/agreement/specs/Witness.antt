@@ -3,10 +3,13 @@ use mathlib.Core.Path.{_≡_}
 use mathlib.Core.Bool.{Bool, true, false}
 use mathlib.Core.List.{List, [], _∷_, _++_, map}
 use Prim.Native.Nat.{ℕ}
-use Rattle.protocol.specs.Witness.{vertexOf, firstOf, witnessDag, honest}
+use Rattle.protocol.specs.Witness.{plain, early, late, firstOf, witnessDag, honest}
 use Rattle.replica.specs.Layout.{watcher}
 use Rattle.replica.specs.Opening.{opened, openState}
-use Rattle.runs.specs.Call.{Call, opening, vertex, firstMessage, timeout, noVote, bundle, status, askLeaderList, handJournalList, run, allAllowed}
+use lib.ListN.{drop}
+use Rattle.pending.specs.Buffer.{bufferOf}
+use Rattle.runs.specs.Call.{Call, opening, vertex, vertexWith, firstMessage, timeout, noVote, bundle, status, askLeaderList, handJournalList}
+use Rattle.runs.specs.Call.{run, allAllowed}
 use Rattle.agreement.specs.Model.{Model, modelOf, dagOf}
 use Rattle.agreement.specs.Claim.{Premises, leadersIn, journalIn, Agreed}
 
@@ -14,11 +17,16 @@ use Rattle.agreement.specs.Claim.{Premises, leadersIn, journalIn, Agreed
 abbrev pub start : List ℕ
 start = openState (opened 4 watcher) 4 watcher .words
 
+-- The vertices. To the second state they come one by one; of the first state's, one comes with a buffer in which nine others wait for it.
+unfoldable pub vertexCalls : Bool → List Call
+vertexCalls true = vertexWith (bufferOf (drop 1 early)) (plain 1 0 0 0 0) ∷ map vertex late
+vertexCalls false = map vertex early
+
 -- all vertices, then the first messages, with calls between them that admit no record
 unfoldable pub callsOf : Bool → List Call
 callsOf i =
     (opening 5 watcher ∷ status ∷ timeout 1 3 ∷ bundle 1 12 ∷ [])
-    ++ (map vertex (vertexOf i)
+    ++ (vertexCalls i
     ++ ((noVote 2 0 ∷ askLeaderList 0 ∷ [])
     ++ (map firstMessage (firstOf i) ++ (handJournalList 0 ∷ []))))
 

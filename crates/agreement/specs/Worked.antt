@@ -5,13 +5,14 @@ use mathlib.Core.Bool.{Bool, true, _&&_}
 use mathlib.Core.List.{List, [], _∷_, _++_, List·Memᴰ}
 use Prim.Native.Nat.{ℕ}
 use lib.Dec.{eqb}
-use lib.ListN.{replicate}
+use lib.ListN.{replicate, take}
 use Rattle.replica.specs.Layout.{stateSize, journalAt, watcher}
 use Rattle.replica.specs.State.{currentRound, committedRound}
 use Rattle.replica.specs.Outcome.{Outcome}
 use Rattle.replica.specs.Place.{Span}
-use Rattle.runs.specs.Call.{Call, opening, vertex, firstMessage, timeout, bundle, askJournalList, handJournalList}
-use Rattle.runs.specs.Call.{outcomeOf, Given, nothing, part, givenOf, run}
+use Rattle.pending.specs.Buffer.{bufferOf}
+use Rattle.runs.specs.Call.{Call, opening, vertex, vertexWith, firstMessage, timeout, bundle, askJournalList, handJournalList}
+use Rattle.runs.specs.Call.{outcomeOf, Given, nothing, part, buffered, givenOf, run}
 use Rattle.agreement.specs.Claim.{leadersIn, journalIn}
 use Rattle.record.specs.Layout.{recordWords}
 
@@ -109,6 +110,10 @@ s = opening 4 watcher ∷ v1 0 10 ∷ v1 1 11 ∷ v1 2 12 ∷ []
 abbrev pub withoutLeader : List Call
 withoutLeader = opening 4 watcher ∷ v1 1 11 ∷ v1 2 12 ∷ v1 3 13 ∷ []
 
+-- a record of round 2 that comes before its parent 1/3
+abbrev pub early : ℕ → List ℕ
+early p = rec 2 p 15 0 0 0
+
 -- ---- the table
 
 unfoldable pub rows : List Row
@@ -171,6 +176,17 @@ rows =
     ∷ row withoutLeader (bundle 1 19) 7 0 1 0 [] []
     ∷ row withoutLeader (bundle 33 23) 5 0 1 0 [] []
     ∷ row withoutLeader (bundle 2 7) 0 0 1 0 [] []
+    -- Request A5. S, vertex 2/0, strong 15, with an empty buffer: 14 with ref 19, and it waits there. With a buffer where it waits: 12. Another of that
+    -- ref: 13. With a buffer of 384 words, or with two of one ref: 19.
+    ∷ giving s (vertexWith (bufferOf []) (early 0)) 14 19 (buffered (bufferOf (early 0 ∷ []))) 2 0 [] []
+    ∷ giving s (vertexWith (bufferOf (early 0 ∷ [])) (early 0)) 12 0 (buffered (bufferOf (early 0 ∷ []))) 2 0 [] []
+    ∷ giving s (vertexWith (bufferOf (early 0 ∷ [])) (rec 2 0 15 0 0 99)) 13 0 (buffered (bufferOf (early 0 ∷ []))) 2 0 [] []
+    ∷ giving s (vertexWith (take 384 (bufferOf [])) (early 0)) 19 0 (buffered (take 384 (bufferOf []))) 2 0 [] []
+    ∷ giving s (vertexWith (bufferOf (early 0 ∷ early 0 ∷ [])) (early 0)) 19 0 (buffered (bufferOf (early 0 ∷ early 0 ∷ []))) 2 0 [] []
+    -- Then vertex 1/3 with a buffer of 2/0, 2/1 and 2/2, strong 15, 3/0, strong 7, and 3/1, strong 15: 0. The first four are admitted, round 1 is
+    -- committed, and 3/1 waits for 2/3.
+    ∷ giving s (vertexWith (bufferOf (early 0 ∷ early 1 ∷ early 2 ∷ rec 3 0 7 0 0 0 ∷ rec 3 1 15 0 0 0 ∷ [])) (rec 1 3 0 0 0 13)) 0 0
+    (buffered (bufferOf (rec 3 1 15 0 0 0 ∷ []))) 3 1 (16 ∷ []) (16 ∷ [])
     ∷ []
 
 -- THE CLAIM: every row of the table passes.

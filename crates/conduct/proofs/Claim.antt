@@ -24,7 +24,7 @@ use Rattle.runs.specs.Call.{Call, outcomeOf, allowed, allAllowed}
 use Rattle.runs.proofs.Asked.{open-yes}
 use Rattle.runs.proofs.Short.{formed-after}
 use Rattle.runs.proofs.Own.{OwnKept, own-kept}
-use Rattle.agreement.specs.Claim.{In}
+use Rattle.pending.specs.Buffer.{In}
 use Rattle.conduct.specs.Made.{Made, allMade, roundsSigned, madeRecords}
 use Rattle.conduct.specs.Claim.{ofRound, ConductClaim}
 use Rattle.conduct.proofs.Steps.{Did, neither, made, signed, did, all-made, made-records, all-signed}

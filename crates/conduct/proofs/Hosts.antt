@@ -11,7 +11,7 @@ use Rattle.record.proofs.Booleans.{never}
 use Rattle.protocol.specs.Journal.{among}
 use Rattle.replica.specs.Opening.{openState}
 use Rattle.agreement.specs.Model.{Model, modelOf}
-use Rattle.agreement.specs.Claim.{In}
+use Rattle.pending.specs.Buffer.{In}
 use Rattle.agreement.proofs.Claim.{agreement-claim}
 use Rattle.conduct.specs.Made.{madeRecords, roundsSigned}
 use Rattle.conduct.specs.Claim.{ofRound}

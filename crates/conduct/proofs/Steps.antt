@@ -23,10 +23,10 @@ use Rattle.proposing.specs.Signing.{signingRound, signRefusal, putOwnNoVote, si
 use Rattle.proposing.specs.Claims.{Passes}
 use Rattle.proposing.proofs.Passing.{made-passes}
 use Rattle.proposing.proofs.Kept.{marks-here, mark-here, signed-here, making-passed, signing-passed, signing-round}
-use Rattle.runs.specs.Call.{Call, opening, vertex, firstMessage, timeout, noVote, bundle, status, askLeaderList, askJournalList, handLeaderList}
-use Rattle.runs.specs.Call.{handJournalList, making, signing, outcomeOf}
+use Rattle.runs.specs.Call.{Call, opening, vertex, vertexWith, firstMessage, timeout, noVote, bundle, status, askLeaderList, askJournalList}
+use Rattle.runs.specs.Call.{handLeaderList, handJournalList, making, signing, outcomeOf}
 use Rattle.ordering.proofs.Turns.{outcome-zero}
-use Rattle.runs.proofs.Asked.{words-yes}
+use Rattle.ordering.proofs.Numbers.{words-yes}
 use Rattle.conduct.specs.Made.{Made, madeBy, signedBy, allMade, roundsSigned, madeRecords}
 
 -- the call c on the words l made a record
@@ -136,6 +136,7 @@ module _ (l : List ℕ) (S : WellFormed l) where
       (which (eqb (signNoVote l .number) 0))
   did (opening n own) = neither refl refl
   did (vertex rec) = neither refl refl
+  did (vertexWith s rec) = neither refl refl
   did (firstMessage rec) = neither refl refl
   did (timeout r p) = neither refl refl
   did (noVote r p) = neither refl refl

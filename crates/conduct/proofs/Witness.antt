@@ -29,11 +29,11 @@ use Rattle.ordering.specs.Calls.{sameBody, putVertex, carryTimeouts, isNew}
 use Rattle.proposing.specs.Own.{marksRound, markRound}
 use Rattle.proposing.specs.Making.{parentsIn, madeStrong, madeTimeouts, madeNoVotes, isUnreached, madeRecord, makingQuestions, proposeVertex}
 use Rattle.proposing.specs.Signing.{signingRound, maySign, putOwnNoVote}
-use Rattle.runs.specs.Call.{Call, opening, vertex, firstMessage, timeout, noVote, bundle, status, askLeaderList, askJournalList, handLeaderList}
-use Rattle.runs.specs.Call.{handJournalList, making, signing, outcomeOf, allAllowed}
+use Rattle.runs.specs.Call.{Call, opening, vertex, vertexWith, firstMessage, timeout, noVote, bundle, status, askLeaderList, askJournalList}
+use Rattle.runs.specs.Call.{handLeaderList, handJournalList, making, signing, outcomeOf, allAllowed}
 use Rattle.runs.proofs.Asked.{four, open-yes, open-taken}
 use Rattle.runs.proofs.Short.{line, listed, byList, commitBy, shortCommits, shortVertex, shortNote, shortMaking, shortMade, shortSigning, shortOf}
-use Rattle.runs.proofs.Short.{shortBundle, short-is, made-is, formed-after}
+use Rattle.runs.proofs.Short.{shortTake, shortBundle, short-is, made-is, formed-after}
 use Rattle.conduct.specs.Made.{Made, madeBy, signedBy, allMade, roundsSigned, madeRecords}
 use Rattle.conduct.specs.Witness.{own, start, first, voting, against, calls, Witness}
 
@@ -44,6 +44,7 @@ shortRecord : Call → List ℕ → List (List ℕ)
 shortRecord (making tag) l = cond (eqb (shortOf (making tag) l .number) 0) (shortMade l tag ∷ []) []
 shortRecord (opening n own) l = []
 shortRecord (vertex rec) l = []
+shortRecord (vertexWith s rec) l = []
 shortRecord (firstMessage rec) l = []
 shortRecord (timeout r p) l = []
 shortRecord (noVote r p) l = []
@@ -60,6 +61,7 @@ shortRound : Call → List ℕ → List ℕ
 shortRound signing l = cond (eqb (shortOf signing l .number) 0) (signingRound l ∷ []) []
 shortRound (opening n own) l = []
 shortRound (vertex rec) l = []
+shortRound (vertexWith s rec) l = []
 shortRound (firstMessage rec) l = []
 shortRound (timeout r p) l = []
 shortRound (noVote r p) l = []
@@ -92,6 +94,7 @@ module _ (l : List ℕ) (S : WellFormed l) where
       ∙ ap₂ (λ (o : Outcome) (x : List ℕ). cond (eqb (o .number) 0) (x ∷ []) []) (short-is l S (making tag)) (made-is l S tag)
   record-is (opening n own) = refl
   record-is (vertex rec) = refl
+  record-is (vertexWith s rec) = refl
   record-is (firstMessage rec) = refl
   record-is (timeout r p) = refl
   record-is (noVote r p) = refl
@@ -109,6 +112,7 @@ module _ (l : List ℕ) (S : WellFormed l) where
   round-is signing = ap (λ (o : Outcome). cond (eqb (o .number) 0) (signingRound l ∷ []) []) (short-is l S signing)
   round-is (opening n own) = refl
   round-is (vertex rec) = refl
+  round-is (vertexWith s rec) = refl
   round-is (firstMessage rec) = refl
   round-is (timeout r p) = refl
   round-is (noVote r p) = refl
@@ -154,7 +158,7 @@ both : List (List ℕ) × List ℕ
 both = (shortRecords (opened 4 own) calls, shortRounds (opened 4 own) calls)
 
 computed : both ≡ (first ∷ voting ∷ against ∷ [], 2 ∷ [])
-unfolding both shortRecords shortRounds shortRecord shortRound calls shortOf shortVertex shortNote shortBundle shortMaking shortMade shortSigning opened outcome
+unfolding both shortRecords shortRounds shortRecord shortRound calls shortOf shortTake shortVertex shortNote shortBundle shortMaking shortMade shortSigning opened outcome
     legal leader has within meets
     firstNo strongOf timeoutsOf noVotesOf weakCountOf weakOf isRound masksOk strongOk lacksLeader quorumIf timeoutsOk noVotesOk weakIdOk rises
     slotOk weakOk signerQuestions recordQuestions

@@ -10,7 +10,7 @@ use Rattle.protocol.specs.Journal.{among}
 use Rattle.replica.specs.Opening.{openState}
 use Rattle.proposing.specs.Claims.{Passes}
 use Rattle.runs.specs.Call.{Call, allAllowed}
-use Rattle.agreement.specs.Claim.{In}
+use Rattle.pending.specs.Buffer.{In}
 use Rattle.conduct.specs.Made.{Made, allMade, madeRecords, roundsSigned}
 
 -- how many of the records are of round r

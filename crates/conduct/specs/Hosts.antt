@@ -12,7 +12,8 @@ use Rattle.protocol.specs.Journal.{among}
 use Rattle.replica.specs.Opening.{openState}
 use Rattle.runs.specs.Call.{Call, run, allAllowed}
 use Rattle.agreement.specs.Model.{Model, modelOf}
-use Rattle.agreement.specs.Claim.{In, Twins, Vertex, First, Premises, Agreed}
+use Rattle.agreement.specs.Claim.{Twins, Vertex, First, Premises, Agreed}
+use Rattle.pending.specs.Buffer.{In}
 use Rattle.conduct.specs.Made.{madeRecords, roundsSigned}
 
 -- The models a and b hold, of the n members, what follows.

@@ -5,8 +5,8 @@ use Prim.Native.Nat.{ℕ}
 use lib.Dec.{eqb}
 use Rattle.proposing.specs.Making.{proposeVertex}
 use Rattle.proposing.specs.Signing.{signingRound, signNoVote}
-use Rattle.runs.specs.Call.{Call, opening, vertex, firstMessage, timeout, noVote, bundle, status, askLeaderList, askJournalList, handLeaderList}
-use Rattle.runs.specs.Call.{handJournalList, making, signing, outcomeOf}
+use Rattle.runs.specs.Call.{Call, opening, vertex, vertexWith, firstMessage, timeout, noVote, bundle, status, askLeaderList, askJournalList}
+use Rattle.runs.specs.Call.{handLeaderList, handJournalList, making, signing, outcomeOf}
 
 -- a record that making answered with the number 0, and the words of the state that made it
 pub record Made : Type 0 where
@@ -18,6 +18,7 @@ abbrev pub madeBy : Call → List ℕ → List Made
 madeBy (making tag) l = cond (eqb (proposeVertex l tag .outcome .number) 0) (record { state = l; words = proposeVertex l tag .made } ∷ []) []
 madeBy (opening n own) l = []
 madeBy (vertex rec) l = []
+madeBy (vertexWith s rec) l = []
 madeBy (firstMessage rec) l = []
 madeBy (timeout r p) l = []
 madeBy (noVote r p) l = []
@@ -34,6 +35,7 @@ abbrev pub signedBy : Call → List ℕ → List ℕ
 signedBy signing l = cond (eqb (signNoVote l .number) 0) (signingRound l ∷ []) []
 signedBy (opening n own) l = []
 signedBy (vertex rec) l = []
+signedBy (vertexWith s rec) l = []
 signedBy (firstMessage rec) l = []
 signedBy (timeout r p) l = []
 signedBy (noVote r p) l = []

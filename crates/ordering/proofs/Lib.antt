@@ -2,6 +2,7 @@ pub mod Rule
 pub mod Copying
 pub mod Missing
 pub mod Turns
+pub mod Numbers
 pub mod Bundled
 pub mod Writing
 pub mod Marks

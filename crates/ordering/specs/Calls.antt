@@ -34,6 +34,11 @@ placeQuestions l r p body =
     ∷ (parentsHeld l r body, MissingParent (least idLimit (missing l r body)))
     ∷ []
 
+-- questions 4 to 14, of a record among n members
+abbrev pub admissionQuestions : List ℕ → ℕ → List ℕ → List Question
+admissionQuestions l n rec =
+    recordQuestions n (roundOf rec) (sourceOf rec) (bodyOf rec) ++ placeQuestions l (roundOf rec) (sourceOf rec) (bodyOf rec)
+
 abbrev pub vertexQuestions : List ℕ → ℕ → ℕ → List ℕ → List Question
 vertexQuestions l r p body = stateQuestions l ++ (recordQuestions (memberCount l) r p body ++ placeQuestions l r p body)
 

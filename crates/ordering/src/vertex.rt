@@ -11,8 +11,8 @@ ghost use Rattle.replica.specs.Layout.{stateSize};
 ghost use Rattle.replica.specs.Outcome.{told};
 ghost use Rattle.commits.specs.Commit.{raiseRound};
 ghost use Rattle.commits.specs.Standing.{GroupOf};
-ghost use Rattle.ordering.specs.Calls.{sameBody, placeQuestions, putVertex, carryTimeouts, takeVertex};
-ghost use Rattle.ordering.specs.Inner.{Placing, admissionQuestions};
+ghost use Rattle.ordering.specs.Calls.{sameBody, placeQuestions, admissionQuestions, putVertex, carryTimeouts, takeVertex};
+ghost use Rattle.ordering.specs.Inner.{Placing, Unstopped};
 use super::search::NONE;
 use super::search::first_missing;
 use super::steps::settle;
@@ -102,7 +102,7 @@ fn advance(state: &mut [u32], n: u32, quorum: u32, round: u32, mask: u32)
 }
 
 // Questions 12 to 14, of a vertex that the record's questions admit.
-fn check_place(state: &[u32], n: u32, round: u32, source: u32, body: &[u32]) -> Refusal
+pub fn check_place(state: &[u32], n: u32, round: u32, source: u32, body: &[u32]) -> Refusal
     requires { ⌜ Placing (now state) n round source (now body) ⌝ }
     ensures { λ r. ⌜ r ≡ firstNo (placeQuestions (now (state .entry)) round source (now (body .entry))) ⌝ }
 {
@@ -120,7 +120,7 @@ fn check_place(state: &[u32], n: u32, round: u32, source: u32, body: &[u32]) -> 
 }
 
 // Questions 4 to 14, of a vertex for a state whose own questions are passed.
-fn check_vertex(state: &[u32], n: u32, quorum: u32, rec: &[u32]) -> Refusal
+pub fn check_vertex(state: &[u32], n: u32, quorum: u32, rec: &[u32]) -> Refusal
     requires { ⌜ (length (now state) ≡ stateSize) × (legal n ≡ true) × QuorumOf n quorum ⌝ }
     ensures { λ r. ⌜ r ≡ firstNo (admissionQuestions (now (state .entry)) n (now (rec .entry))) ⌝ }
 {
@@ -129,6 +129,16 @@ fn check_vertex(state: &[u32], n: u32, quorum: u32, rec: &[u32]) -> Refusal
         return why;
     }
     check_place(state, n, rec[ROUND], rec[SOURCE], &rec[BODY..RECORD_SIZE])
+}
+
+// What follows when no question stops a vertex.
+pub fn admit_vertex(state: &mut [u32], n: u32, quorum: u32, rec: &[u32]) -> Answer
+    requires { ⌜ Unstopped (now state) n quorum (now rec) ⌝ }
+    ensures { λ r. ⌜ told r (now (state .exit)) ≡ takeVertex (now (state .entry)) (now (rec .entry)) ⌝ }
+{
+    put_vertex(state, rec[ROUND], rec[SOURCE], &rec[BODY..RECORD_SIZE]);
+    advance(state, n, quorum, rec[ROUND], rec[BODY + RECORD_TIMEOUTS]);
+    settle(state, n, quorum)
 }
 
 // Takes a vertex. The quorum is worked out once, for the questions, the round rule and the commits.
@@ -145,7 +155,5 @@ pub fn take_vertex(state: &mut [u32], rec: &[u32]) -> Answer
     if number(refused) != 0 {
         return refuse(refused);
     }
-    put_vertex(state, rec[ROUND], rec[SOURCE], &rec[BODY..RECORD_SIZE]);
-    advance(state, n, quorum, rec[ROUND], rec[BODY + RECORD_TIMEOUTS]);
-    settle(state, n, quorum)
+    admit_vertex(state, n, quorum, rec)
 }

@@ -14,9 +14,9 @@ use Rattle.record.specs.Layout.{strongOf, timeoutsOf, noVotesOf, weakCou
 use Rattle.record.specs.Questions.{masksOk, strongOk, lacksLeader, quorumIf, timeoutsOk, noVotesOk, weakIdOk, rises, slotOk, weakOk}
 use Rattle.record.specs.Questions.{signerQuestions, recordQuestions}
 use Rattle.record.specs.Handed.{handedIf}
-use Rattle.record.specs.Admitted.{SignerLaw, AdmittedLaw, NumberedLaw}
+use Rattle.record.specs.Admitted.{SignerLaw, AdmittedLaw, NumberedLaw, LastNumberLaw}
 use Rattle.record.specs.declared.refusal.Refusal.{Refusal}
-use Rattle.record.specs.declared.refusal.Refusal.the-variants.{None, RecordSize}
+use Rattle.record.specs.declared.refusal.Refusal.the-variants.{None, RecordSize, Weak}
 use Rattle.record.proofs.Booleans.{never, and-left, and-right, and-both, cond-true, cond-false}
 use Rattle.record.proofs.Below.{all-elim}
 use Rattle.record.proofs.Rounds.{round-in, round-range}
@@ -64,6 +64,22 @@ both-fronts ((false, why) ∷ xs) ys n h = never (and-left (not (eqb (numberOf w
 pub numbered-law : NumberedLaw
 unfolding numbered signerQuestions recordQuestions
 numbered-law n round source = (refl, λ body. refl)
+
+-- every question has a refusal with a number of at most k
+unfoldable upTo : ℕ → List Question → Bool
+upTo k [] = true
+upTo k (q ∷ rest) = leb (numberOf (q .1)) k && upTo k rest
+
+up-to : (k : ℕ) (xs : List Question) → upTo k xs ≡ true → numberOf (firstNo xs) ≤ k
+unfolding firstNo upTo
+up-to k [] e = omega arith
+up-to k ((true, why) ∷ xs) e = up-to k xs (and-right (leb (numberOf why) k) _ e)
+up-to k ((false, why) ∷ xs) e = leb-true (numberOf why) k (and-left _ _ e)
+
+-- so those of a record with one of at most 11
+pub last-number-law : LastNumberLaw
+unfolding upTo signerQuestions recordQuestions
+last-number-law n round source body = up-to (numberOf Weak) (recordQuestions n round source body) refl
 
 -- where questions 4 to 6 are answered yes, those from 7 on decide
 pub known : (n round source : ℕ) (body : List ℕ) (rest : List Question) {r : Refusal} → 1 ≤ round → round ≤ rounds → source < n → length body ≡ bodySize

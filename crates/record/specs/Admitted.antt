@@ -11,6 +11,7 @@ use Rattle.record.specs.Refusals.{numberOf, numbered}
 use Rattle.record.specs.Layout.{bodySize, strongOf, timeoutsOf, noVotesOf, weakCountOf, weakOf, weakSlots, recordWords}
 use Rattle.record.specs.Questions.{signerQuestions, recordQuestions, signerRefusal, bodyRefusal, recordRefusal}
 use Rattle.record.specs.Questions.{strongOk, lacksLeader, quorumIf}
+use Rattle.record.specs.declared.refusal.Refusal.the-variants.{Weak}
 
 -- a round, and a member of the group
 pub record Placed (n round member : ℕ) : Type 0 where
@@ -73,3 +74,7 @@ ComposedLaw = (n round source strong timeouts noVotes tag : ℕ) (weak : List �
 abbrev pub NumberedLaw : Type 0
 NumberedLaw = (n round source : ℕ) → (numbered (signerQuestions n round source) ≡ true)
     × ((body : List ℕ) → numbered (recordQuestions n round source body) ≡ true)
+
+-- and no record's is above 11
+abbrev pub LastNumberLaw : Type 0
+LastNumberLaw = (n round source : ℕ) (body : List ℕ) → numberOf (bodyRefusal n round source body) ≤ numberOf Weak

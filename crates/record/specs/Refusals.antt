@@ -6,7 +6,7 @@ use lib.Dec.{eqb}
 use Rattle.record.specs.declared.refusal.Refusal.{Refusal}
 use Rattle.record.specs.declared.refusal.Refusal.the-variants.{None, StateSize, MemberCount, Malformed, RecordSize, Round, Source, MaskBits}
 use Rattle.record.specs.declared.refusal.Refusal.the-variants.{Strong, Timeouts, NoVotes, Weak, Duplicate, Conflict, MissingParent, PastEnd}
-use Rattle.record.specs.declared.refusal.Refusal.the-variants.{Watcher, Signing, FewParents}
+use Rattle.record.specs.declared.refusal.Refusal.the-variants.{Watcher, Signing, FewParents, Buffer, BufferFull}
 
 -- the paper's number
 abbrev pub numberOf : Refusal → ℕ
@@ -29,6 +29,8 @@ numberOf PastEnd = 15
 numberOf Watcher = 16
 numberOf Signing = 17
 numberOf FewParents = 18
+numberOf Buffer = 19
+numberOf BufferFull = 20
 
 -- the id that goes with the number: with 14 the missing parent's, and else 0
 abbrev pub idIn : Refusal → ℕ
@@ -51,6 +53,15 @@ idIn PastEnd = 0
 idIn Watcher = 0
 idIn Signing = 0
 idIn FewParents = 0
+idIn Buffer = 0
+idIn BufferFull = 0
+
+-- the number of a missing parent, of whatever id
+abbrev pub missingNumber : ℕ
+missingNumber = numberOf (MissingParent 0)
+
+abbrev pub isMissing : Refusal → Bool
+isMissing why = eqb (numberOf why) missingNumber
 
 -- a question: its answer, and the refusal if that is no
 abbrev pub Question : Type 0

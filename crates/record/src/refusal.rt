@@ -1,6 +1,6 @@
 // The answers' named refusals.
 ghost use mathlib.Core.Path.{_≡_};
-ghost use Rattle.record.specs.Refusals.{numberOf, idIn};
+ghost use Rattle.record.specs.Refusals.{numberOf, idIn, isMissing};
 
 pub enum Refusal {
     None,
@@ -22,6 +22,8 @@ pub enum Refusal {
     Watcher,
     Signing,
     FewParents,
+    Buffer,
+    BufferFull,
 }
 
 // The paper's number.
@@ -48,6 +50,8 @@ pub fn number(why: Refusal) -> u32
         Refusal::Watcher => 16,
         Refusal::Signing => 17,
         Refusal::FewParents => 18,
+        Refusal::Buffer => 19,
+        Refusal::BufferFull => 20,
     }
 }
 
@@ -75,5 +79,14 @@ pub fn missing_id(why: Refusal) -> u32
         Refusal::Watcher => 0,
         Refusal::Signing => 0,
         Refusal::FewParents => 0,
+        Refusal::Buffer => 0,
+        Refusal::BufferFull => 0,
     }
+}
+
+// The refusal is that of a missing parent, of whatever id.
+pub fn is_missing(why: Refusal) -> bool
+    ensures { λ r. ⌜ r ≡ isMissing why ⌝ }
+{
+    number(why) == number(Refusal::MissingParent(0))
 }

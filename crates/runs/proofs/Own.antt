@@ -6,18 +6,20 @@ use Prim.Native.Nat.{ℕ}
 use native.Mathlib.Omega.{arith}
 use borrow.Author.Tests.{not-true}
 use Rattle.record.specs.Members.{add}
+use Rattle.record.specs.Layout.{roundOf, sourceOf, bodyOf}
 use Rattle.replica.specs.Layout.{memberCountAt, ownAt, madeAt, signedAt}
 use Rattle.replica.specs.State.{memberCount, currentRound, ownWord, madeRounds, signedRounds}
 use Rattle.replica.proofs.Formed.{WellFormed}
-use Rattle.replica.proofs.Keeping.{Keeps, keeps-refl}
+use Rattle.replica.proofs.Keeping.{Keeps, keeps-refl, keeps-trans}
 use Rattle.ordering.proofs.Turns.{outcome-words}
 use Rattle.ordering.proofs.Own.{Fixed, fixed-members, fixed-own, vertex-fixed, first-fixed, timeout-fixed, no-vote-fixed, bundle-fixed}
+use Rattle.pending.proofs.Claims.{with-keeps}
 use Rattle.proposing.specs.Own.{marksRound, wasMade, wasSigned, markRound}
 use Rattle.proposing.specs.Making.{proposeVertex}
 use Rattle.proposing.specs.Signing.{signingRound, putOwnNoVote, signNoVote}
 use Rattle.proposing.proofs.Kept.{marks-more, mark-here, mark-other, signed-here, signed-other}
-use Rattle.runs.specs.Call.{Call, opening, vertex, firstMessage, timeout, noVote, bundle, status, askLeaderList, askJournalList, handLeaderList}
-use Rattle.runs.specs.Call.{handJournalList, making, signing, outcomeOf, allowed}
+use Rattle.runs.specs.Call.{Call, opening, vertex, vertexWith, firstMessage, timeout, noVote, bundle, status, askLeaderList, askJournalList}
+use Rattle.runs.specs.Call.{handLeaderList, handJournalList, making, signing, outcomeOf, allowed}
 use Rattle.runs.proofs.Asked.{open-no}
 
 -- the words k that the call c leaves of the words l
@@ -92,6 +94,8 @@ module _ (l : List ℕ) (S : WellFormed l) where
   unfolding proposeVertex signNoVote
   own-kept (opening n own) ok = rw (open-no l n own (not-true _ ok)) (none-changed (opening n own) l)
   own-kept (vertex rec) ok = all-kept (vertex rec) l _ (vertex-fixed l S _ _ _)
+  own-kept (vertexWith s rec) ok = all-kept (vertexWith s rec) l _ (with-keeps (Keeps Fixed l)
+      (λ k x T h. keeps-trans Fixed l k _ h (vertex-fixed k T (roundOf x) (sourceOf x) (bodyOf x))) l s rec (keeps-refl Fixed l))
   own-kept (firstMessage rec) ok = all-kept (firstMessage rec) l _ (first-fixed l S _ _ _)
   own-kept (timeout r p) ok = all-kept (timeout r p) l _ (timeout-fixed l r p)
   own-kept (noVote r p) ok = all-kept (noVote r p) l _ (no-vote-fixed l r p)

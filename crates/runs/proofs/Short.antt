@@ -1,6 +1,6 @@
 -- Lists of calls on a formed state. Questions 1 and 3 are answered yes there, and every call leaves a formed state, so a list of calls is computed without
 -- them. Assumes nothing.
-use mathlib.Core.Path.{_≡_, refl, sym, ap, _∙_}
+use mathlib.Core.Path.{_≡_, refl, sym, ap, ap₂, _∙_}
 use mathlib.Core.Bool.{true, false, cond, not, _&&_}
 use mathlib.Core.Logic.{_⊎_, inl, inr, ⊎-elim}
 use mathlib.Core.List.{List, [], _∷_, _++_}
@@ -14,7 +14,7 @@ use Rattle.record.specs.Refusals.{numberOf, Question, firstNo}
 use Rattle.record.specs.Layout.{roundOf, sourceOf, bodyOf}
 use Rattle.record.specs.Questions.{signerQuestions, recordQuestions}
 use Rattle.record.specs.declared.refusal.Refusal.{Refusal}
-use Rattle.record.specs.declared.refusal.Refusal.the-variants.{MemberCount, Source, PastEnd, Duplicate, Watcher}
+use Rattle.record.specs.declared.refusal.Refusal.the-variants.{MemberCount, Source, PastEnd, Duplicate, Watcher, Buffer}
 use Rattle.record.proofs.Booleans.{which, and-left, and-right, cond-true, cond-false}
 use Rattle.record.proofs.Turn.{next, done}
 use Rattle.protocol.specs.Dag.{Records}
@@ -33,16 +33,23 @@ use Rattle.replica.specs.declared.answer.Status.{Status}
 use Rattle.replica.proofs.Formed.{WellFormed, formed, well-formed}
 use Rattle.replica.proofs.Opened.{opened-formed}
 use Rattle.commits.specs.Commit.{raiseRound, appendLeaders, orderLeaders, commit, lowest, commitUpTo}
-use Rattle.ordering.specs.Calls.{placeQuestions, takeBody, hear, takeFirstBody, takeTimeout, takeNoVote, bundleQuestions, takeTimeouts}
+use Rattle.ordering.specs.Calls.{placeQuestions, admissionQuestions, takeVertex, takeBody, hear, takeFirstBody, takeTimeout, takeNoVote, bundleQuestions, takeTimeouts}
 use Rattle.ordering.proofs.Carried.{written}
 use Rattle.ordering.proofs.Kept.{keeps}
+use Rattle.ordering.proofs.Numbers.{past-state}
+use Rattle.pending.specs.Buffer.{recordsIn, bufferOk}
+use Rattle.pending.specs.Passes.{Trial, Passed, ahead, followedBy, isNone, pass, passes, release}
+use Rattle.pending.specs.Early.{inPlace, refusalWith, fateOf, tryVertex, Ending, admittedWith, refusedWith, takeVertexWith}
+use Rattle.pending.proofs.Passing.{vertex-formed, ahead-after}
+use Rattle.pending.proofs.Claims.{keeps-state}
 use Rattle.proposing.specs.Own.{isMember, markRound}
 use Rattle.proposing.specs.Making.{makingQuestions, madeRecord, noRecord, proposeVertex}
 use Rattle.proposing.specs.Signing.{signingRound, signingQuestions, putOwnNoVote, signNoVote}
 use Rattle.proposing.proofs.Kept.{own-keeps}
-use Rattle.runs.specs.Call.{Call, opening, vertex, firstMessage, timeout, noVote, bundle, status, askLeaderList, askJournalList, handLeaderList}
-use Rattle.runs.specs.Call.{handJournalList, making, signing, reading, outcomeOf, Given, nothing, head, part, made, givenOf, run}
-use Rattle.runs.proofs.Asked.{open-yes, open-no, open-taken, past-state}
+use Rattle.runs.specs.Call.{Call, opening, vertex, vertexWith, firstMessage, timeout, noVote, bundle, status, askLeaderList, askJournalList}
+use Rattle.runs.specs.Call.{handLeaderList, handJournalList, making, signing, reading, outcomeOf, Given, nothing, head, part, made, buffered, givenOf}
+use Rattle.runs.specs.Call.{run}
+use Rattle.runs.proofs.Asked.{open-yes, open-no, open-taken}
 
 -- ---- commits that look each cell up once
 
@@ -136,10 +143,27 @@ shortMade l tag = cond (eqb (numberOf (shortMaking l)) 0) (madeRecord l tag) noR
 unfoldable pub shortSigning : List ℕ → Refusal
 shortSigning l = firstNo ((isMember l, Watcher) ∷ signingQuestions l)
 
+-- of a vertex with a pending buffer: the refusal, a waiting record tried, and the end
+unfoldable pub shortWith : List ℕ → List ℕ → List ℕ → Refusal
+shortWith l s rec = inPlace (recordsIn s) rec (firstNo ((bufferOk (memberCount l) s, Buffer) ∷ admissionQuestions l (memberCount l) rec))
+
+unfoldable pub shortTake : List ℕ → List ℕ → Outcome
+shortTake l rec = outcome (shortVertex l rec) l (shortCommits (raiseRound (written l (roundOf rec) (sourceOf rec) (bodyOf rec))) 31)
+
+unfoldable pub shortTry : List ℕ → List ℕ → Trial (List ℕ)
+shortTry l rec = record { fate = fateOf (shortTake l rec .number); after = shortTake l rec .words }
+
+unfoldable pub shortEnding : List ℕ → List ℕ → List ℕ → Ending
+shortEnding l s rec =
+    cond (eqb (numberOf (shortWith l s rec)) 0)
+    (admittedWith l (release shortTry (shortTake l rec .words) (recordsIn s)))
+    (refusedWith (shortWith l s rec) l s rec)
+
 -- the outcomes
 unfoldable pub shortOf : Call → List ℕ → Outcome
 shortOf (opening n own) l = outcome (firstNo ((legal n, MemberCount) ∷ (leb own n, Source) ∷ [])) l (opened n own)
-shortOf (vertex rec) l = outcome (shortVertex l rec) l (shortCommits (raiseRound (written l (roundOf rec) (sourceOf rec) (bodyOf rec))) 31)
+shortOf (vertex rec) l = shortTake l rec
+shortOf (vertexWith s rec) l = shortEnding l s rec .outcome
 shortOf (firstMessage rec) l = outcome (shortFirst l rec) l (shortCommits (hear l (roundOf rec) (sourceOf rec) (bodyOf rec)) 31)
 shortOf (timeout r p) l = outcome (shortNote l r p (timeoutsMask l r)) l (raiseRound (addMember l (timeoutsAt r) p))
 shortOf (noVote r p) l = outcome (shortNote l r p (noVotesMask l r)) l (addMember l (noVotesAt r) p)
@@ -156,6 +180,7 @@ shortOf signing l = outcome (shortSigning l) l (putOwnNoVote l (signingRound l))
 unfoldable pub shortGiven : Call → List ℕ → Given
 shortGiven (opening n own) l = nothing
 shortGiven (vertex rec) l = nothing
+shortGiven (vertexWith s rec) l = buffered (shortEnding l s rec .buffer)
 shortGiven (firstMessage rec) l = nothing
 shortGiven (timeout r p) l = nothing
 shortGiven (noVote r p) l = nothing
@@ -174,6 +199,47 @@ unfolding headIf
 status-number why l =
     ⊎-elim (λ e. ap (λ (s : Status). numberOf (s .refusal)) (cond-true _ _ e)) (λ e. ap (λ (s : Status). numberOf (s .refusal)) (cond-false _ _ e))
     (which (eqb (numberOf why) 0))
+
+-- two ways to try a record that do the same where P holds, and keep it, pass alike
+module _ (f g : List ℕ → List ℕ → Trial (List ℕ)) (P : List ℕ → Type 0) (same : (k rec : List ℕ) → P k → f k rec ≡ g k rec)
+    (kept : (k rec : List ℕ) → P k → P (f k rec .after)) where
+  pass-alike : (recs : List (List ℕ)) (l : List ℕ) → P l → (pass f l recs ≡ pass g l recs) × P (pass f l recs .after)
+  unfolding pass
+  pass-alike [] l x = (refl, x)
+  pass-alike (rec ∷ recs) l x =
+      let w = pass-alike recs (f l rec .after) (kept l rec x) in
+      let e = same l rec x in (
+        ap (ahead rec (f l rec .fate)) (w .0) ∙ ap (λ (t : Trial (List ℕ)). ahead rec (t .fate) (pass g (t .after) recs)) e,
+        rw (ahead-after rec (f l rec .fate) (pass f (f l rec .after) recs)) (w .1),
+      )
+
+  passes-alike : (k : ℕ) (recs : List (List ℕ)) (l : List ℕ) → P l → passes f k l recs ≡ passes g k l recs
+  unfolding passes
+  passes-alike zero recs l x = refl
+  passes-alike (suc k) recs l x =
+      let w = pass-alike recs l x in
+      ap (λ (q : Passed (List ℕ)). cond (isNone (pass f l recs .admitted)) (pass f l recs) (followedBy (pass f l recs) q))
+      (passes-alike k (pass f l recs .waiting) (pass f l recs .after) (w .1))
+      ∙ ap (λ (p : Passed (List ℕ)). cond (isNone (p .admitted)) p (followedBy p (passes g k (p .after) (p .waiting)))) (w .0)
+
+-- a vertex on a formed state
+take-is : (l : List ℕ) → WellFormed l → (rec : List ℕ) → takeVertex l rec ≡ shortTake l rec
+unfolding shortTake shortVertex takeBody
+take-is l S rec =
+    ap (λ (why : Refusal). outcome why l (commitUpTo (raiseRound (written l (roundOf rec) (sourceOf rec) (bodyOf rec))) 31)) (sym (past-state l _ S))
+    ∙ ap (outcome (shortVertex l rec) l) (commits-are 31 _)
+
+-- a vertex with a pending buffer
+ending-is : (l : List ℕ) → WellFormed l → (s rec : List ℕ) → takeVertexWith l s rec ≡ shortEnding l s rec
+unfolding takeVertexWith shortEnding shortWith shortTry
+ending-is l S s rec =
+    let why : refusalWith l s rec ≡ shortWith l s rec = ap (inPlace (recordsIn s) rec) (sym (past-state l _ S)) in
+    let words : takeVertex l rec .words ≡ shortTake l rec .words = ap (λ (o : Outcome). o .words) (take-is l S rec) in
+    let tries = passes-alike tryVertex shortTry WellFormed
+    (λ k x T. ap (λ (o : Outcome). record { fate = fateOf (o .number); after = o .words }) (take-is k T x)) (λ k x T. vertex-formed k x T)
+    (suc (length (recordsIn s))) (recordsIn s) (takeVertex l rec .words) (vertex-formed l rec S) in
+    ap₂ (λ (x : Refusal) (p : Passed (List ℕ)). cond (eqb (numberOf x) 0) (admittedWith l p) (refusedWith x l s rec)) why
+    (tries ∙ ap (λ (k : List ℕ). release shortTry k (recordsIn s)) words)
 
 module _ (l : List ℕ) (S : WellFormed l) where
   -- the questions of the state are passed over
@@ -194,7 +260,8 @@ module _ (l : List ℕ) (S : WellFormed l) where
   unfolding shortOf shortVertex shortFirst shortNote shortBundle shortList shortMaking shortSigning openState takeBody takeFirstBody takeTimeout
       takeNoVote takeTimeouts proposeVertex signNoVote
   short-is (opening n own) = ap (λ (why : Refusal). outcome why l (opened n own)) (sym (next _ _ (eq-eqb (length l) stateSize (S .size)) refl))
-  short-is (vertex rec) = past _ _ ∙ ap (outcome (shortVertex l rec) l) (commits-are 31 _)
+  short-is (vertex rec) = take-is l S rec
+  short-is (vertexWith s rec) = ap (λ (e : Ending). e .outcome) (ending-is l S s rec)
   short-is (firstMessage rec) = past _ _ ∙ ap (outcome (shortFirst l rec) l) (commits-are 31 _)
   short-is (timeout r p) = past _ _
   short-is (noVote r p) = past _ _
@@ -217,6 +284,7 @@ module _ (l : List ℕ) (S : WellFormed l) where
   unfolding shortGiven
   given-is (opening n own) = refl
   given-is (vertex rec) = refl
+  given-is (vertexWith s rec) = ap (λ (e : Ending). buffered (e .buffer)) (ending-is l S s rec)
   given-is (firstMessage rec) = refl
   given-is (timeout r p) = refl
   given-is (noVote r p) = refl
@@ -245,6 +313,7 @@ module _ (l : List ℕ) (S : WellFormed l) where
   pub formed-after : (c : Call) → WellFormed (outcomeOf c l .words)
   formed-after (opening n own) = formed-opening n own (which (legal n && leb own n))
   formed-after (vertex rec) = formed-kept _ (keeps l (S .size) (well-formed l S) .0 _ _ _)
+  formed-after (vertexWith s rec) = formed-kept _ (keeps-state l s rec (S .size, well-formed l S))
   formed-after (firstMessage rec) = formed-kept _ (keeps l (S .size) (well-formed l S) .1 _ _ _)
   formed-after (timeout r p) = formed-kept _ (keeps l (S .size) (well-formed l S) .2 r p)
   formed-after (noVote r p) = formed-kept _ (keeps l (S .size) (well-formed l S) .3 r p)

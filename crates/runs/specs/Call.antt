@@ -12,6 +12,7 @@ use Rattle.replica.specs.Place.{Span, wordsIn}
 use Rattle.replica.specs.Lists.{askLeaders, askJournal, handLeaders, handJournal}
 use Rattle.replica.specs.declared.answer.Status.{Status}
 use Rattle.ordering.specs.Calls.{takeVertex, takeFirstMessage, takeTimeout, takeNoVote, takeTimeouts}
+use Rattle.pending.specs.Early.{takeVertexWith}
 use Rattle.proposing.specs.Making.{proposeVertex}
 use Rattle.proposing.specs.Signing.{signNoVote}
 
@@ -19,6 +20,8 @@ use Rattle.proposing.specs.Signing.{signNoVote}
 pub data Call : Type 0 where
   opening : ℕ → ℕ → Call
   vertex : List ℕ → Call
+  -- with a pending buffer: its words as lent, and the record
+  vertexWith : List ℕ → List ℕ → Call
   firstMessage : List ℕ → Call
   timeout : ℕ → ℕ → Call
   noVote : ℕ → ℕ → Call
@@ -39,6 +42,7 @@ reading number l = record { number = number; id = 0; leaders = 0; journal = 0; w
 abbrev pub outcomeOf : Call → List ℕ → Outcome
 outcomeOf (opening n own) l = openState l n own
 outcomeOf (vertex rec) l = takeVertex l rec
+outcomeOf (vertexWith s rec) l = takeVertexWith l s rec .outcome
 outcomeOf (firstMessage rec) l = takeFirstMessage l rec
 outcomeOf (timeout r p) l = takeTimeout l r p
 outcomeOf (noVote r p) l = takeNoVote l r p
@@ -51,16 +55,19 @@ outcomeOf (handJournalList k) l = reading (handJournal l k .number) l
 outcomeOf (making tag) l = proposeVertex l tag .outcome
 outcomeOf signing l = signNoVote l
 
--- what it gives beside its outcome: status the struct, handing over a part of the words l, as its span and its words, and making the record
+-- what it gives beside its outcome: status the struct, handing over a part of the words l, as its span and its words, making the record, and a
+-- vertex with a pending buffer the words that it leaves of that
 pub data Given : Type 0 where
   nothing : Given
   head : Status → Given
   part : Span → List ℕ → Given
   made : List ℕ → Given
+  buffered : List ℕ → Given
 
 abbrev pub givenOf : Call → List ℕ → Given
 givenOf (opening n own) l = nothing
 givenOf (vertex rec) l = nothing
+givenOf (vertexWith s rec) l = buffered (takeVertexWith l s rec .buffer)
 givenOf (firstMessage rec) l = nothing
 givenOf (timeout r p) l = nothing
 givenOf (noVote r p) l = nothing
@@ -82,6 +89,7 @@ run l (c ∷ calls) = run (outcomeOf c l .words) calls
 abbrev pub allowed : Call → Bool
 allowed (opening n own) = not (legal n && leb own n)
 allowed (vertex rec) = true
+allowed (vertexWith s rec) = true
 allowed (firstMessage rec) = true
 allowed (timeout r p) = true
 allowed (noVote r p) = true

@@ -7,9 +7,10 @@ use Rattle.replica.specs.Outcome.{Outcome, told}
 use Rattle.replica.specs.Lists.{askList, handList}
 use Rattle.replica.proofs.ListLaws.{list-ok, counted, span-none, span-some}
 use Rattle.replica.specs.declared.answer.Answer as inner
+use Rattle.pending.specs.Early.{Ending, toldWith}
 use Rattle.proposing.specs.Making.{Proposed, toldProposal}
 use Rattle.proposing.specs.declared.making.Proposal as within
-use Rattle.yardbook.specs.Plain.{plain, plainOf, proposed, proposalPlain}
+use Rattle.yardbook.specs.Plain.{plain, plainWith, plainOf, proposed, proposalPlain}
 use Rattle.yardbook.specs.declared.answer.Answer.{Answer}
 use Rattle.yardbook.specs.declared.answer.Proposal.{Proposal}
 use Rattle.replica.specs.Layout.{stateSize, journalSize, leaderCountAt, journalCountAt}
@@ -21,6 +22,10 @@ answered a r l o e d = ap (λ (x : Answer). plain x l) e ∙ d
 -- so its number is the outcome's
 pub numbered : (a : inner.Answer) (r : Answer) (l : List ℕ) (o : Outcome) → r ≡ plainOf a → told a l ≡ o → r .number ≡ o .number
 numbered a r l o e d = ap (λ (x : Outcome). x .number) (answered a r l o e d)
+
+-- so with a pending buffer
+pub answered-with : (a : inner.Answer) (r : Answer) (l s : List ℕ) (e : Ending) → r ≡ plainOf a → toldWith a l s ≡ e → plainWith r l s ≡ e
+answered-with a r l s e d f = ap (λ (x : Answer). plainWith x l s) d ∙ f
 
 -- so for a proposal
 pub answered-proposal : (p : within.Proposal) (r : Proposal) (l : List ℕ) (o : Proposed) → r ≡ proposalPlain p → toldProposal p l ≡ o → proposed r l ≡ o

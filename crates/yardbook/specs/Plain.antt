@@ -6,6 +6,7 @@ use Rattle.replica.specs.Outcome.{Outcome}
 use Rattle.replica.specs.Place.{Span}
 use Rattle.replica.specs.declared.answer.Answer as inner
 use Rattle.replica.specs.declared.answer.Status as inside
+use Rattle.pending.specs.Early.{Ending}
 use Rattle.proposing.specs.Making.{Proposed}
 use Rattle.proposing.specs.declared.making.Proposal as within
 use Rattle.yardbook.specs.declared.answer.Answer.{Answer}
@@ -16,6 +17,10 @@ use Rattle.yardbook.specs.declared.answer.Proposal.{Proposal}
 -- the outcome that an answer and the words at exit say
 abbrev pub plain : Answer → List ℕ → Outcome
 plain a l = record { number = a .number; id = a .id; leaders = a .leaders; journal = a .journal; words = l }
+
+-- so with the words of a pending buffer
+abbrev pub plainWith : Answer → List ℕ → List ℕ → Ending
+plainWith a l s = record { outcome = plain a l; buffer = s }
 
 -- so for a proposal
 abbrev pub proposed : Proposal → List ℕ → Proposed

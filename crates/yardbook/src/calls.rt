@@ -7,9 +7,10 @@ ghost use Rattle.replica.specs.Opening.{openState};
 ghost use Rattle.replica.specs.Status.{statusOf};
 ghost use Rattle.replica.specs.Lists.{askList, askLeaders, askJournal, handList, handLeaders, handJournal};
 ghost use Rattle.ordering.specs.Calls.{takeVertex, takeFirstMessage, takeTimeout, takeNoVote, takeTimeouts};
+ghost use Rattle.pending.specs.Early.{takeVertexWith};
 ghost use Rattle.proposing.specs.Making.{proposeVertex};
 ghost use Rattle.proposing.specs.Signing.{signNoVote};
-ghost use Rattle.yardbook.specs.Plain.{plain, proposed, statusPlain, spanOf};
+ghost use Rattle.yardbook.specs.Plain.{plain, plainWith, proposed, statusPlain, spanOf};
 use super::answer::Answer;
 use super::answer::Part;
 use super::answer::Proposal;
@@ -22,6 +23,7 @@ use ordering::first::take_first_message;
 use ordering::notes::take_no_vote;
 use ordering::notes::take_timeout;
 use ordering::vertex::take_vertex;
+use pending::early::take_vertex_with;
 use proposing::making::propose;
 use proposing::signing::sign_no_vote;
 use replica::layout::JOURNAL;
@@ -45,6 +47,18 @@ pub extern "C" fn yardbook_take_vertex(state: &mut [u32], rec: &[u32]) -> Answer
     ensures { λ r. ⌜ plain r (now (state .exit)) ≡ takeVertex (now (state .entry)) (now (rec .entry)) ⌝ }
 {
     plain_answer(take_vertex(state, rec))
+}
+
+#[no_mangle]
+pub extern "C" fn yardbook_take_vertex_with(
+    state: &mut [u32],
+    buffer: &mut [u32],
+    rec: &[u32],
+) -> Answer
+    ensures { λ r. ⌜ plainWith r (now (state .exit)) (now (buffer .exit))
+        ≡ takeVertexWith (now (state .entry)) (now (buffer .entry)) (now (rec .entry)) ⌝ }
+{
+    plain_answer(take_vertex_with(state, buffer, rec))
 }
 
 #[no_mangle]

@@ -1,0 +1,11 @@
+pub mod Slots
+pub mod Writing
+pub mod Order
+pub mod Upward
+pub mod Trying
+pub mod Holding
+pub mod Passing
+pub mod Swept
+pub mod Calling
+pub mod Putting
+pub mod Claims

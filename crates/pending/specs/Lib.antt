@@ -1,0 +1,6 @@
+pub mod Layout
+pub mod Buffer
+pub mod Passes
+pub mod Early
+pub mod Claims
+pub mod Inner

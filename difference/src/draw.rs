@@ -1,8 +1,14 @@
 //! Calls and states drawn at random, beside those of the simulated groups.
 
+use std::collections::BTreeSet;
+
 use crate::op::Op;
+use reference::group::{members, Group};
 use reference::layout::*;
+use reference::pending::laid_out;
+use reference::record::{first_refusal, Record};
 use reference::rng::Rng;
+use reference::simulate::buffers;
 use reference::vectors::damage;
 use reference::Call;
 
@@ -40,7 +46,7 @@ pub fn list_op(rng: &mut Rng, words: &[u32]) -> Op {
 
 /// Any call, with arguments that suit the words and the calls of the group.
 pub fn any_op(rng: &mut Rng, words: &[u32], calls: &[Call]) -> Op {
-    match rng.below(15) {
+    match rng.below(17) {
         0 => Op::Status,
         1 | 2 => list_op(rng, words),
         3 => Op::Change(opening(rng)),
@@ -52,6 +58,7 @@ pub fn any_op(rng: &mut Rng, words: &[u32], calls: &[Call]) -> Op {
         9 => Op::Change(propose(rng)),
         10 => Op::Change(Call::SignNoVote),
         11 => Op::Change(bundle(rng, words)),
+        12 | 13 => Op::Change(buffered(rng, words, calls)),
         _ => Op::Change(picked(rng, calls)),
     }
 }
@@ -168,10 +175,102 @@ fn picked(rng: &mut Rng, calls: &[Call]) -> Call {
 
 /// The words of one of the records, and of zeros if there is none.
 fn record(rng: &mut Rng, calls: &[Call]) -> Vec<u32> {
-    match picked(rng, calls) {
-        Call::Vertex(words) | Call::First(words) => words,
-        _ => vec![0; RECORD_WORDS],
+    let picked = rng.pick(calls).and_then(Call::record);
+    picked.map_or(vec![0; RECORD_WORDS], <[u32]>::to_vec)
+}
+
+/// A vertex with a pending buffer: a record of any kind, and any buffer.
+pub fn buffered(rng: &mut Rng, words: &[u32], calls: &[Call]) -> Call {
+    let drawn = match rng.below(8) {
+        0 => other_length(rng, calls),
+        1 | 2 => other_words(rng, calls),
+        3 => random_record(rng),
+        _ => Call::Vertex(record(rng, calls)),
+    };
+    let record = drawn.record().unwrap_or_default().to_vec();
+    Call::VertexWith(any_buffer(rng, words, calls), record)
+}
+
+/// A pending buffer for the words of a state: empty, with few records of the group's calls or full of
+/// them, with records in conflict with them or with held ones, of one of the calls, or damaged.
+fn any_buffer(rng: &mut Rng, words: &[u32], calls: &[Call]) -> Vec<u32> {
+    let group = group_of(words);
+    let made = well_formed_records(group, calls);
+    let of_calls = |rng: &mut Rng, chance| buffers::of_some(rng, chance, &made);
+    match rng.below(10) {
+        0 => laid_out(&[]),
+        1 | 2 => of_calls(rng, 2),
+        3 | 4 => of_calls(rng, 100),
+        5 => {
+            let other = conflicting(rng, &made);
+            buffers::of_some(rng, 50, &other)
+        }
+        6 => buffers::of_some(rng, 20, &held(words)),
+        7 => {
+            let other = conflicting(rng, &held(words));
+            buffers::of_some(rng, 20, &other)
+        }
+        8 => picked(rng, calls).buffer().to_vec(),
+        _ => {
+            let buffer = of_calls(rng, 10);
+            buffers::damaged(rng, group, &buffer)
+        }
     }
+}
+
+/// The group that the words name; of an illegal size, any.
+fn group_of(words: &[u32]) -> Group {
+    let named = words.first().and_then(|&n| Group::new(n));
+    let any = Group::new(LEGAL_SIZES[0]);
+    named.or(any).expect("the size is legal")
+}
+
+/// The records of calls that pass questions 4 to 11.
+pub fn well_formed_records(group: Group, calls: &[Call]) -> Vec<Record> {
+    let records = calls.iter().filter_map(Call::record);
+    records
+        .filter_map(Record::from_words)
+        .filter(|record| first_refusal(group, record).is_none())
+        .collect()
+}
+
+/// Records with tags of which some differ.
+fn conflicting(rng: &mut Rng, records: &[Record]) -> Vec<Record> {
+    let other = |record: &Record| Record {
+        tag: record.tag ^ rng.below(2),
+        ..*record
+    };
+    records.iter().map(other).collect()
+}
+
+/// The records in the cells of a state that are marked held and pass questions 5 to 11.
+fn held(words: &[u32]) -> Vec<Record> {
+    if words.len() != STATE_WORDS {
+        return Vec::new();
+    }
+    let group = group_of(words);
+    let places = (1..=LAST_ROUND).flat_map(|round| {
+        let held = words[mask_place(round, HELD)] & group.all();
+        members(held).map(move |member| (round, member))
+    });
+    places
+        .filter_map(|(round, member)| {
+            Record::from_cell(round, member, &words[cell_place(round, member)])
+        })
+        .filter(|record| first_refusal(group, record).is_none())
+        .collect()
+}
+
+/// Vertices still to come, and a pending buffer of those that come after the first of them: all, or
+/// some.
+pub fn coming(rng: &mut Rng, words: &[u32], next: &[Call]) -> (Vec<Record>, Vec<u32>) {
+    let mut there: BTreeSet<u32> = held(words).iter().map(Record::id).collect();
+    let mut coming = well_formed_records(group_of(words), next);
+    coming.retain(|record| there.insert(record.id()));
+    coming.truncate(BUFFER_SLOTS + 1);
+    let chance = [0, 60, 100][rng.below(3) as usize];
+    let buffer = buffers::of_some(rng, chance, coming.get(1..).unwrap_or_default());
+    (coming, buffer)
 }
 
 fn vertex_or_first(rng: &mut Rng, words: Vec<u32>) -> Call {

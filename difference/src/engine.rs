@@ -4,17 +4,23 @@ use crate::op::{reply, Op, Reply, ANSWER_NUMBERS};
 use reference::{Answer, Call};
 
 pub trait Engine {
-    /// Makes a call on the lent words.
-    fn perform(&self, state: &mut [u32], op: &Op) -> Reply;
+    /// Makes a call on the lent words: those of the state, and those of the call's pending buffer, if
+    /// it has one.
+    fn perform_lent(&self, state: &mut [u32], buffer: &mut [u32], op: &Op) -> Reply;
+
+    /// Makes a call on a state, with a copy of its buffer.
+    fn perform(&self, state: &mut [u32], op: &Op) -> Reply {
+        self.perform_lent(state, &mut op.buffer().to_vec(), op)
+    }
 }
 
 /// The second implementation.
 pub struct Second;
 
 impl Engine for Second {
-    fn perform(&self, state: &mut [u32], op: &Op) -> Reply {
+    fn perform_lent(&self, state: &mut [u32], buffer: &mut [u32], op: &Op) -> Reply {
         match op {
-            Op::Change(call) => change(state, call),
+            Op::Change(call) => change(state, buffer, call),
             Op::Status => status(state),
             Op::AskLeaders(k) => reply(&[reference::ask_leaders(state, *k)]),
             Op::AskJournal(k) => reply(&[reference::ask_journal(state, *k)]),
@@ -24,13 +30,13 @@ impl Engine for Second {
     }
 }
 
-fn change(state: &mut [u32], call: &Call) -> Reply {
+fn change(state: &mut [u32], buffer: &mut [u32], call: &Call) -> Reply {
     match call {
         Call::Propose(tag) => {
             let proposal = reference::propose(state, *tag);
             reply(&[&numbers(proposal.answer)[..], &proposal.record].concat())
         }
-        call => reply(&numbers(call.apply(state))),
+        call => reply(&numbers(call.apply_lent(state, buffer))),
     }
 }
 

@@ -2,7 +2,7 @@
 
 use crate::op::Op;
 use reference::group::members;
-use reference::harness::Command;
+use reference::harness::{Command, Script};
 use reference::Call;
 
 /// One thing done to a state.
@@ -20,10 +20,7 @@ impl Step {
 
     /// The call, if it is one that a line of `sheetlog` can stand for.
     pub fn as_line(&self) -> Option<&Call> {
-        match self {
-            Step::Perform(Op::Change(call)) => is_line(call).then_some(call),
-            _ => None,
-        }
+        self.as_change().filter(|call| is_line(call))
     }
 
     /// The step for a watcher: an opening has no own member.
@@ -44,13 +41,26 @@ impl Step {
         }
     }
 
-    /// The commands of the test program `harness` for it.
-    pub fn commands(&self) -> Vec<Command> {
+    /// The call, if it is one that may change the state.
+    pub fn as_change(&self) -> Option<&Call> {
         match self {
-            Step::Perform(op) => op.commands(),
-            Step::Set(at, word) => vec![Command::Set(*at as u32, *word)],
+            Step::Perform(Op::Change(call)) => Some(call),
+            _ => None,
         }
     }
+}
+
+/// The commands of the test program `harness` for steps on so many words.
+pub fn commands(size: usize, steps: &[Step]) -> Vec<Command> {
+    let mut script = Script::default();
+    script.push(Command::Lend(size as u32));
+    for step in steps {
+        match step {
+            Step::Perform(op) => op.write(&mut script),
+            Step::Set(at, word) => script.push(Command::Set(*at as u32, *word)),
+        }
+    }
+    script.commands
 }
 
 /// Whether a line of `sheetlog` can stand for the call.
@@ -74,7 +84,7 @@ impl Failure {
     /// How much there is to read.
     pub fn length(&self) -> usize {
         match self {
-            Failure::Steps { steps, .. } => steps.iter().map(|step| step.commands().len()).sum(),
+            Failure::Steps { size, steps } => commands(*size, steps).len(),
             Failure::Lines { calls } | Failure::Model { calls } => calls.len(),
             Failure::Prefix { calls } => calls.iter().map(Vec::len).sum(),
         }

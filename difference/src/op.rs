@@ -1,6 +1,6 @@
 //! A call with its arguments, and what it answers.
 
-use reference::harness::Command;
+use reference::harness::{Command, Script};
 use reference::layout::RECORD_WORDS;
 use reference::Call;
 
@@ -17,9 +17,10 @@ pub enum Op {
 }
 
 /// The names of the calls, in the order of `Op::row`.
-pub const NAMES: [&str; 13] = [
+pub const NAMES: [&str; 14] = [
     "open",
     "vertex",
+    "vertex+buffer",
     "first message",
     "timeout",
     "timeouts",
@@ -39,29 +40,38 @@ impl Op {
         match self {
             Op::Change(Call::Open(..)) => 0,
             Op::Change(Call::Vertex(_)) => 1,
-            Op::Change(Call::First(_)) => 2,
-            Op::Change(Call::Timeout(..)) => 3,
-            Op::Change(Call::Timeouts(..)) => 4,
-            Op::Change(Call::NoVote(..)) => 5,
-            Op::Change(Call::Propose(_)) => 6,
-            Op::Change(Call::SignNoVote) => 7,
-            Op::Status => 8,
-            Op::AskLeaders(_) => 9,
-            Op::AskJournal(_) => 10,
-            Op::HandLeaders(_) => 11,
-            Op::HandJournal(_) => 12,
+            Op::Change(Call::VertexWith(..)) => 2,
+            Op::Change(Call::First(_)) => 3,
+            Op::Change(Call::Timeout(..)) => 4,
+            Op::Change(Call::Timeouts(..)) => 5,
+            Op::Change(Call::NoVote(..)) => 6,
+            Op::Change(Call::Propose(_)) => 7,
+            Op::Change(Call::SignNoVote) => 8,
+            Op::Status => 9,
+            Op::AskLeaders(_) => 10,
+            Op::AskJournal(_) => 11,
+            Op::HandLeaders(_) => 12,
+            Op::HandJournal(_) => 13,
         }
     }
 
-    /// The commands of the test program `harness` that make the call.
-    pub fn commands(&self) -> Vec<Command> {
+    /// The words of the call's pending buffer; none if it has none.
+    pub fn buffer(&self) -> &[u32] {
         match self {
-            Op::Change(call) => Command::of_call(call),
-            Op::Status => vec![Command::Status],
-            Op::AskLeaders(k) => vec![Command::AskLeaders(*k)],
-            Op::AskJournal(k) => vec![Command::AskJournal(*k)],
-            Op::HandLeaders(k) => vec![Command::HandLeaders(*k)],
-            Op::HandJournal(k) => vec![Command::HandJournal(*k)],
+            Op::Change(call) => call.buffer(),
+            _ => &[],
+        }
+    }
+
+    /// Adds the commands of the test program `harness` that make the call.
+    pub fn write(&self, script: &mut Script) {
+        match *self {
+            Op::Change(ref call) => script.call(call),
+            Op::Status => script.push(Command::Status),
+            Op::AskLeaders(k) => script.push(Command::AskLeaders(k)),
+            Op::AskJournal(k) => script.push(Command::AskJournal(k)),
+            Op::HandLeaders(k) => script.push(Command::HandLeaders(k)),
+            Op::HandJournal(k) => script.push(Command::HandJournal(k)),
         }
     }
 }

@@ -40,6 +40,9 @@ struct Part {
 extern "C" {
     fn yardbook_open(state: *mut u32, words: usize, n: u32, own: u32) -> Answer;
     fn yardbook_take_vertex(state: *mut u32, words: usize, record: *const u32, length: usize) -> Answer;
+    fn yardbook_take_vertex_with(
+        state: *mut u32, words: usize, buffer: *mut u32, buffer_words: usize, record: *const u32, length: usize,
+    ) -> Answer;
     fn yardbook_take_first_message(state: *mut u32, words: usize, record: *const u32, length: usize) -> Answer;
     fn yardbook_take_timeout(state: *mut u32, words: usize, round: u32, signer: u32) -> Answer;
     fn yardbook_take_timeouts(state: *mut u32, words: usize, round: u32, mask: u32) -> Answer;
@@ -57,12 +60,12 @@ extern "C" {
 pub struct Proved;
 
 impl Engine for Proved {
-    fn perform(&self, state: &mut [u32], op: &Op) -> Reply {
+    fn perform_lent(&self, state: &mut [u32], buffer: &mut [u32], op: &Op) -> Reply {
         let (words, size) = (state.as_mut_ptr(), state.len());
         // SAFETY: `words` has `size` words that nobody else uses during the call.
         unsafe {
             match op {
-                Op::Change(call) => change(state, call),
+                Op::Change(call) => change(state, buffer, call),
                 Op::Status => status(yardbook_status(words, size)),
                 Op::AskLeaders(k) => answer(yardbook_ask_leaders(words, size, *k)),
                 Op::AskJournal(k) => answer(yardbook_ask_journal(words, size, *k)),
@@ -73,10 +76,10 @@ impl Engine for Proved {
     }
 }
 
-fn change(state: &mut [u32], call: &Call) -> Reply {
+fn change(state: &mut [u32], buffer: &mut [u32], call: &Call) -> Reply {
     let (words, size) = (state.as_mut_ptr(), state.len());
-    // SAFETY: `words` has `size` words that nobody else uses during the call, and no record
-    // overlaps them.
+    // SAFETY: `words` has `size` words that nobody else uses during the call, and neither the buffer
+    // nor a record overlaps them or the other.
     answer(unsafe {
         match call {
             Call::Propose(tag) => return proposal(yardbook_propose(words, size, *tag)),
@@ -84,6 +87,11 @@ fn change(state: &mut [u32], call: &Call) -> Reply {
             Call::Open(n, own) => yardbook_open(words, size, *n, *own),
             Call::Vertex(record) => {
                 yardbook_take_vertex(words, size, record.as_ptr(), record.len())
+            }
+            Call::VertexWith(_, record) => {
+                let (place, room) = (buffer.as_mut_ptr(), buffer.len());
+                let (from, length) = (record.as_ptr(), record.len());
+                yardbook_take_vertex_with(words, size, place, room, from, length)
             }
             Call::First(record) => {
                 yardbook_take_first_message(words, size, record.as_ptr(), record.len())

@@ -4,11 +4,10 @@ use std::fmt::Write;
 
 use crate::agreement::follow;
 use crate::engine::Engine;
-use crate::failure::{is_line, Failure, Found, Step};
+use crate::failure::{commands, is_line, Failure, Found, Step};
 use crate::op::NAMES;
 use crate::run::{run, Plan};
 use crate::shrink::{first_difference, shrink};
-use reference::harness::Command;
 use reference::{Call, STATE_WORDS};
 
 /// How many rounds the groups have, and how many calls are made, in the search for a shorter case.
@@ -64,6 +63,11 @@ fn of_difference(engine: &dyn Engine, size: usize, steps: &[Step]) -> String {
     if let Some((at, tested, second)) = difference.word {
         text += &format!("then word {at} is {tested}, by the second implementation {second}\n");
     }
+    if let Some((at, tested, second)) = difference.buffer_word {
+        text += &format!(
+            "then word {at} of the buffer is {tested}, by the second implementation {second}\n"
+        );
+    }
     if difference.guards_written {
         text += "words were written that were not lent for that\n";
     }
@@ -100,11 +104,7 @@ fn of_lines(calls: &[Call]) -> String {
 
 fn of_steps(size: usize, steps: &[Step]) -> String {
     let mut text = String::from("commands for harness, each number a word of 32 bits:\n");
-    let lend = Command::Lend(size as u32);
-    for command in [lend]
-        .into_iter()
-        .chain(steps.iter().flat_map(Step::commands))
-    {
+    for command in commands(size, steps) {
         let [operation, a, b] = command.words();
         let _ = writeln!(text, "{operation} {a} {b}");
     }

@@ -204,7 +204,7 @@ impl Aside<'_> {
         self.steps.push(Step::Perform(op.clone()));
         match reply {
             Ok(reply) => {
-                session.tally.see(&op, &reply);
+                session.tally.see(&op, &reply, self.pair.released());
                 Ok(reply)
             }
             Err(_) => {
@@ -284,7 +284,7 @@ impl<'a> Replica<'a> {
     fn on_state(&mut self, session: &mut Session, op: Op) -> Outcome<Reply> {
         let reply = self.pair.perform(session.engine, &op);
         if let Ok(reply) = reply {
-            session.tally.see(&op, &reply);
+            session.tally.see(&op, &reply, self.pair.released());
             return Ok(reply);
         }
         let mut steps: Vec<Step> = self.made.iter().map(Step::of_call).collect();
@@ -326,6 +326,7 @@ impl<'a> Replica<'a> {
             9 => self.copy().any(session, self.calls, 3),
             11 | 12 => self.own_calls(session),
             13 => self.bundles(session),
+            14 => self.buffers(session),
             10 if session.rng.percent(10) => {
                 let words = draw::random_words(&mut session.rng);
                 Aside::of_words(&words).any(session, self.calls, 3)
@@ -367,6 +368,28 @@ impl<'a> Replica<'a> {
         for _ in 0..3 {
             let bundle = draw::bundle(&mut session.rng, aside.pair.words());
             aside.perform(session, Op::Change(bundle))?;
+        }
+        Ok(())
+    }
+
+    /// Vertices with a pending buffer on a copy: the next ones of the group, mostly the first of them
+    /// first, with one buffer from call to call, which has some of them already; then any records with
+    /// any buffers.
+    fn buffers(&self, session: &mut Session) -> Outcome<()> {
+        let mut aside = self.copy();
+        let rng = &mut session.rng;
+        let next = &self.calls[self.made.len()..];
+        let (coming, mut buffer) = draw::coming(rng, aside.pair.words(), next);
+        for at in 0..4.min(coming.len()) {
+            let drawn = [at, session.rng.below(coming.len() as u32) as usize];
+            let record = coming[drawn[session.rng.below(2) as usize]];
+            let call = Call::VertexWith(buffer, record.words().to_vec());
+            aside.perform(session, Op::Change(call))?;
+            buffer = aside.pair.buffer().to_vec();
+        }
+        for _ in 0..3 {
+            let call = draw::buffered(&mut session.rng, aside.pair.words(), self.calls);
+            aside.perform(session, Op::Change(call))?;
         }
         Ok(())
     }

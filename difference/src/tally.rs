@@ -7,13 +7,14 @@ use reference::layout::{mask_place, COMMITTED_ROUND, HELD, LAST_ROUND, LEADER_CO
 use reference::record::Record;
 use reference::Call;
 
-const NUMBERS: usize = 19;
+const NUMBERS: usize = 21;
 
 /// The numbers that each call can answer, in the order of `Op::row` (document 01, "The questions",
-/// and document 02, A1 and A3).
+/// and document 02, A1, A3 and A5).
 const POSSIBLE: [&[u32]; NAMES.len()] = [
     &[0, 1, 2, 6],
     &[0, 1, 3, 4, 5, 6, 7, 8, 9, 10, 11, 12, 13, 14],
+    &[0, 1, 3, 4, 5, 6, 7, 8, 9, 10, 11, 12, 13, 14, 19, 20],
     &[0, 1, 3, 4, 5, 6, 7, 8, 9, 10, 11, 12],
     &[0, 1, 3, 5, 6, 12],
     &[0, 1, 3, 5, 7, 12],
@@ -48,6 +49,10 @@ pub struct Tally {
     pub ended_by_certificates: u64,
     /// Rounds that a bundle of timeouts ended.
     pub ended_by_bundles: u64,
+    /// Records that calls released from pending buffers anywhere, and calls that released several and
+    /// committed.
+    pub released: u64,
+    pub several_released: u64,
     /// Records made anywhere, those of them with a no-vote certificate, and with weak ids.
     pub made: u64,
     pub made_with_no_votes: u64,
@@ -64,8 +69,11 @@ pub struct Tally {
 }
 
 impl Tally {
-    pub fn see(&mut self, op: &Op, reply: &Reply) {
+    /// Notes a call, its answer, and how many records of its pending buffer it released.
+    pub fn see(&mut self, op: &Op, reply: &Reply, released: u32) {
         self.calls += 1;
+        self.released += u64::from(released);
+        self.several_released += u64::from(released > 1 && reply[2] > 0);
         if let Some(count) = self.seen[op.row()].get_mut(reply[0] as usize) {
             *count += 1;
         }
@@ -84,6 +92,9 @@ impl Tally {
         self.several_leaders += u64::from(leaders > 1);
         match call {
             Call::Vertex(words) => self.admitted_vertex(words, rounds),
+            Call::VertexWith(_, words) => {
+                self.admitted_record(words);
+            }
             Call::Timeouts(..) => self.ended_by_bundles += u64::from(rounds[0] < rounds[1]),
             _ => {}
         }
@@ -91,11 +102,17 @@ impl Tally {
 
     /// Without its certificate a vertex ends no round but its own.
     fn admitted_vertex(&mut self, words: &[u32], [before, after]: [u32; 2]) {
+        let round = self.admitted_record(words);
+        self.ended_by_certificates += u64::from(before < after && after == round);
+    }
+
+    /// Notes what a vertex carries, and returns its round.
+    fn admitted_record(&mut self, words: &[u32]) -> u32 {
         let record = Record::from_words(words).expect("an admitted record has its size");
         self.timeout_certificates += u64::from(record.timeouts != 0);
         self.no_vote_certificates += u64::from(record.no_votes != 0);
         self.weak += u64::from(record.weak_count != 0);
-        self.ended_by_certificates += u64::from(before < after && after == record.round);
+        record.round
     }
 
     /// Notes a replica's last state: a well formed one.
@@ -110,7 +127,8 @@ impl Tally {
     }
 
     /// What a long run must have seen and this one has not: calls with a number that they can
-    /// answer, and rounds ended by a carried certificate and by a bundle.
+    /// answer, rounds ended by a carried certificate and by a bundle, and records released from a
+    /// pending buffer, also several with a commit.
     pub fn unseen(&self) -> Vec<String> {
         let missing = |row: usize| {
             let numbers = POSSIBLE[row].iter().copied();
@@ -119,18 +137,26 @@ impl Tally {
         let numbers = (0..NAMES.len()).flat_map(|row| {
             missing(row).map(move |number| format!("{} with {number}", NAMES[row]))
         });
-        let ended = [
-            ("a carried certificate", self.ended_by_certificates),
-            ("a bundle", self.ended_by_bundles),
+        let counts = [
+            (
+                "a round ended by a carried certificate",
+                self.ended_by_certificates,
+            ),
+            ("a round ended by a bundle", self.ended_by_bundles),
+            ("a record released from a buffer", self.released),
+            (
+                "several records released with a commit",
+                self.several_released,
+            ),
         ];
-        let none_ended = ended.into_iter().filter(|(_, rounds)| *rounds == 0);
+        let never = counts.into_iter().filter(|(_, count)| *count == 0);
         numbers
-            .chain(none_ended.map(|(what, _)| format!("a round ended by {what}")))
+            .chain(never.map(|(what, _)| what.to_owned()))
             .collect()
     }
 
     /// What the groups did, line by line.
-    fn counts(&self) -> [(&'static str, u64); 21] {
+    fn counts(&self) -> [(&'static str, u64); 23] {
         [
             ("calls compared", self.calls),
             ("groups", self.groups),
@@ -153,6 +179,11 @@ impl Tally {
                 self.no_vote_certificates,
             ),
             ("vertices with weak ids", self.weak),
+            ("records released from buffers", self.released),
+            (
+                "calls that released several and committed",
+                self.several_released,
+            ),
             ("records made", self.made),
             (
                 "of these with a no-vote certificate",

@@ -8,7 +8,9 @@ use difference::proved::Proved;
 use difference::report::report;
 use difference::run::{run, Plan};
 use difference::shrink::{fewest, shrink};
+use reference::layout::{buffer_end, BUFFER_SLOTS, BUFFER_WORDS};
 use reference::layout::{mask_place, CURRENT_ROUND, HEARD, LAST_ROUND, N, NO_VOTES, TIMEOUTS};
+use reference::pending::{laid_out, records};
 use reference::record::Record;
 use reference::simulate::{simulate, Options};
 use reference::Call;
@@ -28,8 +30,8 @@ fn plan(seed: u64) -> Plan {
 struct Faulty(fn(&mut [u32], &Op, Reply) -> Reply);
 
 impl Engine for Faulty {
-    fn perform(&self, state: &mut [u32], op: &Op) -> Reply {
-        let reply = Second.perform(state, op);
+    fn perform_lent(&self, state: &mut [u32], buffer: &mut [u32], op: &Op) -> Reply {
+        let reply = Second.perform_lent(state, buffer, op);
         (self.0)(state, op, reply)
     }
 }
@@ -228,9 +230,9 @@ fn a_wrong_order_of_questions_is_noticed() {
 struct Careless(fn(&[u32], &mut [u32], &Record, u32));
 
 impl Engine for Careless {
-    fn perform(&self, state: &mut [u32], op: &Op) -> Reply {
+    fn perform_lent(&self, state: &mut [u32], buffer: &mut [u32], op: &Op) -> Reply {
         let before = state.to_vec();
-        let reply = Second.perform(state, op);
+        let reply = Second.perform_lent(state, buffer, op);
         if let Op::Change(Call::Vertex(words)) = op {
             let record = Record::from_words(words);
             if let Some(record) = record.filter(|record| (2..=LAST_ROUND).contains(&record.round)) {
@@ -287,17 +289,27 @@ fn unseen(count: u64) -> Vec<String> {
 }
 
 #[test]
-fn a_run_without_carried_certificates_or_bundles_is_not_enough() {
-    let ended = ["a carried certificate", "a bundle"].map(|by| format!("a round ended by {by}"));
-    let numbers = [0, 1, 3, 5, 7, 12].map(|number| format!("timeouts with {number}"));
+fn a_run_without_carried_certificates_bundles_or_releases_is_not_enough() {
+    let events = [
+        "a round ended by a carried certificate",
+        "a round ended by a bundle",
+        "a record released from a buffer",
+        "several records released with a commit",
+    ]
+    .map(str::to_owned);
+    let bundles = [0, 1, 3, 5, 7, 12].map(|number| format!("timeouts with {number}"));
+    let buffers =
+        [0, 1, 3, 4, 12, 13, 14, 19, 20].map(|number| format!("vertex+buffer with {number}"));
     let long = unseen(COUNT);
-    assert!(ended
-        .iter()
-        .chain(&numbers)
-        .all(|what| !long.contains(what)));
-    let short = unseen(100);
-    assert!(ended.iter().all(|what| short.contains(what)), "{short:?}");
-    assert!(numbers.iter().any(|what| short.contains(what)), "{short:?}");
+    let needed = events.iter().chain(&bundles).chain(&buffers);
+    assert!(
+        needed.into_iter().all(|what| !long.contains(what)),
+        "{long:?}"
+    );
+    let short = unseen(1);
+    assert!(events.iter().all(|what| short.contains(what)), "{short:?}");
+    assert!(bundles.iter().any(|what| short.contains(what)), "{short:?}");
+    assert!(buffers.iter().any(|what| short.contains(what)), "{short:?}");
 }
 
 /// The second implementation with a fault in taking bundles. The fault gets the words before the
@@ -307,9 +319,9 @@ struct Bundling(BundleFault);
 type BundleFault = fn(&[u32], &mut [u32], (u32, u32), Reply) -> Reply;
 
 impl Engine for Bundling {
-    fn perform(&self, state: &mut [u32], op: &Op) -> Reply {
+    fn perform_lent(&self, state: &mut [u32], buffer: &mut [u32], op: &Op) -> Reply {
         let before = state.to_vec();
-        let reply = Second.perform(state, op);
+        let reply = Second.perform_lent(state, buffer, op);
         match op {
             Op::Change(Call::Timeouts(round, mask)) => {
                 (self.0)(&before, state, (*round, *mask), reply)
@@ -458,6 +470,278 @@ fn what_follows_bundles_wrongly_is_noticed() {
     for engine in [no_round_rule, round_rule_after_12, commits] {
         assert!(run(&engine, plan(1)).1.is_some());
     }
+}
+
+/// The second implementation with a fault in taking vertices with a pending buffer. The fault gets
+/// the words before the call and after it, the record, and the answer.
+struct Buffering(BufferFault);
+
+type BufferFault = fn(&Lent, &mut Lent, &[u32], Reply) -> Reply;
+
+/// The words of a state and of a buffer.
+#[derive(Clone)]
+struct Lent {
+    state: Vec<u32>,
+    buffer: Vec<u32>,
+}
+
+impl Engine for Buffering {
+    fn perform_lent(&self, state: &mut [u32], buffer: &mut [u32], op: &Op) -> Reply {
+        let mut lent = Lent {
+            state: state.to_vec(),
+            buffer: buffer.to_vec(),
+        };
+        let before = lent.clone();
+        let mut reply = Second.perform_lent(&mut lent.state, &mut lent.buffer, op);
+        if let Op::Change(Call::VertexWith(_, record)) = op {
+            reply = (self.0)(&before, &mut lent, record, reply);
+        }
+        state.copy_from_slice(&lent.state);
+        buffer.copy_from_slice(&lent.buffer);
+        reply
+    }
+}
+
+/// A plain vertex as the second implementation takes it.
+fn take_plain(state: &mut [u32], record: &[u32]) -> Reply {
+    Second.perform(state, &Op::Change(Call::Vertex(record.to_vec())))
+}
+
+/// A vertex with a buffer as the second implementation takes it.
+fn take_with(lent: &mut Lent, record: &[u32]) -> Reply {
+    let call = Call::VertexWith(lent.buffer.clone(), record.to_vec());
+    Second.perform_lent(&mut lent.state, &mut lent.buffer, &Op::Change(call))
+}
+
+/// An early vertex gets no place.
+fn not_put(before: &Lent, after: &mut Lent, _: &[u32], answer: Reply) -> Reply {
+    if answer[0] == 14 {
+        after.buffer.clone_from(&before.buffer);
+    }
+    answer
+}
+
+/// What was released stays in the buffer too.
+fn not_taken_out(before: &Lent, after: &mut Lent, _: &[u32], answer: Reply) -> Reply {
+    if answer[0] == 0 {
+        after.buffer.clone_from(&before.buffer);
+    }
+    answer
+}
+
+/// Nothing is released.
+fn no_passes(before: &Lent, after: &mut Lent, record: &[u32], answer: Reply) -> Reply {
+    if answer[0] != 0 {
+        return answer;
+    }
+    after.clone_from(before);
+    take_plain(&mut after.state, record)
+}
+
+/// A buffer of any size and with any words after its records is taken.
+fn any_words_beyond(before: &Lent, after: &mut Lent, record: &[u32], answer: Reply) -> Reply {
+    let mut cut = before.clone();
+    cut.buffer = laid_out(&records(&before.buffer));
+    if answer[0] != 19 || cut.buffer.len() != before.buffer.len() {
+        return answer;
+    }
+    let answer = take_with(&mut cut, record);
+    if answer[0] == 19 {
+        return answer;
+    }
+    after.clone_from(&cut);
+    answer
+}
+
+#[test]
+fn wrong_buffers_are_shown_by_few_commands() {
+    let is_with = |commands: &Vec<String>| commands.last().is_some_and(|last| last == "18 0 0");
+    let put = commands(&Buffering(not_put));
+    assert!(is_with(&put) && put.len() <= 10, "{put:?}");
+    assert!(put[1].starts_with("19 "), "{put:?}");
+    let stays = commands(&Buffering(not_taken_out));
+    assert!(is_with(&stays) && stays.len() <= 20, "{stays:?}");
+    let passes = commands(&Buffering(no_passes));
+    assert!(is_with(&passes) && passes.len() <= 20, "{passes:?}");
+    let beyond = commands(&Buffering(any_words_beyond));
+    assert!(is_with(&beyond) && beyond.len() <= 12, "{beyond:?}");
+}
+
+#[test]
+fn a_wrong_word_of_a_buffer_is_named() {
+    let report = reported(&Buffering(not_put));
+    assert!(report.contains("word 0 of the buffer is 0, by the second implementation 1"));
+}
+
+#[test]
+fn wrong_numbers_with_buffers_are_noticed() {
+    let never_full = Buffering(|_, _, _, answer| match answer[0] {
+        20 => reply(&[14]),
+        _ => answer,
+    });
+    let full_first = Buffering(|before, _, record, answer| match answer[0] {
+        12 | 13 if before.buffer[0] as usize == BUFFER_SLOTS => {
+            let mut state = before.state.clone();
+            match take_plain(&mut state, record)[0] {
+                14 => reply(&[20]),
+                _ => answer,
+            }
+        }
+        _ => answer,
+    });
+    let always_equal = Buffering(|before, _, record, answer| match answer[0] {
+        13 => match take_plain(&mut before.state.clone(), record)[0] {
+            14 => reply(&[12]),
+            _ => answer,
+        },
+        _ => answer,
+    });
+    let record_before_buffer = Buffering(|before, _, record, answer| match answer[0] {
+        19 => match take_plain(&mut before.state.clone(), record)[0] {
+            number @ 4..=13 => reply(&[number]),
+            _ => answer,
+        },
+        _ => answer,
+    });
+    let buffer_before_state = Buffering(|before, _, _, answer| match answer[0] {
+        3 if before.buffer.len() != BUFFER_WORDS => reply(&[19]),
+        _ => answer,
+    });
+    let another_parent = Buffering(|_, _, _, mut answer| {
+        answer[1] += u32::from(answer[0] == 14);
+        answer
+    });
+    let own_counts = Buffering(|before, _, record, answer| match answer[0] {
+        0 => take_plain(&mut before.state.clone(), record),
+        _ => answer,
+    });
+    for engine in [
+        never_full,
+        full_first,
+        always_equal,
+        record_before_buffer,
+        buffer_before_state,
+        another_parent,
+        own_counts,
+    ] {
+        assert!(run(&engine, plan(1)).1.is_some());
+    }
+}
+
+#[test]
+fn wrong_passes_are_noticed() {
+    // One pass from the highest id down.
+    let falling = Buffering(|before, after, record, answer| {
+        if answer[0] != 0 {
+            return answer;
+        }
+        after.clone_from(before);
+        let mut sums = take_plain(&mut after.state, record);
+        let mut left = records(&before.buffer);
+        for at in (0..left.len()).rev() {
+            let answer = take_plain(&mut after.state, &left[at].words());
+            sums[2] += answer[2];
+            sums[3] += answer[3];
+            if answer[0] != 14 {
+                left.remove(at);
+            }
+        }
+        after.buffer = laid_out(&left);
+        sums
+    });
+    let after_14_too = Buffering(|_, after, _, answer| {
+        if answer[0] == 14 {
+            for record in records(&after.buffer) {
+                take_plain(&mut after.state, &record.words());
+            }
+        }
+        answer
+    });
+    // Records that are held already stay.
+    let refused_stay = Buffering(|before, after, record, answer| {
+        if answer[0] == 0 {
+            let source = Record::from_words(record).map(|record| record.id());
+            let is_double = |one: &Record| Some(one.id()) == source;
+            let double = records(&before.buffer).into_iter().filter(is_double);
+            let mut left: Vec<Record> = records(&after.buffer);
+            left.extend(double);
+            left.sort_by_key(Record::id);
+            after.buffer = laid_out(&left);
+        }
+        answer
+    });
+    // The round of the last record stays behind.
+    let not_cleared = Buffering(|before, after, _, answer| {
+        let count = before.buffer.first().copied().unwrap_or(0) as usize;
+        if answer[0] == 0 && count > 0 {
+            let last = buffer_end(count - 1);
+            after.buffer[last] = before.buffer[last];
+        }
+        answer
+    });
+    for engine in [falling, after_14_too, refused_stay, not_cleared] {
+        assert!(run(&engine, plan(1)).1.is_some());
+    }
+}
+
+#[test]
+fn changes_by_refused_vertices_with_buffers_are_noticed() {
+    let state_by_14 = Buffering(|_, after, _, answer| {
+        if answer[0] == 14 {
+            after.state[CURRENT_ROUND] = current_round_by_rule(&after.state);
+        }
+        answer
+    });
+    let replaced_by_13 = Buffering(|before, after, record, answer| {
+        let mut left = records(&before.buffer);
+        let new = Record::from_words(record).unwrap_or_default();
+        let same = left
+            .iter_mut()
+            .find(|one| (one.round, one.source) == (new.round, new.source));
+        if let (13, Some(same)) = (answer[0], same) {
+            *same = new;
+            after.buffer = laid_out(&left);
+        }
+        answer
+    });
+    let emptied_by_19 = Buffering(|_, after, _, answer| {
+        if answer[0] == 19 {
+            after.buffer.iter_mut().take(1).for_each(|word| *word = 0);
+        }
+        answer
+    });
+    for engine in [state_by_14, replaced_by_13, emptied_by_19] {
+        assert!(run(&engine, plan(1)).1.is_some());
+    }
+}
+
+/// Lists that the model does not give, through a buffer alone: the calls that show it keep little.
+#[test]
+fn lists_other_than_the_model_s_with_a_buffer_are_noticed() {
+    let engine = Buffering(no_passes);
+    let options = Options {
+        buffers: 100,
+        early_stop: 0,
+        noise: 0,
+        spread: 400,
+        ..Options::typical()
+    };
+    let drawn = (0..).map(|seed| simulate(seed, 4, &options).replicas.remove(0));
+    let fails = |calls: &Vec<Call>| {
+        let (lists, model) = follow(&engine, calls);
+        lists != Some(model)
+    };
+    let calls = drawn.take(50).find(fails).expect("one of them shows it");
+    let Failure::Model { calls } = shrink(&engine, &Failure::Model { calls }) else {
+        panic!("another kind of failure");
+    };
+    let buffers: Vec<&Call> = calls
+        .iter()
+        .filter(|call| !call.buffer().is_empty())
+        .collect();
+    assert!(!buffers.is_empty() && calls.len() <= 12, "{calls:?}");
+    let records = buffers.iter().map(|call| call.buffer()[0]).sum::<u32>();
+    assert!((1..=8).contains(&records), "{records}");
 }
 
 #[test]

@@ -26,11 +26,12 @@ pub const TIMEOUT: u32 = 9;
 pub const NO_VOTE: u32 = 10;
 /// The weak count or ids are out of order or range.
 pub const WEAK: u32 = 11;
-/// The same thing was taken before; of a bundle, nobody is new.
+/// The same thing was taken before; of a bundle, nobody is new. Of a vertex with a missing parent,
+/// the pending buffer has the same record.
 pub const NOT_NEW: u32 = 12;
-/// The cell holds a different record.
+/// The cell holds a different record, or with a missing parent the pending buffer has one.
 pub const CONFLICT: u32 = 13;
-/// A parent is not held.
+/// A parent is not held. With a pending buffer, the record was put there.
 pub const MISSING_PARENT: u32 = 14;
 /// The start of a list lies beyond its count.
 pub const LIST_START: u32 = 15;
@@ -40,6 +41,10 @@ pub const WATCHER: u32 = 16;
 pub const SIGNING: u32 = 17;
 /// Our record would have fewer strong parents than a quorum.
 pub const FEW_PARENTS: u32 = 18;
+/// The pending buffer is not well formed, or has not its number of words.
+pub const BUFFER: u32 = 19;
+/// A parent is not held, and the pending buffer has no place for the record.
+pub const BUFFER_FULL: u32 = 20;
 
 /// The answer of a call that may change the state.
 #[derive(Clone, Copy, Debug, Default, PartialEq, Eq)]

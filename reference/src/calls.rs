@@ -5,6 +5,7 @@ use std::ops::Range;
 use crate::answer::{self, Answer, Proposal, Status};
 use crate::group::Group;
 use crate::layout::{JOURNAL, JOURNAL_COUNT, LEADER_COUNT, LEADER_LIST, STATE_WORDS};
+use crate::pending::PendingBuffer;
 use crate::record::{first_refusal, is_round, Record};
 use crate::state::{status_words, well_formed_words, ReplicaState, RoundMasks};
 
@@ -30,23 +31,30 @@ pub fn open(state: &mut [u32], n: u32, own: u32) -> Answer {
 pub fn take_vertex(state: &mut [u32], record: &[u32]) -> Answer {
     change(state, |next| {
         let record = checked_record(next, record)?;
-        if let Some(held) = next.vertices.get(&record.id()) {
-            let same = *held == record;
-            return refuse(if same {
-                answer::NOT_NEW
-            } else {
-                answer::CONFLICT
-            });
-        }
-        if let Some(id) = record.parents().filter(|&id| !next.holds(id)).min() {
-            return Err(Answer::missing_parent(id));
-        }
-        next.vertices.insert(record.id(), record);
-        next.timeouts.join(record.round - 1, record.timeouts);
-        next.advance_current_round();
-        next.commit_all();
-        Ok(())
+        hold(next, record)
     })
+}
+
+/// Takes a vertex with a pending buffer (02, request A5: a shelf). Asks 1, 3, 19 and 4 to 13. With a
+/// missing parent the record is put into the buffer, unless this has one of its id (12 or 13) or no
+/// place (20). After an admission the buffer's records are tried as plain vertices, in passes.
+pub fn take_vertex_with(state: &mut [u32], buffer: &mut [u32], record: &[u32]) -> Answer {
+    let mut pending = PendingBuffer::default();
+    let answer = change(state, |next| {
+        pending =
+            PendingBuffer::decode(buffer, next.group).ok_or(Answer::refused(answer::BUFFER))?;
+        let record = checked_record(next, record)?;
+        hold(next, record).map_err(|refusal| match refusal.number {
+            answer::MISSING_PARENT => pending.keep(record, refusal),
+            _ => refusal,
+        })?;
+        pending.release(|record| number(checked(next, record).and_then(|()| hold(next, *record))));
+        Ok(())
+    });
+    if matches!(answer.number, answer::ADMITTED | answer::MISSING_PARENT) {
+        overwrite(buffer, pending.encode());
+    }
+    answer
 }
 
 /// Takes a first message, seen before delivery. Asks 1 and 3 to 12.
@@ -182,19 +190,52 @@ fn change(state: &mut [u32], step: impl FnOnce(&mut ReplicaState) -> Step) -> An
 }
 
 fn write(state: &mut [u32], next: &ReplicaState) {
-    state
+    overwrite(state, next.encode());
+}
+
+fn overwrite(words: &mut [u32], next: Vec<u32>) {
+    words
         .iter_mut()
-        .zip(next.encode())
+        .zip(next)
         .for_each(|(word, new)| *word = new);
 }
 
 /// Questions 4 to 11.
 fn checked_record(state: &ReplicaState, words: &[u32]) -> Result<Record, Answer> {
     let record = Record::from_words(words).ok_or(Answer::refused(answer::RECORD_SIZE))?;
-    match first_refusal(state.group, &record) {
-        Some(number) => Err(Answer::refused(number)),
-        None => Ok(record),
+    checked(state, &record)?;
+    Ok(record)
+}
+
+/// Questions 5 to 11.
+fn checked(state: &ReplicaState, record: &Record) -> Step {
+    first_refusal(state.group, record).map_or(Ok(()), refuse)
+}
+
+/// Questions 12 to 14 for a vertex, then its cell and what follows.
+fn hold(next: &mut ReplicaState, record: Record) -> Step {
+    if let Some(held) = next.vertices.get(&record.id()) {
+        let same = *held == record;
+        return refuse(if same {
+            answer::NOT_NEW
+        } else {
+            answer::CONFLICT
+        });
     }
+    if let Some(id) = record.parents().filter(|&id| !next.holds(id)).min() {
+        return Err(Answer::missing_parent(id));
+    }
+    next.vertices.insert(record.id(), record);
+    next.timeouts.join(record.round - 1, record.timeouts);
+    next.advance_current_round();
+    next.commit_all();
+    Ok(())
+}
+
+/// The number that a step gives.
+fn number(step: Step) -> u32 {
+    step.err()
+        .map_or(answer::ADMITTED, |refusal| refusal.number)
 }
 
 /// Questions 5, 6 and 12 for a timeout or no-vote, then its bit.

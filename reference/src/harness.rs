@@ -2,15 +2,17 @@
 //!
 //! The program's input is words of 32 bits, low byte first, three for a command: the operation
 //! and two arguments. A line has the operation, the numbers of the answer (of making our own vertex
-//! also the words of the record), and a checksum of all lent words.
+//! also the words of the record), of a vertex with a pending buffer a checksum of the buffer's words,
+//! and a checksum of all lent words.
 
 use crate::answer::{Answer, Proposal};
 use crate::call::Call;
 use crate::calls;
 
-/// The words that the program can lend, and those of the longest record.
+/// The words that the program can lend, and those of the longest record and pending buffer.
 pub const MOST_WORDS: u32 = 6_000;
 pub const MOST_RECORD_WORDS: u32 = 20;
+pub const MOST_BUFFER_WORDS: u32 = 400;
 
 #[derive(Clone, Copy, Debug, PartialEq, Eq)]
 pub enum Command {
@@ -41,6 +43,12 @@ pub enum Command {
     SignNoVote,
     /// Round and mask.
     Timeouts(u32, u32),
+    /// Takes a vertex with the pending buffer and the record as they stand.
+    VertexWith,
+    /// The buffer has so many words from now on, all zero.
+    Buffer(u32),
+    /// A word of the buffer gets a value; no effect beyond them.
+    SetBuffer(u32, u32),
 }
 
 impl Command {
@@ -65,37 +73,84 @@ impl Command {
             Command::Propose(tag) => [15, tag, 0],
             Command::SignNoVote => [16, 0, 0],
             Command::Timeouts(round, mask) => [17, round, mask],
+            Command::VertexWith => [18, 0, 0],
+            Command::Buffer(count) => [19, count, 0],
+            Command::SetBuffer(at, word) => [20, at, word],
         }
     }
 
-    /// The commands that make a call: those for its record's words, and the call itself.
-    pub fn of_call(call: &Call) -> Vec<Command> {
-        match call {
-            Call::Open(n, own) => vec![Command::Open(*n, *own)],
-            Call::Vertex(record) => with_record(record, Command::Vertex),
-            Call::First(record) => with_record(record, Command::First),
-            Call::Timeout(round, signer) => vec![Command::Timeout(*round, *signer)],
-            Call::Timeouts(round, mask) => vec![Command::Timeouts(*round, *mask)],
-            Call::NoVote(round, signer) => vec![Command::NoVote(*round, *signer)],
-            Call::Propose(tag) => vec![Command::Propose(*tag)],
-            Call::SignNoVote => vec![Command::SignNoVote],
+    /// The command that makes a call, with the record and the buffer as they stand.
+    fn of_call(call: &Call) -> Command {
+        match *call {
+            Call::Open(n, own) => Command::Open(n, own),
+            Call::Vertex(_) => Command::Vertex,
+            Call::VertexWith(..) => Command::VertexWith,
+            Call::First(_) => Command::First,
+            Call::Timeout(round, signer) => Command::Timeout(round, signer),
+            Call::Timeouts(round, mask) => Command::Timeouts(round, mask),
+            Call::NoVote(round, signer) => Command::NoVote(round, signer),
+            Call::Propose(tag) => Command::Propose(tag),
+            Call::SignNoVote => Command::SignNoVote,
         }
     }
 }
 
-fn with_record(record: &[u32], call: Command) -> Vec<Command> {
-    let mut commands = vec![Command::Record(record.len() as u32)];
-    let set = |(at, &word)| (word != 0).then_some(Command::SetRecord(at, word));
-    commands.extend((0..).zip(record).filter_map(set));
-    commands.push(call);
-    commands
+/// Commands, and the program as they leave it: only words that differ are set.
+#[derive(Clone, Debug, Default)]
+pub struct Script {
+    pub commands: Vec<Command>,
+    harness: Harness,
 }
 
-/// What the program keeps between commands: the lent words and the record.
+impl Script {
+    pub fn push(&mut self, command: Command) {
+        self.harness.perform(command);
+        self.commands.push(command);
+    }
+
+    pub fn extend(&mut self, commands: impl IntoIterator<Item = Command>) {
+        commands.into_iter().for_each(|command| self.push(command));
+    }
+
+    /// A call: the words of its buffer and record, and the call itself.
+    pub fn call(&mut self, call: &Call) {
+        if let Call::VertexWith(buffer, _) = call {
+            let there = &self.harness.buffer;
+            self.extend(renewed(there, buffer, MOST_BUFFER_WORDS, Command::Buffer));
+            let there = &self.harness.buffer;
+            self.extend(different(there, buffer, Command::SetBuffer));
+        }
+        if let Some(record) = call.record() {
+            let there = &self.harness.record;
+            self.extend(renewed(there, record, MOST_RECORD_WORDS, Command::Record));
+            let there = &self.harness.record;
+            self.extend(different(there, record, Command::SetRecord));
+        }
+        self.push(Command::of_call(call));
+    }
+}
+
+/// The command for another number of words, at most so many, if it is needed.
+fn renewed(there: &[u32], words: &[u32], most: u32, renew: fn(u32) -> Command) -> Option<Command> {
+    let count = most.min(words.len() as u32);
+    (there.len() != count as usize).then(|| renew(count))
+}
+
+/// The commands for the words that differ.
+fn different(there: &[u32], words: &[u32], set: fn(u32, u32) -> Command) -> Vec<Command> {
+    let pairs = (0..).zip(there.iter().zip(words));
+    pairs
+        .filter(|(_, (old, new))| old != new)
+        .map(|(at, (_, &new))| set(at, new))
+        .collect()
+}
+
+/// What the program keeps between commands: the lent words, the record and the pending buffer.
 #[derive(Clone, Debug, Default)]
 pub struct Harness {
     lent: Vec<u32>,
     record: Vec<u32>,
+    buffer: Vec<u32>,
 }
 
 impl Harness {
@@ -109,7 +164,10 @@ impl Harness {
             Command::Record(count) => renew(&mut self.record, count.min(MOST_RECORD_WORDS)),
             Command::SetRecord(at, word) => set(&mut self.record, at, word),
             Command::Open(n, own) => numbers(calls::open(state, n, own)),
+            Command::Buffer(count) => renew(&mut self.buffer, count.min(MOST_BUFFER_WORDS)),
+            Command::SetBuffer(at, word) => set(&mut self.buffer, at, word),
             Command::Vertex => numbers(calls::take_vertex(state, &self.record)),
+            Command::VertexWith => self.vertex_with(),
             Command::First => numbers(calls::take_first_message(state, &self.record)),
             Command::Timeout(round, signer) => numbers(calls::take_timeout(state, round, signer)),
             Command::Timeouts(round, mask) => numbers(calls::take_timeouts(state, round, mask)),
@@ -122,6 +180,14 @@ impl Harness {
             Command::HandLeaders(k) => counted(calls::hand_leaders(state, k).1),
             Command::HandJournal(k) => counted(calls::hand_journal(state, k).1),
         }
+    }
+
+    /// The answer's numbers and the checksum of the buffer's words.
+    fn vertex_with(&mut self) -> Option<Vec<u32>> {
+        let answer = calls::take_vertex_with(&mut self.lent, &mut self.buffer, &self.record);
+        let mut line = numbers(answer)?;
+        line.push(checksum(&self.buffer));
+        Some(line)
     }
 
     /// Carries a command out and returns the numbers of the line that it prints, if it is a call.

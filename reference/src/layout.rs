@@ -1,4 +1,5 @@
-//! Layout of the state and of a record, in words of 32 bits. Each number of 01 and 02 is named once.
+//! Layout of the state, of a record and of a pending buffer, in words of 32 bits. Each number of 01
+//! and 02 is named once.
 
 use std::ops::Range;
 
@@ -17,6 +18,13 @@ pub const IDS_PER_ROUND: u32 = 16;
 pub const RECORD_WORDS: usize = 12;
 /// Weak ids that a record has room for.
 pub const WEAK_SLOTS: usize = 5;
+
+/// A pending buffer (02: shelf): its count of records, and the records, for which it has so many
+/// places.
+pub const BUFFER_COUNT: usize = 0;
+pub const BUFFER_RECORDS: usize = 1;
+pub const BUFFER_SLOTS: usize = 32;
+pub const BUFFER_WORDS: usize = buffer_end(BUFFER_SLOTS);
 
 /// Words of a whole state (01: sheet).
 pub const STATE_WORDS: usize = 5_864;
@@ -64,6 +72,11 @@ pub fn round_bit(round: u32) -> u32 {
 pub fn cell_place(round: u32, member: u32) -> Range<usize> {
     let start = CELLS.start + CELL_WORDS * (vertex_id(round - 1, member) as usize);
     start..start + CELL_WORDS
+}
+
+/// Where so many records end in a pending buffer.
+pub const fn buffer_end(count: usize) -> usize {
+    BUFFER_RECORDS + RECORD_WORDS * count
 }
 
 /// The vertex id (01: ref) of a round up to 32 and a member below 16.

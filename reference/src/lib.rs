@@ -6,7 +6,8 @@
 //! and encodes it back.
 //!
 //! Identifiers use the field's terms: state (01: sheet), vertex id (01: ref), well formed
-//! (01: sound), committable (01: ready), status (01: head), model (01: plain book).
+//! (01: sound), committable (01: ready), status (01: head), model (01: plain book), pending buffer
+//! (02: shelf).
 
 #![deny(warnings)]
 #![forbid(unsafe_code)]
@@ -21,6 +22,7 @@ pub mod layout;
 pub mod line;
 pub mod model;
 mod own;
+pub mod pending;
 pub mod record;
 pub mod rng;
 pub mod sheetlog;
@@ -33,8 +35,8 @@ pub use answer::{Answer, Proposal, Status};
 pub use call::Call;
 pub use calls::{
     ask_journal, ask_leaders, hand_journal, hand_leaders, open, propose, sign_no_vote, status,
-    take_first_message, take_no_vote, take_timeout, take_timeouts, take_vertex,
+    take_first_message, take_no_vote, take_timeout, take_timeouts, take_vertex, take_vertex_with,
 };
-pub use layout::STATE_WORDS;
+pub use layout::{BUFFER_WORDS, STATE_WORDS};
 pub use model::Model;
 pub use well_formed::is_well_formed;

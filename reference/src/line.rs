@@ -9,13 +9,14 @@ pub const LONGEST_LINE: usize = 1 + RECORD_WORDS * 11;
 
 impl Call {
     /// The call as a line. A call that no line stands for gives a line of another form: a record
-    /// of other than 12 words, an opening for a member, a bundle of timeouts, making our vertex and
-    /// signing our no-vote.
+    /// of other than 12 words, an opening for a member, a vertex with a pending buffer, a bundle of
+    /// timeouts, making our vertex and signing our no-vote.
     pub fn line(&self) -> String {
         let (letter, words) = match self {
             Call::Open(n, 0) => ('O', vec![*n]),
             Call::Open(n, own) => ('O', vec![*n, *own]),
             Call::Vertex(record) => ('V', record.clone()),
+            Call::VertexWith(buffer, record) => ('W', [&record[..], buffer].concat()),
             Call::First(record) => ('F', record.clone()),
             Call::Timeout(round, signer) => ('T', vec![*round, *signer]),
             Call::Timeouts(round, mask) => ('B', vec![*round, *mask]),

@@ -7,6 +7,7 @@ use crate::answer::ADMITTED;
 use crate::call::Call;
 use crate::group::{members, Group};
 use crate::layout::{round_of, vertex_id, LAST_COMMITTABLE_ROUND};
+use crate::pending::records;
 use crate::record::Record;
 
 /// What the model keeps: n, vertices and first messages, both by vertex id.
@@ -38,9 +39,36 @@ impl Model {
                 }
             }
             Call::Vertex(words) => keep(&mut self.vertices, words),
+            Call::VertexWith(buffer, words) => {
+                keep(&mut self.vertices, words);
+                self.take_pending(records(buffer));
+            }
             Call::First(words) => keep(&mut self.first_messages, words),
             Call::Timeout(..) | Call::Timeouts(..) | Call::NoVote(..) => {}
             Call::Propose(_) | Call::SignNoVote => {}
+        }
+    }
+
+    /// Tries the records of a pending buffer against the vertices, pass after pass, until one joins
+    /// none: one whose id is there leaves, and one with all parents there joins.
+    fn take_pending(&mut self, mut pending: Vec<Record>) {
+        loop {
+            let before = self.vertices.len();
+            pending.retain(|record| {
+                if self.vertices.contains_key(&record.id()) {
+                    return false;
+                }
+                let is_there = |id| self.vertices.contains_key(&id);
+                let joins =
+                    strong_edges(record).all(is_there) && weak_edges(record).copied().all(is_there);
+                if joins {
+                    self.vertices.insert(record.id(), *record);
+                }
+                !joins
+            });
+            if self.vertices.len() == before {
+                return;
+            }
         }
     }
 

@@ -1,6 +1,7 @@
 //! Simulated groups: after every call the state is well formed and its lists equal the model's, an
 //! admitted vertex leaves a current round of its own round or above, an admitted bundle of timeouts
-//! ends as single ones, and the lists of two replicas are prefixes of one another.
+//! ends as single ones, a vertex with a pending buffer as plain vertices, and the lists of two
+//! replicas are prefixes of one another.
 
 mod common;
 
@@ -32,8 +33,13 @@ struct Seen {
     /// Rounds ended by a bundle, and admitted bundles with members noted before.
     by_bundle: usize,
     overlapping: usize,
-    /// The numbers of bundles.
+    /// The numbers of bundles, and of vertices with a buffer.
     bundles: BTreeSet<u32>,
+    buffers: BTreeSet<u32>,
+    /// Calls with a buffer, records that they released, and calls that released several and committed.
+    buffered: usize,
+    released: usize,
+    several_released: usize,
     /// States with every cell of the group held.
     full: usize,
 }
@@ -45,7 +51,10 @@ fn follow(calls: &[Call], against_model: bool, seen: &mut Seen) -> State {
     let mut expected = Lists::default();
     for call in calls {
         let before = state.clone();
-        let answer = call.apply(&mut state);
+        let answer = match call {
+            Call::VertexWith(buffer, words) => with_buffer(&mut state, buffer, words, seen),
+            call => call.apply(&mut state),
+        };
         seen.numbers.insert(answer.number);
         if matches!(call, Call::Timeouts(..)) {
             seen.bundles.insert(answer.number);
@@ -67,6 +76,24 @@ fn follow(calls: &[Call], against_model: bool, seen: &mut Seen) -> State {
     }
     note_end(&state, seen);
     state
+}
+
+/// A vertex with a buffer; one in four is checked against plain vertices.
+fn with_buffer(state: &mut State, buffer: &[u32], words: &[u32], seen: &mut Seen) -> Answer {
+    let before = held_records(state).len();
+    let mut buffer = buffer.to_vec();
+    seen.buffered += 1;
+    let answer = if seen.buffered % 4 == 0 {
+        checked_with(state, &mut buffer, words).0
+    } else {
+        take_vertex_with(state, &mut buffer, words)
+    };
+    let admitted = held_records(state).len() - before;
+    assert_eq!(admitted > 0, answer.number == 0);
+    seen.buffers.insert(answer.number);
+    seen.released += admitted.saturating_sub(1);
+    seen.several_released += usize::from(admitted > 2 && answer.leaders > 0);
+    answer
 }
 
 /// The lists as they stand in a state that is known to be well formed.
@@ -160,14 +187,13 @@ fn check_premises(run: &Run) {
     for calls in &run.replicas {
         let mut state = vec![0; STATE_WORDS];
         for call in calls {
-            if call.apply(&mut state).number != 0 {
-                continue;
+            let admitted = call.apply(&mut state).number == 0;
+            if let (Call::First(words), true) = (call, admitted) {
+                one_record(&mut firsts, words, !has(run.faulty, words[1]));
             }
-            match call {
-                Call::Vertex(words) => one_record(&mut vertices, words, true),
-                Call::First(words) => one_record(&mut firsts, words, !has(run.faulty, words[1])),
-                _ => {}
-            }
+        }
+        for record in held_records(&state).values() {
+            one_record(&mut vertices, &record.words(), true);
         }
     }
     let honest = |record: &&Record| !has(run.faulty, record.source);
@@ -247,8 +273,9 @@ fn typical_groups_commit_and_agree() {
     assert!(seen.weak > 100, "{}", seen.weak);
     assert!(seen.by_certificate > 50, "{}", seen.by_certificate);
     check_bundles(&seen);
-    let own_calls = 16..=17;
-    let expected: BTreeSet<u32> = [0, 2].into_iter().chain(4..=14).chain(own_calls).collect();
+    check_buffers(&seen);
+    let later = [16, 17, 19, 20];
+    let expected: BTreeSet<u32> = [0, 2].into_iter().chain(4..=14).chain(later).collect();
     assert_eq!(seen.numbers, expected);
 }
 
@@ -259,6 +286,15 @@ fn rough_groups_agree() {
     assert!(seen.skipped > 50, "{}", seen.skipped);
     assert!(seen.by_certificate > 50, "{}", seen.by_certificate);
     check_bundles(&seen);
+    check_buffers(&seen);
+}
+
+/// Buffers released records, and all numbers were seen that have to do with them.
+fn check_buffers(seen: &Seen) {
+    assert!(seen.released > 400, "{}", seen.released);
+    assert!(seen.several_released > 5, "{}", seen.several_released);
+    let needed = BTreeSet::from([0, 4, 12, 13, 14, 19, 20]);
+    assert!(seen.buffers.is_superset(&needed), "{:?}", seen.buffers);
 }
 
 /// Bundles had members noted before, and every number that a well formed state leaves them.
@@ -289,7 +325,7 @@ fn groups_without_timeouts_go_on_by_certificates() {
         ..Options::typical()
     };
     let seen = run_groups(&options, 0..2);
-    assert!(seen.by_certificate > 40, "{}", seen.by_certificate);
+    assert!(seen.by_certificate > 30, "{}", seen.by_certificate);
     let run = simulate(0, 4, &options);
     for calls in run.replicas {
         let mut state = vec![0; STATE_WORDS];

@@ -210,6 +210,7 @@ fn simulated_runs_as_lines() {
         let watchers = Options {
             members: 0,
             bundles: 0,
+            buffers: 0,
             ..Options::wild()
         };
         for calls in simulate(5, n, &watchers).replicas {

@@ -1,16 +1,17 @@
 //! Groups driven by made records alone: what A1 says of every made record and signed no-vote, that
 //! a member whom no timeouts reach goes on by carried certificates (A2), that bundles of timeouts
-//! end as single ones (A3), and that such groups go on, commit and agree.
+//! end as single ones (A3), that a vertex with a pending buffer ends as plain ones (A5), and that such
+//! groups go on, commit and agree.
 
 mod common;
 
 use std::collections::{BTreeMap, BTreeSet};
 
 use common::*;
-use reference::group::{has, Group};
+use reference::group::Group;
 use reference::layout::{
-    mask_place, member_of, round_bit, round_of, CURRENT_ROUND, HELD, LAST_CURRENT_ROUND,
-    LAST_ROUND, MADE_ROUNDS, NO_VOTES, RECORD_WORDS, SIGNED_NO_VOTES,
+    mask_place, round_bit, CURRENT_ROUND, LAST_CURRENT_ROUND, LAST_ROUND, MADE_ROUNDS, NO_VOTES,
+    RECORD_WORDS, SIGNED_NO_VOTES,
 };
 use reference::model::Lists;
 use reference::record::{first_refusal, Record};
@@ -38,6 +39,9 @@ struct Seen {
     bundles: BTreeSet<u32>,
     by_bundle: usize,
     overlapping: usize,
+    /// The numbers of vertices with a buffer, and the records that these released.
+    buffers: BTreeSet<u32>,
+    released: usize,
     committed: u32,
     skipped: u32,
 }
@@ -97,6 +101,7 @@ impl Member<'_> {
             Call::Propose(tag) => self.propose(&before, *tag),
             Call::SignNoVote => self.sign(&before),
             Call::Vertex(words) => self.take(&before, words),
+            Call::VertexWith(buffer, words) => self.take_with(buffer, words),
             Call::Timeouts(round, mask) => self.bundle(&before, *round, *mask),
             call => call.apply(&mut self.state).number,
         };
@@ -229,10 +234,24 @@ impl Member<'_> {
         }
         number
     }
-}
 
-fn holds(state: &State, id: u32) -> bool {
-    has(state[mask_place(round_of(id), HELD)], member_of(id))
+    /// A vertex with a buffer is checked against plain vertices.
+    fn take_with(&mut self, buffer: &[u32], words: &[u32]) -> u32 {
+        let record = Record::from_words(words).expect("a record has 12 words");
+        let old = self.state[CURRENT_ROUND];
+        let (answer, released) = checked_with(&mut self.state, &mut buffer.to_vec(), words);
+        let new = self.state[CURRENT_ROUND];
+        let alone = released.is_empty() && old < new;
+        self.seen.by_certificate += usize::from(alone && new == record.round);
+        self.seen.buffers.insert(answer.number);
+        self.seen.released += released.len();
+        if answer.number == 0 {
+            for record in [record].into_iter().chain(released) {
+                assert_eq!(self.vertices.insert(record.id(), record), None);
+            }
+        }
+        answer.number
+    }
 }
 
 fn prefixes(a: &Lists, b: &Lists) -> bool {
@@ -311,7 +330,8 @@ fn groups_with_silent_leaders_go_on() {
         assert!(count > 50, "{what} {count}");
     }
     assert_eq!(seen.bundles, BTreeSet::from([0, 5, 7, 12]));
-    assert!(seen.left_out > 0);
+    assert_eq!(seen.buffers, BTreeSet::from([0, 12, 14, 19]));
+    assert!(seen.released > 100, "{}", seen.released);
     let members = 6 * 4 + 3 * 7 + 16;
     assert!(seen.committed > 25 * members, "{}", seen.committed);
     assert!(seen.skipped > 5 * members, "{}", seen.skipped);
@@ -364,14 +384,34 @@ fn timeouts_come_as_notes_as_bundles_and_both_ways() {
 }
 
 #[test]
-fn groups_without_bundles_have_none() {
+fn groups_without_bundles_and_buffers_have_none() {
     let options = Options {
         bundles: 0,
+        buffers: 0,
         ..Options::rough()
     };
     let runs = [simulate(1, 4, &options), simulate_proposing(1, 4, &options)];
     let mut calls = runs.iter().flat_map(|run| run.replicas.iter().flatten());
-    assert!(!calls.any(|call| matches!(call, Call::Timeouts(..))));
+    assert!(!calls.any(|call| matches!(call, Call::Timeouts(..) | Call::VertexWith(..))));
+}
+
+/// Members that hand vertices over in order, and members that hand all over with a buffer.
+#[test]
+fn vertices_come_in_order_and_with_buffers() {
+    let options = Options {
+        noise: 0,
+        early_stop: 0,
+        ..Options::rough()
+    };
+    let mut ways = BTreeSet::new();
+    for calls in simulate_proposing(3, 10, &options).replicas {
+        let plain = calls.iter().any(|call| matches!(call, Call::Vertex(_)));
+        let buffered = calls
+            .iter()
+            .any(|call| matches!(call, Call::VertexWith(..)));
+        ways.insert((plain, buffered));
+    }
+    assert_eq!(ways, BTreeSet::from([(true, false), (false, true)]));
 }
 
 #[test]

@@ -131,6 +131,7 @@ fn sizes_come_first() {
             Call::Open(5, 0),
             Call::Open(4, 5),
             v(bad),
+            Call::VertexWith(vec![], bad.words().to_vec()),
             f(bad),
             Call::Timeout(0, 9),
             Call::Timeouts(0, 1 << 9),
@@ -160,6 +161,7 @@ fn state_comes_before_record() {
     let zero = vec![0; STATE_WORDS];
     for call in [
         Call::Vertex(vec![]),
+        Call::VertexWith(vec![], vec![]),
         Call::First(vec![]),
         Call::Timeout(0, 9),
         Call::Timeouts(0, 1 << 9),
@@ -177,6 +179,8 @@ fn state_comes_before_record() {
 fn record_length_comes_before_its_words() {
     for length in [0, 1, 2, 11, 13, 24] {
         expect(&state_s(), Call::Vertex(vec![99; length]), 4);
+        let empty = vec![0; BUFFER_WORDS];
+        expect(&state_s(), Call::VertexWith(empty, vec![99; length]), 4);
         expect(&state_s(), Call::First(vec![99; length]), 4);
     }
 }

@@ -3,6 +3,8 @@
 mod common;
 
 use common::*;
+use reference::harness::MOST_BUFFER_WORDS;
+use reference::layout::buffer_end;
 use reference::rng::Rng;
 use reference::*;
 
@@ -11,7 +13,20 @@ fn any_call(rng: &mut Rng) -> Call {
     let word = |rng: &mut Rng| if small { rng.below(40) } else { rng.word() };
     let length = if rng.percent(80) { 12 } else { rng.below(30) };
     let words: Vec<u32> = (0..length).map(|_| word(rng)).collect();
-    match rng.below(8) {
+    let buffer_length = if rng.percent(80) {
+        BUFFER_WORDS as u32
+    } else {
+        rng.below(MOST_BUFFER_WORDS)
+    };
+    let count = rng.below(4);
+    let mut buffer: Vec<u32> = (0..buffer_length).map(|_| word(rng)).collect();
+    if rng.percent(50) {
+        let used = buffer_end(count as usize);
+        buffer.iter_mut().skip(used).for_each(|word| *word = 0);
+        buffer.iter_mut().take(1).for_each(|word| *word = count);
+    }
+    match rng.below(9) {
+        8 => Call::VertexWith(buffer, words),
         0 => Call::Open(word(rng), word(rng)),
         1 => Call::Vertex(words),
         2 => Call::First(words),

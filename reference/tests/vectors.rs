@@ -2,7 +2,8 @@
 
 use std::collections::{BTreeMap, BTreeSet};
 
-use reference::harness::{Command, Harness};
+use reference::harness::{Command, Harness, Script};
+use reference::layout::{BUFFER_WORDS, RECORD_WORDS};
 use reference::simulate::{simulate, simulate_proposing, Options};
 use reference::vectors::commands;
 use reference::STATE_WORDS;
@@ -37,6 +38,7 @@ fn every_number_of_every_call_is_seen() {
         (15, &[0, 1, 3, 5, 9, 10, 12, 16, 18]),
         (16, &[0, 1, 3, 12, 16, 17]),
         (17, &[0, 1, 3, 5, 7, 12]),
+        (18, &[0, 1, 3, 4, 5, 6, 7, 8, 9, 10, 11, 12, 13, 14, 19, 20]),
     ] {
         let numbers = numbers.iter().copied().collect();
         assert_eq!(seen[&operation], numbers, "operation {operation}");
@@ -63,21 +65,66 @@ fn the_commands_are_the_same_every_time() {
 fn a_call_s_commands_make_it() {
     let mut runs = [
         simulate(1, 4, &Options::rough()),
+        simulate(2, 4, &Options::rough()),
         simulate_proposing(1, 4, &Options::typical()),
     ];
     let calls = runs.each_mut().map(|run| run.replicas.remove(0)).concat();
+    assert!(calls.iter().any(|call| !call.buffer().is_empty()));
+    let mut script = Script::default();
+    script.push(Command::Lend(STATE_WORDS as u32));
+    calls.iter().for_each(|call| script.call(call));
     let mut harness = Harness::default();
+    let commands = script.commands.into_iter();
+    let lines: Vec<_> = commands
+        .filter_map(|command| harness.perform(command))
+        .collect();
+    assert_eq!(lines.len(), calls.len());
     let mut state = vec![0; STATE_WORDS];
-    assert_eq!(harness.perform(Command::Lend(STATE_WORDS as u32)), None);
-    for call in calls {
-        let commands = Command::of_call(&call);
-        let lines: Vec<_> = commands
-            .into_iter()
-            .filter_map(|command| harness.perform(command))
-            .collect();
-        assert_eq!(lines.len(), 1);
-        assert_eq!(lines[0][1], call.apply(&mut state).number, "{call:?}");
+    for (line, call) in lines.iter().zip(&calls) {
+        let answer = call.apply(&mut state);
+        assert_eq!(
+            line[1..5],
+            [answer.number, answer.id, answer.leaders, answer.journal],
+            "{call:?}"
+        );
     }
+}
+
+#[test]
+fn the_buffer_stays_from_command_to_command() {
+    let mut harness = Harness::default();
+    let mut line = |command| harness.perform(command);
+    let size = BUFFER_WORDS as u32;
+    for command in [
+        Command::Lend(STATE_WORDS as u32),
+        Command::Open(4, 0),
+        Command::Record(RECORD_WORDS as u32),
+        Command::SetRecord(0, 2),
+        Command::SetRecord(2, 7),
+        Command::SetBuffer(0, 1),
+    ] {
+        line(command);
+    }
+    let mut made = || line(Command::VertexWith).expect("it prints a line");
+    let without = made();
+    assert_eq!(without[..6], [18, 19, 0, 0, 0, 0]);
+    assert_eq!(harness.perform(Command::Buffer(size)), None);
+    let mut made = || {
+        harness
+            .perform(Command::VertexWith)
+            .expect("it prints a line")
+    };
+    let put = made();
+    assert_eq!(put[..5], [18, 14, 16, 0, 0]);
+    let again = made();
+    assert_eq!(again[..5], [18, 12, 0, 0, 0]);
+    assert_eq!(put[5..], again[5..]);
+    assert_eq!(put[6], without[6]);
+    assert_ne!(put[5], 0);
+    assert_eq!(harness.perform(Command::SetBuffer(0, 2)), None);
+    assert_eq!(harness.perform(Command::SetBuffer(size, 2)), None);
+    let line = harness.perform(Command::VertexWith);
+    assert_eq!(line.map(|line| line[1]), Some(19));
 }
 
 #[test]

@@ -14,6 +14,7 @@ fn breaks(state: &State, changes: &[(usize, u32)]) {
     let record = plain(1, 3, 0).words().to_vec();
     for call in [
         Call::Vertex(record.clone()),
+        Call::VertexWith(vec![0; BUFFER_WORDS], record.clone()),
         Call::First(record),
         Call::Timeout(1, 0),
         Call::Timeouts(1, 1),

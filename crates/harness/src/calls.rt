@@ -9,6 +9,7 @@ use ordering::first::take_first_message;
 use ordering::notes::take_no_vote;
 use ordering::notes::take_timeout;
 use ordering::vertex::take_vertex;
+use pending::early::take_vertex_with;
 use proposing::making::Proposal;
 use proposing::making::propose;
 use proposing::signing::sign_no_vote;
@@ -40,6 +41,12 @@ fn put_proposal(proposal: Proposal) {
     put_words(&words);
 }
 
+// The answer's four numbers, and the checksum of the pending buffer.
+fn put_answer_with(answer: Answer, buffer: &[u32]) {
+    put_answer(answer);
+    put(checksum(buffer));
+}
+
 // The number alone: asking has no id, and adds nothing.
 fn put_number(answer: Answer) {
     let why = answer.refusal;
@@ -69,7 +76,7 @@ fn read(state: &[u32], op: u32, a: u32) {
 }
 
 // The calls that may change words, and the others.
-fn change(state: &mut [u32], rec: &[u32], op: u32, a: u32, b: u32) {
+fn change(state: &mut [u32], buffer: &mut [u32], rec: &[u32], op: u32, a: u32, b: u32) {
     match op {
         3 => put_answer(open(state, a, b)),
         9 => put_answer(take_vertex(state, rec)),
@@ -79,13 +86,17 @@ fn change(state: &mut [u32], rec: &[u32], op: u32, a: u32, b: u32) {
         15 => put_proposal(propose(state, a)),
         16 => put_answer(sign_no_vote(state)),
         17 => put_answer(take_timeouts(state, a, b)),
+        18 => {
+            let answer = take_vertex_with(state, buffer, rec);
+            put_answer_with(answer, buffer);
+        }
         _ => read(state, op, a),
     }
 }
 
 // One line of output.
-pub fn call(state: &mut [u32], rec: &[u32], op: u32, a: u32, b: u32) {
+pub fn call(state: &mut [u32], buffer: &mut [u32], rec: &[u32], op: u32, a: u32, b: u32) {
     put(op);
-    change(state, rec, op, a, b);
+    change(state, buffer, rec, op, a, b);
     put_last(checksum(state));
 }

@@ -20,8 +20,11 @@
 //   15 a   makes our own vertex with the tag a
 //   16     signs our own no-vote
 //   17 a b takes the timeouts of round a by the members of the mask b
-// A call prints a line: the operation, the numbers of the answer (of asking, the number alone; of making, the words of the record too),
-// and the checksum.
+//   18     takes a vertex with the pending buffer and the record
+//   19 a   the pending buffer has a words from now on, all zero, at most 400
+//   20 a b word a of the pending buffer becomes b, if the buffer has it
+// A call prints a line: the operation, the numbers of the answer (of asking, the number alone; of making, the words of the record too; of a
+// vertex with the pending buffer, the checksum of the buffer too), and the checksum.
 mod calls;
 mod input;
 mod output;
@@ -53,15 +56,23 @@ fn set(lent: &mut [u32], at: usize, word: u32) {
     }
 }
 
-// How many words are lent, and how many the record has.
+// How many words are lent, and how many the pending buffer and the record have.
 struct Sizes {
     lent: usize,
+    kept: usize,
     length: usize,
 }
 
-// Carries a command out on so many words and so long a record, and answers how many there are after it.
-fn perform(words: &mut [u32], rec: &mut [u32], sizes: Sizes, command: Command) -> Sizes {
+// Carries a command out on so many words, and answers how many there are after it.
+fn perform(
+    words: &mut [u32],
+    buffer: &mut [u32],
+    rec: &mut [u32],
+    sizes: Sizes,
+    command: Command,
+) -> Sizes {
     let lent = least(sizes.lent, words.len());
+    let kept = least(sizes.kept, buffer.len());
     let length = least(sizes.length, rec.len());
     let op = command.op;
     let at = command.a as usize;
@@ -69,31 +80,48 @@ fn perform(words: &mut [u32], rec: &mut [u32], sizes: Sizes, command: Command) -
         1 => {
             clear(words);
             let lent = least(at, words.len());
-            return Sizes { lent, length };
+            return Sizes { lent, kept, length };
         }
         2 => set(&mut words[..lent], at, command.b),
         13 => {
             clear(rec);
             let length = least(at, rec.len());
-            return Sizes { lent, length };
+            return Sizes { lent, kept, length };
         }
         14 => set(&mut rec[..length], at, command.b),
-        _ => call(&mut words[..lent], &rec[..length], op, command.a, command.b),
+        19 => {
+            clear(buffer);
+            let kept = least(at, buffer.len());
+            return Sizes { lent, kept, length };
+        }
+        20 => set(&mut buffer[..kept], at, command.b),
+        _ => call(
+            &mut words[..lent],
+            &mut buffer[..kept],
+            &rec[..length],
+            op,
+            command.a,
+            command.b,
+        ),
     }
-    Sizes { lent, length }
+    Sizes { lent, kept, length }
 }
 
 // A proved loop has to end, and nothing says that the input does: the loop counts its turns down, from a number that no run uses up.
-fn run(words: &mut [u32], rec: &mut [u32], block: &mut [u8]) {
+fn run(words: &mut [u32], buffer: &mut [u32], rec: &mut [u32], block: &mut [u8]) {
     let mut cursor = Cursor { at: 0, end: 0 };
-    let mut sizes = Sizes { lent: 0, length: 0 };
+    let mut sizes = Sizes {
+        lent: 0,
+        kept: 0,
+        length: 0,
+    };
     let mut turns = u64::MAX;
     while turns > 0 {
         let next = next_command(block, cursor);
         if next.op == 0 {
             return;
         }
-        sizes = perform(words, rec, sizes, next);
+        sizes = perform(words, buffer, rec, sizes, next);
         let after = next.cursor;
         cursor = after;
         turns -= 1;
@@ -102,7 +130,8 @@ fn run(words: &mut [u32], rec: &mut [u32], block: &mut [u8]) {
 
 fn main() {
     let mut words = [0u32; 6000];
+    let mut buffer = [0u32; 400];
     let mut rec = [0u32; 20];
     let mut block = io::large_buffer();
-    run(&mut words, &mut rec, &mut block);
+    run(&mut words, &mut buffer, &mut rec, &mut block);
 }

@@ -52,11 +52,12 @@ fn options(name: &str) -> Option<Options> {
     }
 }
 
-/// Calls that lines stand for: none of our own, and no bundles.
+/// Calls that lines stand for: none of our own, no bundles, and no pending buffers.
 fn calls(seed: u64, n: u32, options: &Options) -> Option<Vec<u8>> {
     let watchers = Options {
         members: 0,
         bundles: 0,
+        buffers: 0,
         ..options.clone()
     };
     let run = simulate(seed, n, &watchers);

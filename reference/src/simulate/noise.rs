@@ -1,25 +1,28 @@
 //! Calls between the ordinary ones, mostly to be refused: repeated, conflicting, damaged, out of
 //! range.
 
+use super::buffers;
 use super::replica::{own_call, Replica};
 use crate::call::Call;
 use crate::group::bit;
 use crate::layout::{vertex_id, LAST_ROUND, RECORD_WORDS};
+use crate::pending;
 use crate::record::Record;
 use crate::rng::Rng;
 
 const ILLEGAL_SIZES: [u32; 9] = [0, 1, 3, 5, 8, 15, 17, 19, u32::MAX];
 const BAD_ROUNDS: [u32; 4] = [0, LAST_ROUND + 1, 1 << 28, u32::MAX];
 const EDGE_WORDS: [u32; 7] = [0, 1, 2, 15, 16, 0xFFFF, u32::MAX];
-/// Kinds of calls; the last is drawn only in groups with bundles.
-const KINDS: u32 = 12;
+/// Kinds of calls in every group; groups with bundles and with buffers have one more for each.
+const KINDS: u32 = 11;
 
 impl Replica<'_> {
     /// Adds one call of a kind drawn at random, if it keeps the premises.
     pub fn add_noise(&mut self, rng: &mut Rng) {
-        let kinds = KINDS - u32::from(self.options.bundles == 0);
+        let has_bundles = self.options.bundles > 0;
+        let kinds = KINDS + u32::from(has_bundles) + u32::from(self.options.buffers > 0);
         let drawn = match rng.below(kinds) {
-            0 => rng.pick(&self.calls).cloned(),
+            0 => rng.pick(&self.host.calls).cloned(),
             1 => self.conflicting(rng),
             2 => self.missing_parent(rng),
             3 | 4 => self.damaged(rng),
@@ -29,10 +32,11 @@ impl Replica<'_> {
             8 => self.wrong_length(rng),
             9 => (self.options.members > 0).then(|| own_call(rng)),
             10 => self.untimely(rng),
-            _ => Some(self.any_bundle(rng)),
+            KINDS if has_bundles => Some(self.any_bundle(rng)),
+            _ => self.any_buffered(rng),
         };
         if let Some(call) = drawn.filter(|call| self.keeps_premises(call)) {
-            self.calls.push(call);
+            self.give(call);
         }
     }
 
@@ -133,7 +137,8 @@ impl Replica<'_> {
             Call::Timeouts(of, mask) if of == round && group.contains(mask) => mask,
             _ => 0,
         };
-        self.calls.iter().fold(0, |noted, call| noted | given(call))
+        let calls = self.host.calls.iter();
+        calls.fold(0, |noted, call| noted | given(call))
     }
 
     /// An opening with an illegal size, or for a member that the group has not: 2 or 6. As a line
@@ -166,6 +171,31 @@ impl Replica<'_> {
     /// A vertex of the world at a time of its own: mostly 12 or 14, and the rest admitted early.
     fn untimely(&self, rng: &mut Rng) -> Option<Call> {
         self.any_record(rng).map(|record| vertex(&record))
+    }
+
+    /// A vertex of any of these kinds with a buffer: with the host's own, which can be full, or with
+    /// another, which can be damaged.
+    fn any_buffered(&self, rng: &mut Rng) -> Option<Call> {
+        let drawn = match rng.below(6) {
+            0 => self.conflicting(rng),
+            1 => self.missing_parent(rng),
+            2 => self.damaged(rng),
+            3 => self.wrong_length(rng),
+            _ => self.untimely(rng),
+        };
+        let record = drawn?.record()?.to_vec();
+        Some(Call::VertexWith(self.any_buffer(rng), record))
+    }
+
+    fn any_buffer(&self, rng: &mut Rng) -> Vec<u32> {
+        let made: Vec<Record> = self.world.vertices.values().copied().collect();
+        let chance = 1 + rng.below(10);
+        match rng.below(6) {
+            0 => pending::laid_out(&[]),
+            1 => buffers::of_some(rng, chance, &made),
+            2 => buffers::damaged(rng, self.world.group, &self.host.buffer),
+            _ => self.host.buffer.clone(),
+        }
     }
 
     fn any_record(&self, rng: &mut Rng) -> Option<Record> {

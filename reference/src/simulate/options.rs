@@ -24,6 +24,10 @@ pub struct Options {
     /// That a replica gets timeouts in bundles; half of these get some as single notes too. With 0
     /// nobody does, nor is a bundle among the calls that are to be refused.
     pub bundles: u32,
+    /// That a replica hands vertices over as they come, with a pending buffer; half of these hand
+    /// some over in order too. With 0 nobody does, nor is a vertex with a buffer among the calls that
+    /// are to be refused.
+    pub buffers: u32,
     /// That a replica never gets a vertex, in a thousand; what builds on it is then refused.
     pub lost_vertices: u32,
     /// How far messages are delayed, in hundredths of a round.
@@ -54,6 +58,7 @@ impl Options {
             lost_messages: 10,
             lost_timeouts: 0,
             bundles: 60,
+            buffers: 50,
             lost_vertices: 0,
             spread: 80,
             eager: 10,

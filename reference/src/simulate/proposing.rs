@@ -4,12 +4,16 @@
 
 use std::collections::{BTreeMap, BTreeSet};
 
+use super::delivery::Delivery;
+use super::host::Host;
 use super::transport::Transport;
-use super::{Options, Run};
+use super::{buffers, Options, Run};
+use crate::answer;
 use crate::call::Call;
 use crate::calls::propose;
 use crate::group::{bit, has, members, Group};
 use crate::layout::*;
+use crate::pending;
 use crate::record::Record;
 use crate::rng::Rng;
 
@@ -78,7 +82,7 @@ struct Network<'a> {
 impl<'a> Network<'a> {
     fn new(mut rng: Rng, group: Group, options: &'a Options) -> Network<'a> {
         let silent = rng.top_up(0, group.all(), options.faulty.min(group.f()));
-        let mut draw_member = |own| Member::new(group, own, Transport::draw(&mut rng, options));
+        let mut draw_member = |own| Member::new(&mut rng, group, own, options);
         let replicas = (0..group.n()).map(&mut draw_member).collect();
         let mut network = Network {
             left_out: draw_left_out(&mut rng, group, silent, options),
@@ -103,7 +107,7 @@ impl<'a> Network<'a> {
         let mut lists: Vec<Vec<Call>> = self
             .replicas
             .into_iter()
-            .map(|member| member.calls)
+            .map(|member| member.host.calls)
             .collect();
         for calls in &mut lists {
             if self.rng.percent(self.options.early_stop) {
@@ -155,20 +159,16 @@ impl<'a> Network<'a> {
         self.make(to);
     }
 
-    /// Gives a vertex, or keeps it until its parents are held, and then those that waited for it.
     fn give_vertex(&mut self, to: u32, words: &[u32]) {
         let eager = self.rng.percent(self.options.eager);
         let member = &mut self.replicas[to as usize];
         let Some(record) = Record::from_words(words) else {
             return;
         };
-        member.pending.push(record);
-        if eager && !member.can_hold(&record) {
-            member.give(Call::Vertex(words.to_vec()));
-        }
-        while let Some(at) = member.pending.iter().position(|r| member.can_hold(r)) {
-            let record = member.pending.swap_remove(at);
-            member.give(Call::Vertex(record.words().to_vec()));
+        if member.is_buffered {
+            member.hand_over(record);
+        } else {
+            member.give_in_order(record, eager);
         }
     }
 
@@ -261,8 +261,8 @@ impl<'a> Network<'a> {
     fn try_to_make(&mut self, own: u32) {
         let tag = self.rng.word();
         let member = self.member(own);
-        let proposal = propose(&mut member.state, tag);
-        member.calls.push(Call::Propose(tag));
+        let proposal = propose(&mut member.host.state, tag);
+        member.host.calls.push(Call::Propose(tag));
         if proposal.answer.number == 0 {
             self.broadcast(proposal.record.to_vec());
         }
@@ -299,7 +299,9 @@ impl<'a> Network<'a> {
     /// A call that is to be refused, or repeats what the network brings anyway.
     fn add_noise(&mut self, to: u32) {
         let n = self.group.n();
-        let drawn = self.rng.below(5 - u32::from(self.options.bundles == 0));
+        let has_bundles = self.options.bundles > 0;
+        let kinds = 4 + u32::from(has_bundles) + u32::from(self.options.buffers > 0);
+        let drawn = self.rng.below(kinds);
         let member = &mut self.replicas[to as usize];
         let round = member.round();
         match drawn {
@@ -308,7 +310,7 @@ impl<'a> Network<'a> {
                 member.give(Call::SignNoVote);
             }
             2 => {
-                let drawn = self.rng.pick(&member.calls).cloned();
+                let drawn = self.rng.pick(&member.host.calls).cloned();
                 let own = matches!(drawn, Some(Call::Propose(_) | Call::SignNoVote));
                 let opens = matches!(drawn, Some(Call::Open(..)));
                 if let Some(call) = drawn.filter(|_| !own && !opens) {
@@ -319,7 +321,8 @@ impl<'a> Network<'a> {
                 let beyond = n + 1 + self.rng.below(3);
                 member.give(Call::Open(n, beyond));
             }
-            4 => self.add_bundle(to),
+            4 if has_bundles => self.add_bundle(to),
+            4 | 5 => self.add_buffered(to),
             _ => {}
         }
     }
@@ -336,6 +339,25 @@ impl<'a> Network<'a> {
         } else {
             Call::Timeouts(round, any & member.mask(round, TIMEOUTS))
         });
+    }
+
+    /// A record that came before, as a vertex with the member's own buffer, with an empty one, or
+    /// with a damaged one.
+    fn add_buffered(&mut self, to: u32) {
+        let member = &mut self.replicas[to as usize];
+        let drawn = self.rng.pick(&member.host.calls).and_then(Call::record);
+        let Some(record) = drawn.and_then(Record::from_words) else {
+            return;
+        };
+        let damaged = buffers::damaged(&mut self.rng, self.group, &member.host.buffer);
+        if self.rng.percent(50) && !pending::is_well_formed(&damaged, self.group) {
+            member.give(Call::VertexWith(damaged, record.words().to_vec()));
+        } else if member.is_buffered {
+            member.hand_over(record);
+        } else {
+            let empty = pending::laid_out(&[]);
+            member.give(Call::VertexWith(empty, record.words().to_vec()));
+        }
     }
 
     fn rounds(&self) -> u32 {
@@ -373,10 +395,11 @@ fn draw_cut_off(rng: &mut Rng, group: Group, silent: u32, options: &Options) -> 
 /// A member's state and the calls made on it.
 struct Member {
     group: Group,
-    state: Vec<u32>,
-    calls: Vec<Call>,
-    /// Vertices that wait for parents.
-    pending: Vec<Record>,
+    host: Host,
+    /// Whether vertices are handed over as they come, with the host's buffer.
+    is_buffered: bool,
+    /// Vertices that wait for parents, or for a place in the buffer.
+    waiting: Vec<Record>,
     times: Times,
     transport: Transport,
     /// By round from 1, the other members' timeouts that have come for a bundle.
@@ -393,49 +416,66 @@ struct Times {
 }
 
 impl Member {
-    fn new(group: Group, own: u32, transport: Transport) -> Member {
-        let mut member = Member {
+    fn new(rng: &mut Rng, group: Group, own: u32, options: &Options) -> Member {
+        let transport = Transport::draw(rng, options);
+        Member {
             group,
-            state: vec![0; STATE_WORDS],
-            calls: Vec::new(),
-            pending: Vec::new(),
+            host: Host::open(group.n(), own + 1),
+            is_buffered: Delivery::draw(rng, options) != Delivery::InOrder,
+            waiting: Vec::new(),
             times: Times::default(),
             transport,
             gathered: vec![0; LAST_ROUND as usize],
-        };
-        member.give(Call::Open(group.n(), own + 1));
-        member
+        }
     }
 
     /// Makes a call and returns its number.
     fn give(&mut self, call: Call) -> u32 {
-        let number = call.apply(&mut self.state).number;
-        self.calls.push(call);
-        number
+        self.host.give(call)
+    }
+
+    /// Gives a vertex, or keeps it until its parents are held, and then those that waited for it.
+    fn give_in_order(&mut self, record: Record, eager: bool) {
+        self.waiting.push(record);
+        if eager && !self.can_hold(&record) {
+            self.give(Call::Vertex(record.words().to_vec()));
+        }
+        while let Some(at) = self.waiting.iter().position(|r| self.can_hold(r)) {
+            let record = self.waiting.swap_remove(at);
+            self.give(Call::Vertex(record.words().to_vec()));
+        }
+    }
+
+    /// Gives a vertex with the buffer. One that finds it full waits until another is admitted.
+    fn hand_over(&mut self, record: Record) {
+        let mut next = vec![record];
+        while let Some(record) = next.pop() {
+            match self.host.give_buffered(&record.words()) {
+                answer::ADMITTED => next.append(&mut self.waiting),
+                answer::BUFFER_FULL => self.waiting.push(record),
+                _ => {}
+            }
+        }
     }
 
     fn round(&self) -> u32 {
-        self.state[CURRENT_ROUND]
+        self.host.state[CURRENT_ROUND]
     }
 
     fn mask(&self, round: u32, which: usize) -> u32 {
-        self.state[mask_place(round, which)]
-    }
-
-    fn holds(&self, id: u32) -> bool {
-        has(self.mask(round_of(id), HELD), member_of(id))
+        self.host.state[mask_place(round, which)]
     }
 
     fn can_hold(&self, record: &Record) -> bool {
-        record.parents().all(|id| self.holds(id))
+        record.parents().all(|id| self.host.holds(id))
     }
 
     fn holds_leader(&self, round: u32) -> bool {
-        self.holds(self.group.leader_id(round))
+        self.host.holds(self.group.leader_id(round))
     }
 
     fn has_made(&self, round: u32) -> bool {
-        round <= LAST_ROUND && self.state[MADE_ROUNDS] & round_bit(round) != 0
+        round <= LAST_ROUND && self.host.state[MADE_ROUNDS] & round_bit(round) != 0
     }
 
     /// Whether a no-vote against the previous leader can still be signed.
@@ -444,6 +484,6 @@ impl Member {
         round >= 2
             && !self.holds_leader(round - 1)
             && !self.has_made(round)
-            && self.state[SIGNED_NO_VOTES] & round_bit(round - 1) == 0
+            && self.host.state[SIGNED_NO_VOTES] & round_bit(round - 1) == 0
     }
 }

@@ -2,12 +2,16 @@
 
 use std::collections::BTreeSet;
 
+use super::delivery::Delivery;
+use super::host::Host;
 use super::transport::Transport;
 use super::world::World;
 use super::Options;
+use crate::answer;
 use crate::call::Call;
 use crate::group::{has, Group};
 use crate::layout::vertex_id;
+use crate::pending;
 use crate::record::{first_refusal, Record};
 use crate::rng::Rng;
 
@@ -27,22 +31,24 @@ pub fn draw_calls(rng: &mut Rng, world: &World, options: &Options) -> Vec<Call> 
     let own = rng
         .percent(options.members)
         .then(|| rng.below(world.group.n()));
-    let mut replica = Replica::new(world, options, own);
+    let delivery = Delivery::draw(rng, options);
+    let mut replica = Replica::new(world, options, own, delivery);
     for (_, call) in messages {
         replica.deliver(rng, call);
         if own.is_some() && rng.percent(OWN_CALLS) {
-            replica.calls.push(own_call(rng));
+            replica.give(own_call(rng));
         }
         while rng.percent(options.noise.min(90)) {
             replica.add_noise(rng);
         }
     }
     replica.give_up(rng);
+    let mut calls = replica.host.calls;
     if rng.percent(options.early_stop) {
-        let kept = 1 + rng.below(replica.calls.len() as u32);
-        replica.calls.truncate(kept as usize);
+        let kept = 1 + rng.below(calls.len() as u32);
+        calls.truncate(kept as usize);
     }
-    replica.calls
+    calls
 }
 
 /// The messages that reach the replica, each with its time.
@@ -184,36 +190,51 @@ pub fn own_call(rng: &mut Rng) -> Call {
 pub struct Replica<'a> {
     pub world: &'a World,
     pub options: &'a Options,
-    pub calls: Vec<Call>,
+    pub host: Host,
+    delivery: Delivery,
     /// Ids of the world's vertices given with all parents held, and of first messages given.
     pub held: BTreeSet<u32>,
     pub heard: BTreeSet<u32>,
-    /// Vertices that wait for parents.
-    pending: Vec<Record>,
+    /// Vertices that wait for parents, or for a place in the buffer.
+    waiting: Vec<Record>,
 }
 
 impl<'a> Replica<'a> {
-    fn new(world: &'a World, options: &'a Options, own: Option<u32>) -> Replica<'a> {
+    fn new(
+        world: &'a World,
+        options: &'a Options,
+        own: Option<u32>,
+        delivery: Delivery,
+    ) -> Replica<'a> {
         Replica {
             world,
             options,
-            calls: vec![Call::Open(
-                world.group.n(),
-                own.map_or(0, |member| member + 1),
-            )],
+            host: Host::open(world.group.n(), own.map_or(0, |member| member + 1)),
+            delivery,
             held: BTreeSet::new(),
             heard: BTreeSet::new(),
-            pending: Vec::new(),
+            waiting: Vec::new(),
         }
+    }
+
+    /// Makes a call and returns its number. What a buffer released is held too.
+    pub fn give(&mut self, call: Call) -> u32 {
+        let is_buffered = matches!(call, Call::VertexWith(..));
+        let number = self.host.give(call);
+        if is_buffered && number == answer::ADMITTED {
+            let ids = self.world.vertices.keys().copied();
+            self.held.extend(ids.filter(|&id| self.host.holds(id)));
+        }
+        number
     }
 
     fn deliver(&mut self, rng: &mut Rng, call: Call) {
         match &call {
             Call::Vertex(words) => {
-                let record = Record::from_words(words);
-                return record
-                    .into_iter()
-                    .for_each(|record| self.deliver_vertex(rng, record));
+                if let Some(record) = Record::from_words(words) {
+                    self.deliver_vertex(rng, record);
+                }
+                return;
             }
             Call::First(words) => {
                 self.heard
@@ -221,23 +242,44 @@ impl<'a> Replica<'a> {
             }
             _ => {}
         }
-        self.calls.push(call);
+        self.give(call);
+    }
+
+    fn deliver_vertex(&mut self, rng: &mut Rng, record: Record) {
+        if self.delivery.draw_buffered(rng) {
+            self.hand_over(record);
+        } else {
+            self.give_in_order(rng, record);
+        }
     }
 
     /// Gives a vertex, or keeps it until its parents are held, and then those that waited for it.
-    fn deliver_vertex(&mut self, rng: &mut Rng, record: Record) {
+    fn give_in_order(&mut self, rng: &mut Rng, record: Record) {
         if !self.can_hold(&record) {
             if rng.percent(self.options.eager) {
-                self.calls.push(Call::Vertex(record.words().to_vec()));
+                self.give(Call::Vertex(record.words().to_vec()));
             }
-            return self.pending.push(record);
+            return self.waiting.push(record);
         }
         let mut next = Some(record);
         while let Some(record) = next {
-            self.calls.push(Call::Vertex(record.words().to_vec()));
+            self.give(Call::Vertex(record.words().to_vec()));
             self.held.insert(record.id());
-            let ready = self.pending.iter().position(|record| self.can_hold(record));
-            next = ready.map(|at| self.pending.swap_remove(at));
+            let ready = self.waiting.iter().position(|record| self.can_hold(record));
+            next = ready.map(|at| self.waiting.swap_remove(at));
+        }
+    }
+
+    /// Gives a vertex with the buffer. One that finds it full waits until another is admitted.
+    fn hand_over(&mut self, record: Record) {
+        let mut next = vec![record];
+        while let Some(record) = next.pop() {
+            let buffer = self.host.buffer.clone();
+            match self.give(Call::VertexWith(buffer, record.words().to_vec())) {
+                answer::ADMITTED => next.append(&mut self.waiting),
+                answer::BUFFER_FULL => self.waiting.push(record),
+                _ => {}
+            }
         }
     }
 
@@ -245,37 +287,55 @@ impl<'a> Replica<'a> {
         record.parents().all(|id| self.held.contains(&id))
     }
 
-    /// At the end, gives some of the vertices whose parents never came.
+    /// At the end, gives some of the vertices whose parents never came, and what is left in the
+    /// buffer.
     fn give_up(&mut self, rng: &mut Rng) {
-        let pending = std::mem::take(&mut self.pending);
-        let given = pending.into_iter().filter(|_| rng.percent(30));
-        self.calls
-            .extend(given.map(|record| Call::Vertex(record.words().to_vec())));
+        for record in std::mem::take(&mut self.waiting) {
+            if rng.percent(30) {
+                self.give(Call::Vertex(record.words().to_vec()));
+            }
+        }
+        for record in pending::records(&self.host.buffer) {
+            self.give(Call::Vertex(record.words().to_vec()));
+        }
     }
 
-    /// Whether a call leaves the premises of the claim alone: it repeats the world, or is refused
-    /// now and later. Without premises every call does.
+    /// Whether a call leaves the premises of the claim alone: its records repeat the world, or are
+    /// refused now and later. Without premises every call does.
     pub fn keeps_premises(&self, call: &Call) -> bool {
-        let (words, given) = match call {
-            _ if !self.options.premises => return true,
-            Call::Vertex(words) => (words, &self.held),
-            Call::First(words) => (words, &self.heard),
-            Call::Open(n, own) => return Group::new(*n).is_none() || own > n,
-            Call::Timeout(..) | Call::Timeouts(..) | Call::NoVote(..) => return true,
-            Call::Propose(_) | Call::SignNoVote => return true,
-        };
-        let Some(record) = Record::from_words(words) else {
-            return true;
-        };
-        let lacks_parent = || {
-            record
-                .parents()
-                .any(|id| !self.world.vertices.contains_key(&id))
-        };
-        first_refusal(self.world.group, &record).is_some()
+        match call {
+            _ if !self.options.premises => true,
+            Call::Vertex(words) => self.is_harmless_vertex(words),
+            Call::VertexWith(buffer, words) => {
+                let pending = pending::records(buffer);
+                !pending::is_well_formed(buffer, self.world.group)
+                    || self.is_harmless_vertex(words)
+                        && pending.iter().all(|record| self.is_harmless(record))
+            }
+            Call::First(words) => {
+                Record::from_words(words).is_none_or(|record| self.repeats(&record, &self.heard))
+            }
+            Call::Open(n, own) => Group::new(*n).is_none() || own > n,
+            Call::Timeout(..) | Call::Timeouts(..) | Call::NoVote(..) => true,
+            Call::Propose(_) | Call::SignNoVote => true,
+        }
+    }
+
+    fn is_harmless_vertex(&self, words: &[u32]) -> bool {
+        Record::from_words(words).is_none_or(|record| self.is_harmless(&record))
+    }
+
+    /// Whether a vertex repeats the world, or can never be admitted.
+    fn is_harmless(&self, record: &Record) -> bool {
+        let is_made = |id| self.world.vertices.contains_key(&id);
+        self.repeats(record, &self.held) || !record.parents().all(is_made)
+    }
+
+    /// Whether a record is one of the world's, or is refused by itself or since its place is taken.
+    fn repeats(&self, record: &Record, given: &BTreeSet<u32>) -> bool {
+        first_refusal(self.world.group, record).is_some()
             || given.contains(&record.id())
-            || self.world.vertices.get(&record.id()) == Some(&record)
-            || (matches!(call, Call::Vertex(_)) && lacks_parent())
+            || self.world.vertices.get(&record.id()) == Some(record)
     }
 
     /// A member that made no vertex in the round.

@@ -27,6 +27,7 @@ pub fn replicas() -> Vec<Vec<Call>> {
         rounds: 6,
         early_stop: 0,
         bundles: 100,
+        buffers: 0,
         ..Options::typical()
     };
     let [drawn, mut proposing] = [

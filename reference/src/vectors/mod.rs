@@ -5,13 +5,14 @@
 mod bundle;
 mod carried;
 pub mod damage;
+mod pending;
 mod row;
 mod states;
 mod worked;
 
 use crate::call::Call;
 use crate::group::Group;
-use crate::harness::{Command, MOST_RECORD_WORDS};
+use crate::harness::{Command, Script, MOST_BUFFER_WORDS, MOST_RECORD_WORDS};
 use crate::layout::*;
 use crate::rng::Rng;
 use crate::simulate::{simulate_proposing, Options};
@@ -30,6 +31,20 @@ const WRONG_SIZES: [u32; 7] = [
     SIZE + 1_136,
 ];
 const ILLEGAL_SIZES: [u32; 13] = [0, 1, 2, 3, 5, 6, 8, 15, 17, 19, 65_540, 1 << 31, u32::MAX];
+const BUFFER_SIZE: u32 = BUFFER_WORDS as u32;
+/// The last one is cut to the longest buffer that the program has.
+const BUFFER_LENGTHS: [u32; 10] = [
+    0,
+    1,
+    2,
+    RECORD_WORDS as u32,
+    BUFFER_SIZE - 1,
+    BUFFER_SIZE,
+    BUFFER_SIZE + 1,
+    MOST_BUFFER_WORDS - 1,
+    MOST_BUFFER_WORDS,
+    u32::MAX,
+];
 /// Words 5 far beyond any group.
 const FAR_OWN: [u32; 6] = [17, 31, 32, 33, 1 << 31, u32::MAX];
 
@@ -37,9 +52,9 @@ const FAR_OWN: [u32; 6] = [17, 31, 32, 33, 1 << 31, u32::MAX];
 pub fn commands() -> Vec<Command> {
     let mut list = Commands {
         rng: Rng::new(SEED),
-        list: Vec::new(),
-        record: Vec::new(),
+        list: Script::default(),
     };
+    list.at_the_start();
     list.wrong_sizes();
     list.openings();
     list.random_states();
@@ -56,19 +71,29 @@ pub fn commands() -> Vec<Command> {
     list.simulated_runs();
     list.proposing_members();
     list.rows(&bundle::rows());
-    list.replicas_with_bundles();
+    list.replicas(bundle::replicas());
+    list.buffer_lengths();
+    list.rows(&pending::rows());
+    list.replicas(pending::replicas());
     list.list.push(Command::End);
-    list.list
+    list.list.commands
 }
 
-/// The commands so far, the generator for the next ones, and the record as they leave it.
+/// The generator for the next commands, and those so far.
 struct Commands {
     rng: Rng,
-    list: Vec<Command>,
-    record: Vec<u32>,
+    list: Script,
 }
 
 impl Commands {
+    /// Record and pending buffer as the program has them at the start: of no words.
+    fn at_the_start(&mut self) {
+        self.fresh(4, 0);
+        let set = [Command::SetBuffer(0, 1), Command::SetRecord(0, 1)];
+        let calls = [Command::VertexWith, Command::Vertex];
+        self.list.extend(calls.into_iter().chain(set).chain(calls));
+    }
+
     /// States that have not their number of words: zero, opened as far as they go, and random.
     fn wrong_sizes(&mut self) {
         for size in WRONG_SIZES {
@@ -199,6 +224,7 @@ impl Commands {
                 rounds,
                 early_stop: 0,
                 bundles: 0,
+                buffers: 0,
                 ..Options::typical()
             };
             let mut run = simulate_proposing(6, n, &options);
@@ -207,11 +233,25 @@ impl Commands {
         }
     }
 
-    /// Whole runs of replicas that get timeouts in bundles, call by call.
-    fn replicas_with_bundles(&mut self) {
-        for calls in bundle::replicas() {
+    /// Whole runs of replicas, call by call.
+    fn replicas(&mut self, replicas: Vec<Vec<Call>>) {
+        for calls in replicas {
             self.list.push(Command::Lend(STATE_WORDS as u32));
             self.run(&calls);
+        }
+    }
+
+    /// Pending buffers of every length near theirs and of some others, of zeros and with a count, on
+    /// 01's state S; words that the buffer has not are set without effect.
+    fn buffer_lengths(&mut self) {
+        self.fresh(4, 0);
+        self.run(&worked::state_s());
+        for length in BUFFER_LENGTHS {
+            self.list.push(Command::Buffer(length));
+            self.list.push(Command::SetBuffer(length, 1));
+            self.list.push(Command::VertexWith);
+            self.list.push(Command::SetBuffer(BUFFER_COUNT as u32, 1));
+            self.list.push(Command::VertexWith);
         }
     }
 
@@ -242,26 +282,8 @@ impl Commands {
         ]);
     }
 
-    /// A call, with only those words of the record set that differ.
     fn call(&mut self, call: &Call) {
-        if let Call::Vertex(words) | Call::First(words) = call {
-            self.set_record(words);
-        }
-        self.list.extend(Command::of_call(call).last());
-    }
-
-    fn set_record(&mut self, words: &[u32]) {
-        let length = words.len().min(MOST_RECORD_WORDS as usize);
-        if self.record.len() != length {
-            self.record = vec![0; length];
-            self.list.push(Command::Record(length as u32));
-        }
-        for (at, (old, &new)) in (0..).zip(self.record.iter_mut().zip(words)) {
-            if *old != new {
-                *old = new;
-                self.list.push(Command::SetRecord(at, new));
-            }
-        }
+        self.list.call(call);
     }
 
     /// A state that calls have reached: every list call near the counts, damages, and openings.
@@ -426,6 +448,7 @@ impl Commands {
         ]);
         let vertex: Vec<u32> = [1].into_iter().chain([0; RECORD_WORDS - 1]).collect();
         self.call(&Call::Vertex(vertex.clone()));
+        self.call(&Call::VertexWith(vec![0; BUFFER_WORDS], vertex.clone()));
         self.call(&Call::First(vertex));
         self.call(&Call::Timeout(1, 0));
         self.call(&Call::Timeouts(1, 1));

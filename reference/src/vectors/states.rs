@@ -31,12 +31,13 @@ pub fn reached(n: u32) -> Vec<Reached> {
     .collect()
 }
 
-/// All calls of one replica that gets timeouts one by one.
+/// All calls of one replica that gets timeouts one by one, and vertices without a pending buffer.
 pub fn simulated(seed: u64, n: u32, rounds: u32, options: Options) -> Vec<Call> {
     let options = Options {
         rounds,
         early_stop: 0,
         bundles: 0,
+        buffers: 0,
         ..options
     };
     let run = simulate_replicas(seed, n, &options, 1);

@@ -25,7 +25,8 @@ fn as_first(call: &Call) -> Call {
     }
 }
 
-fn record(round: u32, source: u32, [strong, timeouts, no_votes]: [u32; 3]) -> Record {
+/// A record without weak ids, with the tag 0.
+pub fn record(round: u32, source: u32, [strong, timeouts, no_votes]: [u32; 3]) -> Record {
     Record {
         round,
         source,

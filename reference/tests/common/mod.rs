@@ -2,11 +2,15 @@
 
 #![allow(dead_code)]
 
-use reference::group::members;
-use reference::layout::{mask_place, CURRENT_ROUND, NO_VOTES, TIMEOUTS};
-use reference::record::Record;
+use std::collections::BTreeMap;
+
+use reference::group::{has, members, Group};
+use reference::layout::*;
+use reference::pending::laid_out;
+use reference::record::{first_refusal, Record};
 use reference::{
-    hand_journal, hand_leaders, open, take_first_message, take_timeout, take_vertex, STATE_WORDS,
+    hand_journal, hand_leaders, open, take_first_message, take_timeout, take_vertex,
+    take_vertex_with, Answer,
 };
 
 pub type State = Vec<u32>;
@@ -160,4 +164,132 @@ pub fn rich_state() -> State {
     assert_eq!(reference::take_no_vote(&mut state, 6, 3).number, 0);
     assert_eq!(lists(&state), (vec![16, 33], vec![16, 17, 18, 33]));
     state
+}
+
+pub type Buffer = Vec<u32>;
+
+/// The held vertices by id.
+pub fn held_records(state: &[u32]) -> BTreeMap<u32, Record> {
+    let mut records = BTreeMap::new();
+    for round in 1..=LAST_ROUND {
+        for member in members(state[mask_place(round, HELD)]) {
+            let record = Record::from_cell(round, member, &state[cell_place(round, member)]);
+            records.insert(
+                vertex_id(round, member),
+                record.expect("a cell has its size"),
+            );
+        }
+    }
+    records
+}
+
+pub fn holds(state: &[u32], id: u32) -> bool {
+    has(state[mask_place(round_of(id), HELD)], member_of(id))
+}
+
+/// Whether a buffer is sound, as 02 says it, word by word.
+pub fn is_sound_buffer(buffer: &[u32], n: u32) -> bool {
+    if buffer.len() != BUFFER_WORDS || buffer[BUFFER_COUNT] as usize > BUFFER_SLOTS {
+        return false;
+    }
+    let group = Group::new(n).expect("the size is legal");
+    let mut last = 0;
+    for (at, words) in places_of(buffer).enumerate() {
+        let record = Record::from_words(words).expect("a place has its size");
+        if at >= buffer[BUFFER_COUNT] as usize {
+            if words.iter().any(|&word| word != 0) {
+                return false;
+            }
+        } else if first_refusal(group, &record).is_some() || record.id() <= last {
+            return false;
+        } else {
+            last = record.id();
+        }
+    }
+    true
+}
+
+/// The records of a sound buffer, by rising id.
+pub fn records_of(buffer: &[u32]) -> Vec<Record> {
+    let used = places_of(buffer).take(buffer[BUFFER_COUNT] as usize);
+    used.filter_map(Record::from_words).collect()
+}
+
+fn places_of(buffer: &[u32]) -> impl Iterator<Item = &[u32]> {
+    buffer[BUFFER_RECORDS..].chunks(RECORD_WORDS)
+}
+
+/// What 02 says of a vertex with a buffer, by plain vertex calls alone: the answer, the state and the
+/// buffer after it, and the records that the passes admitted, in turn.
+pub fn by_plain_calls(
+    state: &State,
+    buffer: &Buffer,
+    record: &[u32],
+) -> (Answer, State, Buffer, Vec<Record>) {
+    let mut after = state.clone();
+    let plain = take_vertex(&mut after, record);
+    let unchanged = |answer| (answer, state.clone(), buffer.clone(), Vec::new());
+    if [1, 3].contains(&plain.number) {
+        return unchanged(plain);
+    }
+    if !is_sound_buffer(buffer, state[N]) {
+        return unchanged(Answer::refused(19));
+    }
+    let mut pending = records_of(buffer);
+    if plain.number == 14 {
+        let record = Record::from_words(record).expect("it has passed question 4");
+        let same = pending.iter().find(|there| there.id() == record.id());
+        match same {
+            Some(there) => return unchanged(Answer::refused(12 + u32::from(*there != record))),
+            None if pending.len() == BUFFER_SLOTS => return unchanged(Answer::refused(20)),
+            None => {}
+        }
+        pending.push(record);
+        pending.sort_by_key(Record::id);
+        return (plain, state.clone(), laid_out(&pending), Vec::new());
+    }
+    if plain.number != 0 {
+        return unchanged(plain);
+    }
+    let mut sums = plain;
+    let mut released = Vec::new();
+    loop {
+        let before = released.len();
+        for record in pending.clone() {
+            let answer = take_vertex(&mut after, &record.words());
+            sums.leaders += answer.leaders;
+            sums.journal += answer.journal;
+            if answer.number == 0 {
+                released.push(record);
+            }
+            if answer.number != 14 {
+                pending.retain(|other| other.id() != record.id());
+            }
+        }
+        if released.len() == before {
+            return (sums, after, laid_out(&pending), released);
+        }
+    }
+}
+
+/// Takes a vertex with a buffer, and checks the answer and every word against plain calls, and that
+/// after an admission no record of the buffer is held or has all parents held. Returns the answer and
+/// what the passes admitted.
+pub fn checked_with(
+    state: &mut State,
+    buffer: &mut Buffer,
+    record: &[u32],
+) -> (Answer, Vec<Record>) {
+    let (expected, state_after, buffer_after, released) = by_plain_calls(state, buffer, record);
+    let answer = take_vertex_with(state, buffer, record);
+    assert_eq!(answer, expected, "{record:?}");
+    assert!(*state == state_after, "{record:?}");
+    assert_eq!(*buffer, buffer_after, "{record:?}");
+    if answer.number == 0 {
+        for record in records_of(buffer) {
+            assert!(!holds(state, record.id()), "{record:?}");
+            assert!(!record.parents().all(|id| holds(state, id)), "{record:?}");
+        }
+    }
+    (answer, released)
 }

@@ -48,7 +48,7 @@ double median(Samples& v) {
     return static_cast<double>(*middle);
 }
 
-alignas(64) u32 words[state_words];  // what the engines are lent
+alignas(64) u32 words[lent_words];  // what the engines are lent
 
 struct Timed {
     Case c;
@@ -64,7 +64,7 @@ struct Timed {
             std::fprintf(stderr, "bench: %s, n = %u, %u rounds: answered %u\n", c.name.c_str(), c.n, c.rounds, answer[0]);
             std::exit(1);
         }
-        for (std::size_t i = 0; i < state_words; ++i)
+        for (std::size_t i = 0; i < lent_words; ++i)
             if (after[i] != c.state[i]) changed.push_back(i);
     }
 
@@ -111,24 +111,40 @@ struct Timed {
     }
 };
 
-// The library's costs of a bundle, of a single timeout, and of a single timeout of each of the bundle's members, one after the other, on
-// the same words.
-struct Bundle {
-    Timed &bundle, &timeout;
+// The single calls that a call stands for: the timeouts of a bundle, or the vertex and all that waits in the buffer.
+std::vector<Call> single_calls(const Case& c) {
     std::vector<Call> singly;
-    Samples bundled, one, each, empty;
+    if (c.call.kind == Kind::timeouts) {
+        for (u32 p = 0; p < c.n; ++p)
+            if (c.call.b >> p & 1) singly.push_back({Kind::timeout, {}, c.call.a, p});
+        return singly;
+    }
+    singly.push_back({Kind::vertex, c.call.record});
+    const u32* at = c.state.data() + buffer_at;
+    for (u32 left = *at++; left != 0; --left, at += YARDBOOK_RECORD_WORDS) {
+        singly.push_back({Kind::vertex});
+        std::copy_n(at, YARDBOOK_RECORD_WORDS, singly.back().record.begin());
+    }
+    return singly;
+}
 
-    // Each single timeout is answered as the bundle is, and together they leave its words.
-    Bundle(Timed& its, Timed& note) : bundle(its), timeout(note) {
-        const u32 round = its.c.call.a, mask = its.c.call.b;
-        for (u32 p = 0; p < its.c.n; ++p)
-            if (mask >> p & 1) singly.push_back({Kind::timeout, {}, round, p});
-        std::vector<u32> by_bundle = its.c.state, by_each = its.c.state;
-        run(ours, its.c.call, by_bundle.data());
-        bool same = true;
-        for (const Call& call : singly) same &= run(ours, call, by_each.data()) == its.answer;
-        if (same && by_each == by_bundle) return;
-        std::fprintf(stderr, "bench: n = %u, %u rounds: single timeouts do not end as the bundle does\n", its.c.n, its.c.rounds);
+// The library's costs of a call that stands for several, of one such as these, and of all of them one after the other, on the same words.
+struct Together {
+    Timed &together, &single;
+    std::vector<Call> singly;
+    Samples joint, one, each, empty;
+
+    // Each single call is admitted, and they add to the lists and leave in the state what the one call does.
+    Together(Timed& its, Timed& such) : together(its), single(such), singly(single_calls(its.c)) {
+        std::vector<u32> by_one = its.c.state, by_each = its.c.state;
+        run(ours, its.c.call, by_one.data());
+        Said sum{};
+        for (const Call& call : singly) {
+            const Said said = run(ours, call, by_each.data());
+            for (std::size_t i = 0; i < sum.size(); ++i) sum[i] += said[i];
+        }
+        if (sum == its.answer && std::equal(by_one.begin(), by_one.begin() + state_words, by_each.begin())) return;
+        std::fprintf(stderr, "bench: %s, n = %u, %u rounds: single calls do not end as it does\n", its.c.name.c_str(), its.c.n, its.c.rounds);
         std::exit(1);
     }
 
@@ -136,12 +152,12 @@ struct Bundle {
         const std::uint64_t from = ticks();
         for (const Call& call : singly) run(engine, call, words);
         const std::uint64_t to = ticks();
-        for (const std::size_t i : bundle.changed) words[i] = bundle.c.state[i];
+        for (const std::size_t i : together.changed) words[i] = together.c.state[i];
         return to - from;
     }
 
     std::uint64_t alone(Engine engine) const {
-        std::copy(bundle.c.state.begin(), bundle.c.state.end(), words);
+        std::copy(together.c.state.begin(), together.c.state.end(), words);
         once(engine);
         return once(engine);
     }
@@ -149,9 +165,9 @@ struct Bundle {
     // In turn, so that whatever slows the machine slows all of them. The order of the first two alternates.
     void measure(int times) {
         for (int i = 0; i < times; ++i) {
-            if (i % 2 == 0) bundled.push_back(bundle.alone());
-            one.push_back(timeout.alone());
-            if (i % 2 != 0) bundled.push_back(bundle.alone());
+            if (i % 2 == 0) joint.push_back(together.alone());
+            one.push_back(single.alone());
+            if (i % 2 != 0) joint.push_back(together.alone());
             each.push_back(alone(ours));
             empty.push_back(alone(nothing));
         }
@@ -171,11 +187,11 @@ std::string ratio(double a, double b) {
 }
 
 void print_table(const std::vector<Timed>& all) {
-    std::puts("| call                   |  n | full rounds | library, ns | plain C++, ns | second, ns | library / plain | library / second |\n"
-              "|:-----------------------|---:|------------:|------------:|--------------:|-----------:|----------------:|-----------------:|");
+    std::puts("| call                            |  n | full rounds | library, ns | plain C++, ns | second, ns | library / plain | library / second |\n"
+              "|:--------------------------------|---:|------------:|------------:|--------------:|-----------:|----------------:|-----------------:|");
     for (const Timed& t : all) {
         const double our = t.ns[ours], plain = t.ns[plain_engine], its = t.ns[second];
-        std::printf("| %-22s | %2u | %11u | %11s | %13s | %10s | %15s | %16s |\n", t.c.name.c_str(), t.c.n, t.c.rounds,
+        std::printf("| %-31s | %2u | %11u | %11s | %13s | %10s | %15s | %16s |\n", t.c.name.c_str(), t.c.n, t.c.rounds,
                     cost(our).c_str(), cost(plain).c_str(), cost(its).c_str(), ratio(our, plain).c_str(), ratio(our, its).c_str());
     }
 }
@@ -199,8 +215,10 @@ void print_cell(const Timed* t) {
 
 // A row for each n and the calls that differ much, with the emptiest and the fullest state.
 void print_short_table(const std::vector<Timed>& all) {
-    static constexpr std::array<std::string_view, 25> names{
+    static constexpr std::array<std::string_view, 32> names{
         "open", "open: 2", "vertex", "vertex: 12", "vertex: 14", "vertex, commits", "vertex, commits all",
+        "vertex with buffer", "vertex with buffer, 32 stay", "vertex with buffer, releases 32", "vertex with buffer: 12",
+        "vertex with buffer: 14", "vertex with buffer: 19", "vertex with buffer: 20",
         "first message", "first message: 12", "timeout", "timeout: 12", "timeouts", "timeouts: 12", "no-vote", "no-vote: 12",
         "propose", "propose, weak ids", "propose: 12", "sign no-vote",
         "status", "status: 3", "ask journal", "ask journal: 15", "hand journal", "hand journal: 15"};
@@ -274,43 +292,47 @@ void print_summary(const std::vector<Timed>& all) {
                 rows, limit, above, largest, limit, steeper, steepest);
 }
 
-// What making a record costs beside taking a vertex, on the same words but the own member's. The two calls alternate, so that whatever slows
+// What a call costs beside a vertex, on the same words but, for propose, the own member's. The two calls alternate, so that whatever slows
 // the machine slows both.
-void print_proposing(std::vector<Timed>& all, int times, double timer, double per_ns) {
-    const u32 n = member_counts.back();
-    std::printf("\nLibrary, propose / vertex on the same state, the two calls in turn, n = %u:", n);
+void print_beside_vertex(std::vector<Timed>& all, const char* name, u32 n, int times, double timer, double per_ns) {
+    std::printf("\nLibrary, %s / vertex on the same state, the two calls in turn, n = %u:", name, n);
     for (const u32 rounds : fullness) {
-        Timed *propose = find(all, "propose", n, rounds), *vertex = find(all, "vertex", n, rounds);
-        Samples making, taking;
+        Timed *call = find(all, name, n, rounds), *vertex = find(all, "vertex", n, rounds);
+        Samples calling, taking;
         for (int i = 0; i < times; ++i) {
-            making.push_back(propose->alone());
+            calling.push_back(call->alone());
             taking.push_back(vertex->alone());
         }
-        const double made = (median(making) - timer) / per_ns, taken = (median(taking) - timer) / per_ns;
-        std::printf("%s %s with %u full rounds", rounds == fullness.front() ? "" : ",", ratio(made, taken).c_str(), rounds);
+        const double called = (median(calling) - timer) / per_ns, taken = (median(taking) - timer) / per_ns;
+        std::printf("%s %s with %u full rounds", rounds == fullness.front() ? "" : ",", ratio(called, taken).c_str(), rounds);
     }
     std::puts(".");
 }
 
-// For each n, with the emptiest and the fullest state.
-std::vector<Bundle> bundles_of(std::vector<Timed>& all) {
-    std::vector<Bundle> bundles;
-    for (const u32 n : member_counts)
-        for (const u32 rounds : {fullness.front(), fullness.back()})
-            bundles.emplace_back(*find(all, "timeouts", n, rounds), *find(all, "timeout", n, rounds));
-    return bundles;
+// For each n, with the emptiest state and the fullest one that the call is timed on.
+std::vector<Together> several_of(std::vector<Timed>& all) {
+    std::vector<Together> several;
+    auto add = [&](const char* name, const char* single, u32 n) {
+        std::vector<u32> timed;
+        for (const u32 rounds : fullness)
+            if (find(all, name, n, rounds) != nullptr) timed.push_back(rounds);
+        for (const u32 rounds : {timed.front(), timed.back()})
+            several.emplace_back(*find(all, name, n, rounds), *find(all, single, n, rounds));
+    };
+    for (const u32 n : member_counts) add("timeouts", "timeout", n);
+    for (const u32 n : member_counts) add("vertex with buffer, releases 32", "vertex", n);
+    return several;
 }
 
-// Off the n single timeouts goes the cost of as many empty calls.
-void print_bundles(std::vector<Bundle>& bundles, double timer, double per_ns) {
-    std::puts("\nLibrary, a bundle of n timeouts / one timeout / n timeouts one after the other, on the same state, in turn:\n\n"
-              "|  n | full rounds | bundle, ns | one timeout, ns | n timeouts, ns | bundle / one | bundle / n |\n"
-              "|---:|------------:|-----------:|----------------:|---------------:|-------------:|-----------:|");
-    for (Bundle& b : bundles) {
-        const double bundle = (median(b.bundled) - timer) / per_ns, one = (median(b.one) - timer) / per_ns;
-        const double each = (median(b.each) - median(b.empty)) / per_ns;
-        std::printf("| %2u | %11u | %10s | %15s | %14s | %12s | %10s |\n", b.bundle.c.n, b.bundle.c.rounds, cost(bundle).c_str(),
-                    cost(one).c_str(), cost(each).c_str(), ratio(bundle, one).c_str(), ratio(bundle, each).c_str());
+// Off the single calls, one after the other, goes the cost of as many empty calls.
+void print_several(std::vector<Together>& several, Kind kind, const char* head, double timer, double per_ns) {
+    std::printf("\nLibrary, %s\n|---:|------------:|-------------:|----------------:|----------------:|---------------:|--------------:|\n", head);
+    for (Together& t : several) {
+        if (t.together.c.call.kind != kind) continue;
+        const double joint = (median(t.joint) - timer) / per_ns, one = (median(t.one) - timer) / per_ns;
+        const double each = (median(t.each) - median(t.empty)) / per_ns;
+        std::printf("| %2u | %11u | %12s | %15s | %15s | %14s | %13s |\n", t.together.c.n, t.together.c.rounds, cost(joint).c_str(),
+                    cost(one).c_str(), cost(each).c_str(), ratio(joint, one).c_str(), ratio(joint, each).c_str());
     }
 }
 
@@ -337,15 +359,16 @@ std::vector<Panel> panels(const std::vector<Timed>& all) {
 void print_stack() {
     std::array<std::size_t, engines> most{};
     std::array<std::string, engines> by;
-    for (const Case& c : cases_of(16, 31))
-        for (const Engine e : all_engines) {
-            std::copy(c.state.begin(), c.state.end(), words);
-            const std::size_t used = stack_used(e, c.call, words);
-            if (used <= most[e]) continue;
-            most[e] = used;
-            by[e] = c.name;
-        }
-    std::printf("\nDeepest stack of a call, every call on a state with n = 16 and 31 full rounds: library %zu bytes (%s), "
+    for (const u32 rounds : fullness)
+        for (const Case& c : cases_of(16, rounds))
+            for (const Engine e : all_engines) {
+                std::copy(c.state.begin(), c.state.end(), words);
+                const std::size_t used = stack_used(e, c.call, words);
+                if (used <= most[e]) continue;
+                most[e] = used;
+                by[e] = c.name;
+            }
+    std::printf("\nDeepest stack of a call, every call on states with n = 16 and 0 to 31 full rounds: library %zu bytes (%s), "
                 "plain C++ %zu bytes (%s), second implementation %zu bytes (%s).\n",
                 most[ours], by[ours].c_str(), most[plain_engine], by[plain_engine].c_str(), most[second], by[second].c_str());
 }
@@ -359,11 +382,11 @@ std::vector<Timed> timed_cases() {
 }
 
 // The answer is what an empty call takes with the timer, in ticks.
-double measure_all(std::vector<Timed>& all, std::vector<Bundle>& bundles, int passes, int times, double per_ns) {
+double measure_all(std::vector<Timed>& all, std::vector<Together>& several, int passes, int times, double per_ns) {
     // Passes over all cases, so that a disturbance meets only some samples of a case.
     for (int pass = 0; pass < passes; ++pass) {
         for (Timed& t : all) t.measure(times);
-        for (Bundle& b : bundles) b.measure(times);
+        for (Together& t : several) t.measure(times);
     }
     Samples empty;
     for (const Timed& t : all) empty.insert(empty.end(), t.samples[nothing].begin(), t.samples[nothing].end());
@@ -392,20 +415,31 @@ int main(int argc, char** argv) {
     compare_grown(120);
     const double per_ns = ticks_per_ns();
     std::vector<Timed> all = timed_cases();
-    std::vector<Bundle> bundles = bundles_of(all);
+    std::vector<Together> several = several_of(all);
     const int passes = quick ? 3 : 11, times = quick ? 24 : 64;
-    const double timer = measure_all(all, bundles, passes, times, per_ns);
+    const double timer = measure_all(all, several, passes, times, per_ns);
 
     if (brief) print_short_table(all);
     else print_table(all);
     print_growth(all);
     print_summary(all);
-    print_proposing(all, passes * times, timer, per_ns);
-    print_bundles(bundles, timer, per_ns);
+    print_beside_vertex(all, "propose", member_counts.back(), passes * times, timer, per_ns);
+    for (const u32 n : {member_counts.front(), member_counts.back()})
+        print_beside_vertex(all, "vertex with buffer", n, passes * times, timer, per_ns);
+    print_several(several, Kind::timeouts,
+                  "a bundle of n timeouts / one timeout / n timeouts one after the other, on the same state, in turn:\n\n"
+                  "|  n | full rounds |   bundle, ns | one timeout, ns |  n timeouts, ns |   bundle / one |    bundle / n |",
+                  timer, per_ns);
+    print_several(several, Kind::vertex_with,
+                  "a vertex that releases 32 buffered ones / one vertex / the 33 one after the other, on the same state, in turn:\n\n"
+                  "|  n | full rounds | releases, ns |  one vertex, ns | 33 vertices, ns | releases / one | releases / 33 |",
+                  timer, per_ns);
     std::printf("\nMedians of %d calls of the library and of the plain engine, and %d of the second implementation, interleaved. "
                 "The words are warm: each timed call follows the same call by the same engine on the same words. "
                 "The cost of an empty call, %.0f ns with the timer, is taken off each. "
-                "A number after a call's name is the refusal that it answers; timeouts takes a bundle of all n members.\n",
+                "A number after a call's name is the refusal that it answers; timeouts takes a bundle of all n members. "
+                "The buffer of vertex with buffer is empty where nothing else is said; with 12, 19 and 20 it is full, and with 14 "
+                "the 31 others move.\n",
                 passes * times, passes * times / 8, timer / per_ns);
     print_stack();
     if (!write_picture(picture, panels(all))) {

@@ -25,10 +25,19 @@ struct Random {
 
 std::size_t mask_at(u32 round, plain::Mask kind) { return plain::masks_at + plain::kinds * (round - 1) + kind; }
 
+// The buffer behind the state gets these records.
+void put_in_buffer(std::vector<u32>& state, const std::vector<Record>& records) {
+    auto at = state.begin() + buffer_at;
+    std::fill(at, state.end(), 0);
+    at[plain::buffer_count_at] = static_cast<u32>(records.size());
+    at += plain::buffered_at;
+    for (const Record& r : records) at = std::copy(r.begin(), r.end(), at);
+}
+
 struct Builder {
     u32 n;
     Random random;
-    std::vector<u32> state = std::vector<u32>(state_words);
+    std::vector<u32> state = std::vector<u32>(lent_words);
 
     explicit Builder(u32 members) : n(members), random{members} { must({Kind::open, {}, n, 0}); }
 
@@ -95,6 +104,23 @@ struct Builder {
             for (u32 p = 0; p < n; ++p) must({Kind::vertex, record(round, p, (p + n - leader(round)) % n < voters)});
     }
 
+    // Fills the rounds, but for the last member's vertices of rounds 1 and 2, which no other has as parents.
+    void full_but_two(u32 rounds) {
+        for (u32 round = 1; round <= rounds; ++round)
+            for (u32 p = 0; p < n; ++p) {
+                if (round <= 2 && p + 1 == n) continue;
+                const u32 strong = round == 1 ? 0 : round <= 3 ? all() >> 1 : all();
+                must({Kind::vertex, Record{round, p, strong}});
+            }
+    }
+
+    // So many records by rising id, from the round on, with all of the round before as strong parents.
+    std::vector<Record> full_records(u32 round, u32 number) const {
+        std::vector<Record> records;
+        for (u32 i = 0; i < number; ++i) records.push_back({round + i / n, i % n, all()});
+        return records;
+    }
+
     // Fills the rounds. Every sixth round, from the fifth on, has a vertex that no other reaches.
     void full_with_unreached(u32 rounds) {
         for (u32 round = 1; round <= rounds; ++round)
@@ -147,6 +173,48 @@ std::vector<Case> own_cases(u32 n, u32 rounds, const std::vector<u32>& state) {
     return cases;
 }
 
+// Vertices taken with a buffer. `record` is of the round after the full ones.
+std::vector<Case> buffer_cases(u32 n, u32 rounds, const std::vector<u32>& state, const Record& record) {
+    static constexpr u32 most = YARDBOOK_BUFFER_SLOTS;
+    const u32 next = rounds + 1;
+    std::vector<Case> cases;
+    auto add = [&](const char* name, const Builder& from, const Record& r, u32 number) {
+        cases.push_back({name, n, rounds, from.state, {Kind::vertex_with, r}, number});
+    };
+    Builder b(n);
+    b.state = state;
+    add("vertex with buffer", b, record, 0);
+    if (next + 1 + (most + n - 1) / n <= YARDBOOK_ROUNDS) {
+        put_in_buffer(b.state, b.full_records(next + 2, most));
+        add("vertex with buffer, 32 stay", b, record, 0);
+        // All but one of the round after the full ones: all that waits has that one in its history.
+        for (u32 p = 0; p + 1 < n; ++p) b.must({Kind::vertex, b.record(next, p, true)});
+        put_in_buffer(b.state, b.full_records(next + 1, most));
+        const Record last = b.record(next, n - 1, true);
+        add("vertex with buffer, releases 32", b, last, 0);
+        b.must({Kind::vertex_with, last});
+        if (b.state[buffer_at + plain::buffer_count_at] != 0) {
+            std::fprintf(stderr, "bench: n = %u, %u rounds: not all that waits is released\n", n, rounds);
+            std::exit(1);
+        }
+    }
+
+    // The child comes before its parent, and goes before all that waits.
+    Builder early(n);
+    early.full_but_two(rounds);
+    const Record child{2, n - 1, early.all()};
+    const std::vector<Record> others = early.full_records(3, most);
+    put_in_buffer(early.state, {others.begin(), others.end() - 1});
+    add("vertex with buffer: 14", early, child, 14);
+    agreed({Kind::vertex_with, child}, early.state, false);
+    add("vertex with buffer: 12", early, child, 12);
+    put_in_buffer(early.state, others);
+    add("vertex with buffer: 20", early, child, 20);
+    early.state.back() = 1;
+    add("vertex with buffer: 19", early, child, 19);
+    return cases;
+}
+
 // Timeouts, one and in a bundle, and no-votes of the round after the full ones.
 std::vector<Case> note_cases(u32 n, u32 rounds, const std::vector<u32>& state) {
     const u32 next = rounds + 1;
@@ -183,6 +251,23 @@ Call random_note(Random& random, u32 n, u32 round, u32 p) {
     case 1: case 2: return {Kind::no_vote, {}, round, p};
     default: return {Kind::timeout, {}, round, p};
     }
+}
+
+// Random records of rounds up to `top`, mostly by rising id, and at times a damaged word.
+void fill_at_random(Builder& b, Random& random, u32 top, std::vector<u32>& state) {
+    auto id = [](const Record& r) { return plain::slots * r[plain::round_at] + r[plain::source_at]; };
+    std::vector<Record> records;
+    for (u32 left = random.below(YARDBOOK_BUFFER_SLOTS + 1); left != 0; --left)
+        records.push_back(b.record(1 + random.below(top), random.below(b.n), random.below(4) != 0));
+    if (random.below(8) != 0) {
+        std::sort(records.begin(), records.end(), [&](const Record& x, const Record& y) { return id(x) < id(y); });
+        const auto same = [&](const Record& x, const Record& y) { return id(x) == id(y); };
+        if (random.below(8) != 0) records.erase(std::unique(records.begin(), records.end(), same), records.end());
+    }
+    put_in_buffer(state, records);
+    if (random.below(4) != 0) return;
+    const u32 used = 1 + YARDBOOK_RECORD_WORDS * static_cast<u32>(records.size());
+    state[buffer_at + random.below(random.below(2) == 0 ? used : YARDBOOK_BUFFER_WORDS)] ^= 1u << random.below(random.below(2) ? 32 : 6);
 }
 
 }  // namespace
@@ -238,6 +323,7 @@ std::vector<Case> cases_of(u32 n, u32 rounds) {
         narrow.record[2] = 1u << n;
         add("vertex: 7", state, narrow, 7);
     }
+    for (Case& c : buffer_cases(n, rounds, state, vertex.record)) cases.push_back(std::move(c));
     Call first = vertex;
     first.kind = Kind::first;
     add("first message", state, first, 0);
@@ -289,6 +375,8 @@ void compare_grown(int states) {
         b.state[plain::own_at] = random.below(b.n + 1);
         const u32 voters = 1 + random.below(8);  // of eight
         const bool all = i % 4 == 0;
+        // Vertices are taken with a buffer, whether their parents are held or not.
+        const bool buffered = i % 3 == 0;
         // The own member signs, proposes and takes what it made: on the state, or on a copy of it.
         auto be_member = [&] {
             std::vector<u32> copy = b.state;
@@ -302,22 +390,34 @@ void compare_grown(int states) {
             agreed(own, words, all);
         };
         std::vector<Call> late;
+        // One that finds the buffer full comes again.
+        auto take = [&](const Call& call) {
+            if (agreed(call, b.state, all)[0] == 20) late.push_back(call);
+        };
         for (u32 round = 1; round <= YARDBOOK_ROUNDS; ++round) {
             u32 absent = 0;
             for (u32 k = random.below(b.f() + 1); k != 0; --k) absent |= 1u << random.below(b.n);
             if (!late.empty() && random.below(2) == 0) {
-                agreed(late.back(), b.state, all);
-                late.pop_back();
+                // The last one, or all where there is a buffer.
+                const auto first = buffered ? late.begin() : late.end() - 1;
+                const std::vector<Call> arriving(first, late.end());
+                late.erase(first, late.end());
+                for (const Call& call : arriving) take(call);
             }
             for (u32 p = 0; p < b.n; ++p) {
-                Call call{Kind::vertex, b.record(round, p, random.below(8) < voters, true)};
+                Call call{buffered ? Kind::vertex_with : Kind::vertex, b.record(round, p, random.below(8) < voters, !buffered)};
                 if (random.below(4) == 0) {
                     Call first = call;
                     first.kind = Kind::first;
                     agreed(first, b.state, all);
                 }
                 if (absent >> p & 1) late.push_back(call);
-                else agreed(call, b.state, all);
+                else take(call);
+                if (random.below(8) == 0) {
+                    Call again = call;
+                    again.record[YARDBOOK_RECORD_TAG] += random.below(2);
+                    agreed(again, b.state, all);
+                }
                 if (random.below(b.n) == 0) be_member();
             }
             if ((absent >> b.leader(round) & 1) == 0) continue;
@@ -359,7 +459,7 @@ void compare_at_random(int calls) {
                                                          plain::cells_at, 2 * plain::cells_at, YARDBOOK_STATE_WORDS};
                 state[random.below(ends[random.below(6)])] ^= 1u << random.below(random.below(2) ? 32 : 10);
             }
-            Call call{static_cast<Kind>(random.below(call_kinds))};
+            Call call{random.below(4) == 0 ? Kind::vertex_with : static_cast<Kind>(random.below(call_kinds))};
             const u32 top = std::min(32u, state[1] % 64 + 1);
             const u32 most_weak = random.below(4) == 0 ? 5 : 0;
             call.record = b.record(1 + random.below(top), random.below(n), random.below(4) != 0, false, most_weak);
@@ -367,6 +467,15 @@ void compare_at_random(int calls) {
             const bool bundle = call.kind == Kind::timeouts, note = bundle || call.kind == Kind::timeout || call.kind == Kind::no_vote;
             call.a = random.below(call.kind == Kind::open ? 20 : note ? top + 2 : 40);
             call.b = bundle ? bundle_mask(random, n) : random.below(n + 1);
+            if (call.kind == Kind::vertex_with && random.below(4) != 0) {
+                fill_at_random(b, random, std::min(32u, top + 3), state);
+                const u32 waiting = state[buffer_at + plain::buffer_count_at];
+                if (waiting - 1 < YARDBOOK_BUFFER_SLOTS && random.below(4) == 0) {
+                    const u32 at = plain::buffered_at + YARDBOOK_RECORD_WORDS * random.below(waiting);
+                    std::copy_n(state.begin() + buffer_at + at, call.record.size(), call.record.begin());
+                    call.record[YARDBOOK_RECORD_TAG] += random.below(2);
+                }
+            }
             const bool keep = !member && damage == 0 && call.kind != Kind::open;
             agreed(call, state, i % 8 == 0);
             if (keep) b.state = state;

@@ -10,7 +10,7 @@
 struct Case {
     std::string name;
     u32 n, rounds;  // members, and rounds that hold a vertex of each
-    std::vector<u32> state;
+    std::vector<u32> state;  // and behind it the pending buffer
     Call call;
     u32 number;  // that the call must answer
 };
@@ -21,11 +21,11 @@ std::vector<Case> cases_of(u32 n, u32 rounds);
 // a word differs. Without `all`, the second implementation is left out.
 Said agreed(const Call& call, std::vector<u32>& state, bool all);
 
-// States grown at random over all rounds, with absent and late vertices, first messages, notes, bundles, few or many votes, and an own
-// member that signs and proposes: the engines must agree at every call.
+// States grown at random over all rounds, with absent, late and early vertices, first messages, notes, bundles, few or many votes, and an
+// own member that signs and proposes: the engines must agree at every call.
 void compare_grown(int states);
 
-// Random calls, good and bad, on states with and without damaged words: the engines must agree.
+// Random calls, good and bad, on states and buffers with and without damaged words: the engines must agree.
 void compare_at_random(int calls);
 
 #endif

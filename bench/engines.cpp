@@ -10,6 +10,7 @@
 extern "C" {
 yardbook_answer reference_open(u32*, std::size_t, u32, u32);
 yardbook_answer reference_take_vertex(u32*, std::size_t, const u32*, std::size_t);
+yardbook_answer reference_take_vertex_with(u32*, std::size_t, u32*, std::size_t, const u32*, std::size_t);
 yardbook_answer reference_take_first_message(u32*, std::size_t, const u32*, std::size_t);
 yardbook_answer reference_take_timeout(u32*, std::size_t, u32, u32);
 yardbook_answer reference_take_timeouts(u32*, std::size_t, u32, u32);
@@ -27,6 +28,7 @@ namespace {
 
 [[gnu::noipa]] yardbook_answer nothing_open(u32*, std::size_t, u32, u32) { return {}; }
 [[gnu::noipa]] yardbook_answer nothing_take_vertex(u32*, std::size_t, const u32*, std::size_t) { return {}; }
+[[gnu::noipa]] yardbook_answer nothing_take_vertex_with(u32*, std::size_t, u32*, std::size_t, const u32*, std::size_t) { return {}; }
 [[gnu::noipa]] yardbook_answer nothing_take_first_message(u32*, std::size_t, const u32*, std::size_t) { return {}; }
 [[gnu::noipa]] yardbook_answer nothing_take_timeout(u32*, std::size_t, u32, u32) { return {}; }
 [[gnu::noipa]] yardbook_answer nothing_take_timeouts(u32*, std::size_t, u32, u32) { return {}; }
@@ -49,9 +51,13 @@ Said said(yardbook_state_status s) { return {s.number, s.current_round, s.commit
 Said said(yardbook_part p) { return {p.number, p.start, p.length}; }
 
 #define CALLS(prefix)                                                                                                     \
+    u32 *state = words, *buffer = words + buffer_at;                                                                      \
     switch (call.kind) {                                                                                                  \
     case Kind::open: return said(prefix##open(state, state_words, call.a, call.b));                                       \
     case Kind::vertex: return said(prefix##take_vertex(state, state_words, call.record.data(), call.record.size()));      \
+    case Kind::vertex_with:                                                                                               \
+        return said(prefix##take_vertex_with(state, state_words, buffer, YARDBOOK_BUFFER_WORDS, call.record.data(),       \
+                                             call.record.size()));                                                        \
     case Kind::first: return said(prefix##take_first_message(state, state_words, call.record.data(), call.record.size())); \
     case Kind::timeout: return said(prefix##take_timeout(state, state_words, call.a, call.b));                            \
     case Kind::timeouts: return said(prefix##take_timeouts(state, state_words, call.a, call.b));                          \
@@ -66,14 +72,14 @@ Said said(yardbook_part p) { return {p.number, p.start, p.length}; }
     }                                                                                                                     \
     std::abort();
 
-[[gnu::noipa]] Said call_ours(const Call& call, u32* state) { CALLS(yardbook_) }
-[[gnu::noipa]] Said call_plain(const Call& call, u32* state) { CALLS(plain_) }
-[[gnu::noipa]] Said call_second(const Call& call, u32* state) { CALLS(reference_) }
-[[gnu::noipa]] Said call_nothing(const Call& call, u32* state) { CALLS(nothing_) }
+[[gnu::noipa]] Said call_ours(const Call& call, u32* words) { CALLS(yardbook_) }
+[[gnu::noipa]] Said call_plain(const Call& call, u32* words) { CALLS(plain_) }
+[[gnu::noipa]] Said call_second(const Call& call, u32* words) { CALLS(reference_) }
+[[gnu::noipa]] Said call_nothing(const Call& call, u32* words) { CALLS(nothing_) }
 
 }  // namespace
 
-Said run(Engine engine, const Call& call, u32* state) {
+Said run(Engine engine, const Call& call, u32* words) {
     static constexpr std::array<Said (*)(const Call&, u32*), engines + 1> by{call_ours, call_plain, call_second, call_nothing};
-    return by[engine](call, state);
+    return by[engine](call, words);
 }

@@ -12,13 +12,17 @@ using u32 = std::uint32_t;
 using Record = std::array<u32, YARDBOOK_RECORD_WORDS>;
 inline constexpr std::size_t state_words = YARDBOOK_STATE_WORDS;
 
+// What a call is lent: the state, and behind it the pending buffer, which one kind of call uses.
+inline constexpr std::size_t buffer_at = state_words, lent_words = state_words + YARDBOOK_BUFFER_WORDS;
+
 // `nothing` has the calls of the others, empty: what calling costs by itself.
 enum Engine : std::size_t { ours, plain_engine, second, nothing };
 inline constexpr std::size_t engines = 3;
 inline constexpr std::array<Engine, engines> all_engines{ours, plain_engine, second};
 
 enum class Kind {
-    open, vertex, first, timeout, timeouts, no_vote, propose, sign_no_vote, status, ask_leaders, ask_journal, hand_leaders, hand_journal
+    open, vertex, vertex_with, first, timeout, timeouts, no_vote, propose, sign_no_vote, status, ask_leaders, ask_journal, hand_leaders,
+    hand_journal
 };
 inline constexpr u32 call_kinds = static_cast<u32>(Kind::hand_journal) + 1;
 
@@ -32,6 +36,6 @@ struct Call {
 inline constexpr std::size_t said_record_at = 4;
 using Said = std::array<u32, said_record_at + YARDBOOK_RECORD_WORDS>;
 
-Said run(Engine engine, const Call& call, u32* state);
+Said run(Engine engine, const Call& call, u32* words);
 
 #endif

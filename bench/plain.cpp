@@ -252,6 +252,70 @@ yardbook_answer settle(const Group& g, u32* state) {
 
 yardbook_answer refused(u32 number, u32 id = 0) { return {number, id, 0, 0}; }
 
+// Questions 12 to 14 of a record that has passed the others. Admitted, it is held, and the rounds follow.
+yardbook_answer admit(const Group& g, u32* state, const u32* record) {
+    const u32 round = record[round_at], source = record[source_at];
+    u32* body = state + (cell(state, round, source) - state);
+    if (has(mask(state, round, held), source))
+        return refused(std::memcmp(body, record + body_at, body_words * sizeof(u32)) == 0 ? 12 : 13);
+    if (const u32 id = missing_parent(state, record)) return refused(14, id);
+    std::memcpy(body, record + body_at, body_words * sizeof(u32));
+    mask(state, round, held) |= 1u << source;
+    if (round > 1) mask(state, round - 1, timeouts) |= record[body_at + timeouts_at];
+    raise_round(g, state);
+    return settle(g, state);
+}
+
+constexpr std::size_t record_bytes = YARDBOOK_RECORD_WORDS * sizeof(u32);
+
+const u32* buffered(const u32* buffer, u32 i) { return buffer + buffered_at + YARDBOOK_RECORD_WORDS * i; }
+u32* buffered(u32* buffer, u32 i) { return buffer + buffered_at + YARDBOOK_RECORD_WORDS * i; }
+u32 id_of(const u32* record) { return slots * record[round_at] + record[source_at]; }
+
+// Question 19.
+bool buffer_ok(const Group& g, const u32* buffer, std::size_t words) {
+    if (words != YARDBOOK_BUFFER_WORDS || buffer[buffer_count_at] > YARDBOOK_BUFFER_SLOTS) return false;
+    u32 last = 0;
+    for (u32 i = 0; i < buffer[buffer_count_at]; ++i) {
+        const u32* record = buffered(buffer, i);
+        if (check_record(g, record, YARDBOOK_RECORD_WORDS) != 0 || id_of(record) <= last) return false;
+        last = id_of(record);
+    }
+    return zero(buffered(buffer, buffer[buffer_count_at]), buffer + YARDBOOK_BUFFER_WORDS);
+}
+
+// For a record whose parent of the given id is missing: finds it in the buffer, or puts it there.
+yardbook_answer keep(u32* buffer, const u32* record, u32 missing) {
+    u32& size = buffer[buffer_count_at];
+    u32 place = size;
+    while (place > 0 && id_of(buffered(buffer, place - 1)) >= id_of(record)) --place;
+    u32* at = buffered(buffer, place);
+    if (place < size && id_of(at) == id_of(record)) return refused(std::memcmp(at, record, record_bytes) == 0 ? 12 : 13);
+    if (size == YARDBOOK_BUFFER_SLOTS) return refused(20);
+    std::memmove(buffered(buffer, place + 1), at, (size - place) * record_bytes);
+    std::memcpy(at, record, record_bytes);
+    ++size;
+    return refused(14, missing);
+}
+
+// Tries the buffered records, and keeps those that lack a parent. Parents have lower ids, so one pass by rising id admits all that many
+// would. What it adds to the lists joins the answer.
+void release(const Group& g, u32* state, u32* buffer, yardbook_answer& answer) {
+    const u32 size = buffer[buffer_count_at];
+    u32 kept = 0;
+    for (u32 i = 0; i < size; ++i) {
+        const u32* record = buffered(buffer, i);
+        const yardbook_answer its = admit(g, state, record);
+        answer.leaders += its.leaders;
+        answer.journal += its.journal;
+        if (its.number != 14) continue;
+        if (kept != i) std::memcpy(buffered(buffer, kept), record, record_bytes);
+        ++kept;
+    }
+    std::memset(buffered(buffer, kept), 0, (size - kept) * record_bytes);
+    buffer[buffer_count_at] = kept;
+}
+
 u32 check_note(const u32* state, std::size_t words, u32 round, u32 signer, Mask kind) {
     if (const u32 number = check_state(state, words)) return number;
     if (round < 1 || round > rounds) return 5;
@@ -345,16 +409,19 @@ yardbook_answer plain_take_vertex(u32* state, std::size_t words, const u32* reco
     if (const u32 number = check_state(state, words)) return refused(number);
     const Group g(state[members_at]);
     if (const u32 number = check_record(g, record, record_words)) return refused(number);
-    const u32 round = record[round_at], source = record[source_at];
-    u32* body = state + (cell(state, round, source) - state);
-    if (has(mask(state, round, held), source))
-        return refused(std::memcmp(body, record + body_at, body_words * sizeof(u32)) == 0 ? 12 : 13);
-    if (const u32 id = missing_parent(state, record)) return refused(14, id);
-    std::memcpy(body, record + body_at, body_words * sizeof(u32));
-    mask(state, round, held) |= 1u << source;
-    if (round > 1) mask(state, round - 1, timeouts) |= record[body_at + timeouts_at];
-    raise_round(g, state);
-    return settle(g, state);
+    return admit(g, state, record);
+}
+
+yardbook_answer plain_take_vertex_with(u32* state, std::size_t words, u32* buffer, std::size_t buffer_words, const u32* record,
+                                       std::size_t record_words) {
+    if (const u32 number = check_state(state, words)) return refused(number);
+    const Group g(state[members_at]);
+    if (!buffer_ok(g, buffer, buffer_words)) return refused(19);
+    if (const u32 number = check_record(g, record, record_words)) return refused(number);
+    yardbook_answer answer = admit(g, state, record);
+    if (answer.number == 14) return keep(buffer, record, answer.id);
+    if (answer.number == 0) release(g, state, buffer, answer);
+    return answer;
 }
 
 yardbook_answer plain_take_first_message(u32* state, std::size_t words, const u32* record, std::size_t record_words) {

@@ -1,7 +1,7 @@
-// Runs five groups of four members. A watcher follows the first four and prints for a call its number and the status, and at the
+// Runs six groups of four members. A watcher follows the first five and prints for a call its number and the status, and at the
 // end the leader list and the journal: of the first three what sheetlog prints for the same calls; the fourth has bundles of
-// timeouts, for which sheetlog has no line. The fifth is run by its four members, which propose and sign: it prints what they send,
-// as lines of sheetlog's input, and at the end each member's lists.
+// timeouts, and the fifth a buffer for vertices that come too early, for which sheetlog has no lines. The sixth is run by its four
+// members, which propose and sign: it prints what they send, as lines of sheetlog's input, and at the end each member's lists.
 #include <stdbool.h>
 #include <stdio.h>
 #include <stdlib.h>
@@ -12,7 +12,9 @@
 enum { members = 4 };
 
 static uint32_t state[YARDBOOK_STATE_WORDS];           // the watcher's
+static uint32_t buffer[YARDBOOK_BUFFER_WORDS];         // the watcher's vertices that wait for their parents
 static uint32_t singly[YARDBOOK_STATE_WORDS];          // another watcher's, which gets single timeouts in place of bundles
+static uint32_t ordered[YARDBOOK_STATE_WORDS];         // another watcher's, which gets all vertices in order
 static uint32_t states[members][YARDBOOK_STATE_WORDS]; // the members'
 
 static void print_answer(yardbook_answer answer) {
@@ -52,6 +54,12 @@ static record record_of(uint32_t round, uint32_t source, uint32_t strong, uint32
 static void vertex(record r) {
     print_answer(yardbook_take_vertex(state, YARDBOOK_STATE_WORDS, r.words, YARDBOOK_RECORD_WORDS));
 }
+
+static yardbook_answer take_early(record r) {
+    return yardbook_take_vertex_with(state, YARDBOOK_STATE_WORDS, buffer, YARDBOOK_BUFFER_WORDS, r.words, YARDBOOK_RECORD_WORDS);
+}
+
+static void early_vertex(record r) { print_answer(take_early(r)); }
 
 static void first_message(record r) {
     print_answer(yardbook_take_first_message(state, YARDBOOK_STATE_WORDS, r.words, YARDBOOK_RECORD_WORDS));
@@ -135,6 +143,80 @@ static void watch_bundle(void) {
     print_lists(state);
     for (uint32_t signer = 1; signer < members; signer++) must(yardbook_take_timeout(singly, YARDBOOK_STATE_WORDS, 1, signer));
     must_hold(memcmp(singly, state, sizeof state) == 0, "single timeouts end in the bundles' words");
+}
+
+// The vertex of a full round whose strong parents are all of the round before.
+static record full_record(uint32_t round, uint32_t source) {
+    return record_of(round, source, round == 1 ? 0 : 15, 0, 0, 10 * round + source);
+}
+
+// Takes the full rounds in order, without a buffer.
+static void take_in_order(uint32_t rounds) {
+    must(yardbook_open(ordered, YARDBOOK_STATE_WORDS, members, 0));
+    for (uint32_t round = 1; round <= rounds; round++)
+        for (uint32_t p = 0; p < members; p++)
+            must(yardbook_take_vertex(ordered, YARDBOOK_STATE_WORDS, full_record(round, p).words, YARDBOOK_RECORD_WORDS));
+}
+
+// Three full rounds. The vertex of round 1's leader is the last to arrive: until then those of rounds 2 and 3, which come the wrong
+// way round, wait in the buffer. One of these again is known already, and another of its round and source conflicts with it. A
+// damaged buffer is refused. The leader's vertex brings all that waits into the state, and two rounds are committed. In order, the
+// same vertices end in the same words.
+static void watch_pending(void) {
+    open_group(1);
+    memset(buffer, 0, sizeof buffer);
+    for (uint32_t p = members; p-- != 0;) early_vertex(full_record(3, p));
+    early_vertex(full_record(3, 0));
+    early_vertex(record_of(3, 0, 15, 0, 0, 99));
+    for (uint32_t p = members; p-- != 0;) early_vertex(full_record(2, p));
+    buffer[0]++;
+    early_vertex(full_record(1, 0));
+    buffer[0]--;
+    early_vertex(full_record(1, 0));
+    print_lists(state);
+    take_in_order(3);
+    must_hold(memcmp(ordered, state, sizeof state) == 0, "vertices in order end in the same words");
+}
+
+enum { arriving_rounds = 12, arriving = arriving_rounds * members };
+
+// Hands over vertices as they arrive: every step-th of them, round and round. What finds the buffer full is handed over again after
+// the others. How often that was is returned.
+static uint32_t take_arriving(uint32_t step) {
+    record left[arriving];
+    for (uint32_t i = 0; i < arriving; i++) {
+        const uint32_t at = i * step % arriving;
+        left[i] = full_record(1 + at / members, at % members);
+    }
+    uint32_t count = arriving, refused = 0;
+    while (count != 0) {
+        uint32_t again = 0;
+        for (uint32_t i = 0; i < count; i++) {
+            const uint32_t number = take_early(left[i]).number;
+            if (number == YARDBOOK_REFUSED_BUFFER_FULL) left[again++] = left[i];
+            else must_hold(number == YARDBOOK_OK || number == YARDBOOK_REFUSED_MISSING_PARENT, "a vertex is taken, or waits");
+        }
+        must_hold(again < count, "some vertex finds its parents or room");
+        refused += again;
+        count = again;
+    }
+    return refused;
+}
+
+// Twelve full rounds arrive in several orders, the last of them nearly the wrong way round. A host that hands over whatever arrives
+// ends in the words of ordered delivery, lists included, and nothing waits any more.
+static void take_in_any_order(void) {
+    static const uint32_t steps[] = {5, 7, 11, 29, 47}; // none has a divisor in common with the number of vertices
+    take_in_order(arriving_rounds);
+    uint32_t refused = 0;
+    for (size_t i = 0; i < sizeof steps / sizeof steps[0]; i++) {
+        must(yardbook_open(state, YARDBOOK_STATE_WORDS, members, 0));
+        memset(buffer, 0, sizeof buffer);
+        refused += take_arriving(steps[i]);
+        must_hold(memcmp(ordered, state, sizeof state) == 0, "any order ends in the words of ordered delivery");
+        must_hold(buffer[0] == 0, "nothing waits any more");
+    }
+    must_hold(refused > 0, "some vertex finds the buffer full");
 }
 
 static uint32_t current_round(uint32_t member) {
@@ -244,6 +326,8 @@ int main(void) {
     watch_two_leaders();
     watch_carried();
     watch_bundle();
+    watch_pending();
+    take_in_any_order();
     run_members();
     return 0;
 }

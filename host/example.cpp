@@ -1,12 +1,13 @@
-// Runs five groups of four members. A watcher follows the first four and prints for a call its number and the status, and at the
+// Runs six groups of four members. A watcher follows the first five and prints for a call its number and the status, and at the
 // end the leader list and the journal: of the first three what sheetlog prints for the same calls; the fourth has bundles of
-// timeouts, for which sheetlog has no line. The fifth is run by its four members, which propose and sign: it prints what they send,
-// as lines of sheetlog's input, and at the end each member's lists.
+// timeouts, and the fifth a buffer for vertices that come too early, for which sheetlog has no lines. The sixth is run by its four
+// members, which propose and sign: it prints what they send, as lines of sheetlog's input, and at the end each member's lists.
 #include <array>
 #include <cstdio>
 #include <cstdlib>
 #include <initializer_list>
 #include <span>
+#include <vector>
 
 #include "yardbook.hpp"
 
@@ -40,10 +41,15 @@ public:
     }
 
     void vertex(const yardbook::Record& r) { print_answer(yardbook::take_vertex(state_, r)); }
+    void early_vertex(const yardbook::Record& r) { early_vertex(r, buffer_); }
+    void early_vertex(const yardbook::Record& r, yardbook::Buffer& with) {
+        print_answer(yardbook::take_vertex_with(state_, with, r));
+    }
     void first_message(const yardbook::Record& r) { print_answer(yardbook::take_first_message(state_, r)); }
     void timeout(std::uint32_t round, std::uint32_t signer) { print_answer(yardbook::take_timeout(state_, round, signer)); }
     void bundle(std::uint32_t round, std::uint32_t mask) { print_answer(yardbook::take_timeouts(state_, round, mask)); }
     const yardbook::State& state() const { return state_; }
+    const yardbook::Buffer& buffer() const { return buffer_; }
     void print_lists() const { ::print_lists(state_); }
 
 private:
@@ -54,6 +60,7 @@ private:
     }
 
     yardbook::State state_{};
+    yardbook::Buffer buffer_{};  // vertices that wait for their parents
 };
 
 // A quorum of first messages commits round 1.
@@ -118,6 +125,79 @@ void watch_bundle() {
     group.print_lists();
     for (const std::uint32_t signer : {1u, 2u, 3u}) must(yardbook::take_timeout(singly, 1, signer));
     must_hold(singly == group.state(), "single timeouts end in the bundles' words");
+}
+
+// The vertex of a full round whose strong parents are all of the round before.
+yardbook::Record full_record(std::uint32_t round, std::uint32_t source) {
+    return record(round, source, round == 1 ? 0 : 15, 0, 0, 10 * round + source);
+}
+
+// The state of a watcher that takes the full rounds in order, without a buffer.
+yardbook::State taken_in_order(std::uint32_t rounds) {
+    yardbook::State ordered;
+    must(yardbook::open(ordered, members, 0));
+    for (std::uint32_t round = 1; round <= rounds; ++round)
+        for (std::uint32_t p = 0; p < members; ++p) must(yardbook::take_vertex(ordered, full_record(round, p)));
+    return ordered;
+}
+
+// Three full rounds. The vertex of round 1's leader is the last to arrive: until then those of rounds 2 and 3, which come the wrong
+// way round, wait in the buffer. One of these again is known already, and another of its round and source conflicts with it. A
+// damaged buffer is refused. The leader's vertex brings all that waits into the state, and two rounds are committed. In order, the
+// same vertices end in the same words.
+void watch_pending() {
+    Watched group(1);
+    for (const std::uint32_t p : {3u, 2u, 1u, 0u}) group.early_vertex(full_record(3, p));
+    group.early_vertex(full_record(3, 0));
+    group.early_vertex(record(3, 0, 15, 0, 0, 99));
+    for (const std::uint32_t p : {3u, 2u, 1u, 0u}) group.early_vertex(full_record(2, p));
+    yardbook::Buffer damaged = group.buffer();
+    ++damaged[0];
+    group.early_vertex(full_record(1, 0), damaged);
+    group.early_vertex(full_record(1, 0));
+    group.print_lists();
+    must_hold(taken_in_order(3) == group.state(), "vertices in order end in the same words");
+}
+
+constexpr std::uint32_t arriving_rounds = 12, arriving = arriving_rounds * members;
+
+// Hands over vertices as they arrive: every step-th of them, round and round. What finds the buffer full is handed over again after
+// the others. How often that was is returned.
+std::size_t take_arriving(yardbook::State& state, yardbook::Buffer& buffer, std::uint32_t step) {
+    std::vector<yardbook::Record> left;
+    for (std::uint32_t i = 0; i < arriving; ++i) {
+        const std::uint32_t at = i * step % arriving;
+        left.push_back(full_record(1 + at / members, at % members));
+    }
+    std::size_t refused = 0;
+    while (!left.empty()) {
+        std::vector<yardbook::Record> again;
+        for (const yardbook::Record& r : left) {
+            const yardbook::Answer answer = yardbook::take_vertex_with(state, buffer, r);
+            if (answer.number == yardbook::Number::buffer_full) again.push_back(r);
+            else must_hold(answer.ok() || answer.number == yardbook::Number::missing_parent, "a vertex is taken, or waits");
+        }
+        must_hold(again.size() < left.size(), "some vertex finds its parents or room");
+        refused += again.size();
+        left = again;
+    }
+    return refused;
+}
+
+// Twelve full rounds arrive in several orders, the last of them nearly the wrong way round. A host that hands over whatever arrives
+// ends in the words of ordered delivery, lists included, and nothing waits any more.
+void take_in_any_order() {
+    const yardbook::State ordered = taken_in_order(arriving_rounds);
+    std::size_t refused = 0;
+    for (const std::uint32_t step : {5u, 7u, 11u, 29u, 47u}) {  // none has a divisor in common with the number of vertices
+        yardbook::State state;
+        yardbook::Buffer buffer{};
+        must(yardbook::open(state, members, 0));
+        refused += take_arriving(state, buffer, step);
+        must_hold(state == ordered, "any order ends in the words of ordered delivery");
+        must_hold(buffer == yardbook::Buffer{}, "nothing waits any more");
+    }
+    must_hold(refused > 0, "some vertex finds the buffer full");
 }
 
 // Whether a timeout or no-vote arrives. The others' are lost on their way to member 1.
@@ -237,6 +317,8 @@ int main() {
     watch_two_leaders();
     watch_carried();
     watch_bundle();
+    watch_pending();
+    take_in_any_order();
     run_members();
     return 0;
 }

@@ -117,17 +117,27 @@ for side in sheetlog second; do
     diff -u "$out/watched" "$out/$side.out" || fail "$side differs"
 done
 
-# The group that its members run: sheetlog, fed what they sent, admits all of it and comes to each member's lists.
-{ echo "O 4"; grep '^[VTN]' host/cases/members.out; } >"$out/sent"
-grep '^[LJ]' host/cases/members.out >"$out/lists"
-for program in target/bin/sheetlog "$out/reference/release/sheetlog"; do
-    "$program" <"$out/sent" >"$out/taken"
-    if grep '^[^0LJ]' "$out/taken" >&2; then fail "$program refuses what the members sent"; fi
-    for _ in 0 1 2 3; do tail -n 2 "$out/taken"; done | diff -u "$out/lists" - || fail "$program has not the members' lists"
-done
+# sheetlog, fed the calls, admits all of them and comes to the lists, which stand in the case so many times.
+comes_to_lists() { # CALLS CASE TIMES
+    local program
+    grep '^[LJ]' "$2" >"$out/lists"
+    for program in target/bin/sheetlog "$out/reference/release/sheetlog"; do
+        "$program" <"$1" >"$out/taken"
+        if grep '^[^0LJ]' "$out/taken" >&2; then fail "$program refuses some call of $1"; fi
+        for ((i = 0; i < $3; i++)); do tail -n 2 "$out/taken"; done | diff -u "$out/lists" - || fail "$program has not the lists of $2"
+    done
+}
 
-# What the examples print: all of these groups, and before the last one that of the bundles, for which sheetlog has no line.
-cat "$out/watched" host/cases/bundle.out host/cases/members.out >"$out/expected"
+# The group that its members run: each member's lists are those of all that they sent.
+{ echo "O 4"; grep '^[VTN]' host/cases/members.out; } >"$out/sent"
+comes_to_lists "$out/sent" host/cases/members.out 4
+
+# The group with a buffer: its lists are those of the same vertices in order.
+comes_to_lists host/cases/pending.in host/cases/pending.out 1
+
+# What the examples print: all of these groups, and before the last one those of the bundles and of the buffer, for which sheetlog has
+# no lines.
+cat "$out/watched" host/cases/bundle.out host/cases/pending.out host/cases/members.out >"$out/expected"
 "$out/example" >"$out/cpp.out"
 "$out/rust/debug/examples/groups" >"$out/rust.out"
 for example in "${examples[@]}"; do

@@ -9,14 +9,15 @@
  *   - the pointer is aligned to 4 bytes and has that many words behind it; with count 0 it may be null;
  *   - a state that a call may change is used by no other call or thread meanwhile. Different states are independent;
  *     calls that take `const uint32_t *state` may run on one state at the same time;
- *   - the words of a record do not overlap those of the state.
+ *   - the words of a record, of a pending buffer and of the state do not overlap.
  *
  * The host checks signatures before it hands over a record, a note or a bundle, those of the two certificates in a record too: the
  * library takes a mask of signers at its word.
  *
  * Every call but yardbook_open asks first whether the state has the right size (1) and is well formed (3), which reads
  * the whole state. Each call's comment names its questions in the order in which they are asked, and the first "no" is the
- * answer's number. A call that answers another number than 0 changes no word.
+ * answer's number. A call that answers another number than 0 changes no word, but for yardbook_take_vertex_with, which with
+ * YARDBOOK_REFUSED_MISSING_PARENT puts the record into the buffer.
  *
  * A member makes its records with yardbook_propose and signs its no-votes with yardbook_sign_no_vote. A host that sends no other
  * records and no-votes than these, each once, is an honest member: the calls make at most one record for a round, and never both
@@ -33,11 +34,15 @@
 extern "C" {
 #endif
 
-#define YARDBOOK_VERSION "0.4.0"
+#define YARDBOOK_VERSION "0.5.0"
 
-/* Words of a replica state, and of a record. */
+/* Words of a replica state, of a record, and of a pending buffer. */
 #define YARDBOOK_STATE_WORDS 5864
 #define YARDBOOK_RECORD_WORDS 12
+#define YARDBOOK_BUFFER_WORDS 385
+
+/* A pending buffer is the count of its records, the records by rising id, at most YARDBOOK_BUFFER_SLOTS, and zeros. */
+#define YARDBOOK_BUFFER_SLOTS 32
 
 /* Rounds go from 1 to YARDBOOK_ROUNDS. A vertex id is 16 * round + member. */
 #define YARDBOOK_ROUNDS 32
@@ -68,17 +73,22 @@ enum {
     YARDBOOK_REFUSED_TIMEOUTS = 9,        /* the timeout mask is no quorum where it must be, or not 0 elsewhere */
     YARDBOOK_REFUSED_NO_VOTES = 10,       /* the no-vote mask likewise */
     YARDBOOK_REFUSED_WEAK = 11,           /* the weak ids do not rise, or one is out of range */
-    YARDBOOK_REFUSED_DUPLICATE = 12,      /* known already: this vertex, this source's first message, this signer's note,
-                                             every timeout of a bundle (also of an empty one), a timeout also by a vertex
-                                             that carried it; or made already: this round's own record, this round's own
-                                             no-vote */
-    YARDBOOK_REFUSED_CONFLICT = 13,       /* a different vertex of this round and source is held */
-    YARDBOOK_REFUSED_MISSING_PARENT = 14, /* a parent is not held; the answer's id is the smallest such */
+    YARDBOOK_REFUSED_DUPLICATE = 12,      /* known already: this vertex, held or buffered, this source's first message, this
+                                             signer's note, every timeout of a bundle (also of an empty one), a timeout also
+                                             by a vertex that carried it; or made already: this round's own record, this
+                                             round's own no-vote */
+    YARDBOOK_REFUSED_CONFLICT = 13,       /* a different vertex of this round and source is held or buffered */
+    YARDBOOK_REFUSED_MISSING_PARENT = 14, /* a parent is not held; the answer's id is the smallest such. With a buffer, the
+                                             record is in it now */
     YARDBOOK_REFUSED_PAST_END = 15,       /* k is above the list's count */
     YARDBOOK_REFUSED_WATCHER = 16,        /* the state is a watcher's */
     YARDBOOK_REFUSED_SIGNING = 17,        /* there is no round before the current one, its leader's vertex is held, or the
                                              current round's own record was made */
-    YARDBOOK_REFUSED_FEW_PARENTS = 18     /* from round 2 on, the own record would have no quorum of strong parents */
+    YARDBOOK_REFUSED_FEW_PARENTS = 18,    /* from round 2 on, the own record would have no quorum of strong parents */
+    YARDBOOK_REFUSED_BUFFER = 19,         /* the buffer has not YARDBOOK_BUFFER_WORDS words, or is not well formed: its count is
+                                             above YARDBOOK_BUFFER_SLOTS, the ids of its records do not rise, one of them would
+                                             be answered 5 to 11, or a word behind them is not 0 */
+    YARDBOOK_REFUSED_BUFFER_FULL = 20     /* a parent is not held, and the buffer is full of other records */
 };
 
 typedef struct {
@@ -121,6 +131,26 @@ yardbook_answer yardbook_open(uint32_t *state, size_t state_words, uint32_t n, u
  * become committable is committed: the leaders taken join the leader list, and their histories the journal.
  */
 yardbook_answer yardbook_take_vertex(uint32_t *state, size_t state_words, const uint32_t *record, size_t record_words);
+
+/*
+ * Takes a delivered vertex, parents first or not: one that comes too early waits in the pending buffer. Asks 1, 3, 19 and 4 to 13,
+ * and, where a parent is not held, the buffer: 12 or 13 if it has a record of this round and source, the same one or another;
+ * 20 if it is full; else the record is put into it, and the answer is 14.
+ * Admitted, the vertex is taken as by yardbook_take_vertex, and then the buffered records by rising id, each of which has its
+ * parents by then or stays. Those taken, or held already in this or another form, leave. So one call may admit up to 33 vertices;
+ * the answer's counts are those of all of them, and the state is that of yardbook_take_vertex for each in turn.
+ *
+ * With 14 the host has nothing to do but, if it likes, to fetch the vertex of the answer's id. With 20 the record is not kept: the
+ * host hands it over again once others have been admitted. A vertex whose parents are held is never answered 20. Signatures are
+ * checked before a record is handed over: what is in the buffer is taken without asking the host again.
+ *
+ * The buffer is the host's, like the state. It is all zeros at first, and again whenever the state is opened, and is lent to
+ * the calls on one state only, as the last one left it. A host that may restart stores it with the state, or asks the senders again
+ * for what waited. yardbook_take_vertex knows no buffer: a record that waits for a vertex taken there leaves after the next one
+ * that is admitted here, so a host does best to take all its vertices by one of the two calls.
+ */
+yardbook_answer yardbook_take_vertex_with(uint32_t *state, size_t state_words, uint32_t *buffer, size_t buffer_words,
+                                          const uint32_t *record, size_t record_words);
 
 /*
  * Takes a sender's first broadcast message, seen before delivery. Asks 1 and 3 to 12.

@@ -13,9 +13,14 @@ namespace yardbook {
 
 inline constexpr std::size_t state_words = YARDBOOK_STATE_WORDS;
 inline constexpr std::size_t record_words = YARDBOOK_RECORD_WORDS;
+inline constexpr std::size_t buffer_words = YARDBOOK_BUFFER_WORDS;
+inline constexpr std::size_t buffer_slots = YARDBOOK_BUFFER_SLOTS;
 
 using State = std::array<std::uint32_t, state_words>;
 using Record = std::array<std::uint32_t, record_words>;
+
+// Vertices that wait for their parents. It starts with zeros: `Buffer buffer{};`
+using Buffer = std::array<std::uint32_t, buffer_words>;
 
 enum class Number : std::uint32_t {
     ok = YARDBOOK_OK,
@@ -37,6 +42,8 @@ enum class Number : std::uint32_t {
     watcher = YARDBOOK_REFUSED_WATCHER,
     signing = YARDBOOK_REFUSED_SIGNING,
     few_parents = YARDBOOK_REFUSED_FEW_PARENTS,
+    buffer = YARDBOOK_REFUSED_BUFFER,
+    buffer_full = YARDBOOK_REFUSED_BUFFER_FULL,
 };
 
 struct Answer {
@@ -85,6 +92,12 @@ namespace detail {
 
 [[nodiscard]] inline Answer take_vertex(std::span<std::uint32_t> state, std::span<const std::uint32_t> record) noexcept {
     return detail::answer(yardbook_take_vertex(state.data(), state.size(), record.data(), record.size()));
+}
+
+[[nodiscard]] inline Answer take_vertex_with(std::span<std::uint32_t> state, std::span<std::uint32_t> buffer,
+                                             std::span<const std::uint32_t> record) noexcept {
+    return detail::answer(yardbook_take_vertex_with(state.data(), state.size(), buffer.data(), buffer.size(), record.data(),
+                                                    record.size()));
 }
 
 [[nodiscard]] inline Answer take_first_message(std::span<std::uint32_t> state,

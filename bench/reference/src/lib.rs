@@ -69,6 +69,24 @@ pub unsafe extern "C" fn reference_take_vertex(
 /// # Safety
 /// As above.
 #[no_mangle]
+pub unsafe extern "C" fn reference_take_vertex_with(
+    state: *mut u32,
+    words: usize,
+    buffer: *mut u32,
+    buffer_words: usize,
+    record: *const u32,
+    record_words: usize,
+) -> Answer {
+    answer(reference::take_vertex_with(
+        words!(mut state, words),
+        words!(mut buffer, buffer_words),
+        words!(record, record_words),
+    ))
+}
+
+/// # Safety
+/// As above.
+#[no_mangle]
 pub unsafe extern "C" fn reference_take_first_message(
     state: *mut u32,
     words: usize,

@@ -1,14 +1,16 @@
-//! Runs five groups of four members. A watcher follows the first four and prints for a call its number and the status, and at the
+//! Runs six groups of four members. A watcher follows the first five and prints for a call its number and the status, and at the
 //! end the leader list and the journal: of the first three what sheetlog prints for the same calls; the fourth has bundles of
-//! timeouts, for which sheetlog has no line. The fifth is run by its four members, which propose and sign: it prints what they
-//! send, as lines of sheetlog's input, and at the end each member's lists.
+//! timeouts, and the fifth a buffer for vertices that come too early, for which sheetlog has no lines. The sixth is run by its
+//! four members, which propose and sign: it prints what they send, as lines of sheetlog's input, and at the end each member's
+//! lists.
 
 use yardbook::record::TIMEOUTS;
-use yardbook::{Answer, RECORD_WORDS, STATE_WORDS};
+use yardbook::{number, Answer, BUFFER_WORDS, RECORD_WORDS, STATE_WORDS};
 
 const MEMBERS: usize = 4;
 
 type State = [u32; STATE_WORDS];
+type Buffer = [u32; BUFFER_WORDS];
 type Record = [u32; RECORD_WORDS];
 
 fn print(letter: char, words: &[u32]) {
@@ -33,6 +35,8 @@ fn record(round: u32, source: u32, strong: u32, timeouts: u32, no_votes: u32, ta
 
 struct Watched {
     state: State,
+    /// Vertices that wait for their parents.
+    buffer: Buffer,
 }
 
 impl Watched {
@@ -40,6 +44,7 @@ impl Watched {
     fn opened(first: u32) -> Watched {
         let mut group = Watched {
             state: [0; STATE_WORDS],
+            buffer: [0; BUFFER_WORDS],
         };
         let answer = yardbook::open(&mut group.state, MEMBERS as u32, 0);
         group.print(answer);
@@ -51,6 +56,11 @@ impl Watched {
 
     fn vertex(&mut self, record: Record) {
         let answer = yardbook::take_vertex(&mut self.state, &record);
+        self.print(answer);
+    }
+
+    fn early_vertex(&mut self, record: Record) {
+        let answer = yardbook::take_vertex_with(&mut self.state, &mut self.buffer, &record);
         self.print(answer);
     }
 
@@ -119,7 +129,7 @@ fn watch_carried() {
 
 /// For calls that nothing can refuse here.
 fn must(answer: Answer) {
-    assert_eq!(answer.number, yardbook::number::OK);
+    assert_eq!(answer.number, number::OK);
 }
 
 /// For what nothing can make false here.
@@ -147,6 +157,105 @@ fn watch_bundle() {
         singly == group.state,
         "single timeouts end in the bundles' words",
     );
+}
+
+/// The vertex of a full round whose strong parents are all of the round before.
+fn full_record(round: u32, source: u32) -> Record {
+    let strong = if round == 1 { 0 } else { 15 };
+    record(round, source, strong, 0, 0, 10 * round + source)
+}
+
+/// The vertices of full rounds, in order.
+fn full_rounds(rounds: u32) -> Vec<Record> {
+    (1..=rounds)
+        .flat_map(|round| (0..MEMBERS as u32).map(move |source| full_record(round, source)))
+        .collect()
+}
+
+/// The state of a watcher that takes the vertices in order, without a buffer.
+fn taken_in_order(vertices: &[Record]) -> State {
+    let mut ordered = [0; STATE_WORDS];
+    must(yardbook::open(&mut ordered, MEMBERS as u32, 0));
+    for record in vertices {
+        must(yardbook::take_vertex(&mut ordered, record));
+    }
+    ordered
+}
+
+/// Three full rounds. The vertex of round 1's leader is the last to arrive: until then those of rounds 2 and 3, which come the
+/// wrong way round, wait in the buffer. One of these again is known already, and another of its round and source conflicts with
+/// it. A damaged buffer is refused. The leader's vertex brings all that waits into the state, and two rounds are committed. In
+/// order, the same vertices end in the same words.
+fn watch_pending() {
+    let mut group = Watched::opened(1);
+    for source in [3, 2, 1, 0] {
+        group.early_vertex(full_record(3, source));
+    }
+    group.early_vertex(full_record(3, 0));
+    group.early_vertex(record(3, 0, 15, 0, 0, 99));
+    for source in [3, 2, 1, 0] {
+        group.early_vertex(full_record(2, source));
+    }
+    group.buffer[0] += 1;
+    group.early_vertex(full_record(1, 0));
+    group.buffer[0] -= 1;
+    group.early_vertex(full_record(1, 0));
+    print_lists(&group.state);
+    must_hold(
+        taken_in_order(&full_rounds(3)) == group.state,
+        "vertices in order end in the same words",
+    );
+}
+
+/// Hands over vertices as they arrive: every step-th of them, round and round. What finds the buffer full is handed over again
+/// after the others. How often that was is returned.
+fn take_arriving(
+    state: &mut State,
+    buffer: &mut Buffer,
+    vertices: &[Record],
+    step: usize,
+) -> usize {
+    let count = vertices.len();
+    let mut left: Vec<Record> = (0..count).map(|i| vertices[i * step % count]).collect();
+    let mut refused = 0;
+    while !left.is_empty() {
+        let before = left.len();
+        left.retain(|record| {
+            let answer = yardbook::take_vertex_with(state, buffer, record);
+            must_hold(
+                matches!(
+                    answer.number,
+                    number::OK | number::MISSING_PARENT | number::BUFFER_FULL
+                ),
+                "a vertex is taken, or waits",
+            );
+            answer.number == number::BUFFER_FULL
+        });
+        must_hold(left.len() < before, "some vertex finds its parents or room");
+        refused += left.len();
+    }
+    refused
+}
+
+/// Twelve full rounds arrive in several orders, the last of them nearly the wrong way round. A host that hands over whatever
+/// arrives ends in the words of ordered delivery, lists included, and nothing waits any more.
+fn take_in_any_order() {
+    let vertices = full_rounds(12);
+    let ordered = taken_in_order(&vertices);
+    let mut refused = 0;
+    // No step has a divisor in common with the number of vertices.
+    for step in [5, 7, 11, 29, 47] {
+        let mut state = [0; STATE_WORDS];
+        let mut buffer = [0; BUFFER_WORDS];
+        must(yardbook::open(&mut state, MEMBERS as u32, 0));
+        refused += take_arriving(&mut state, &mut buffer, &vertices, step);
+        must_hold(
+            state == ordered,
+            "any order ends in the words of ordered delivery",
+        );
+        must_hold(buffer == [0; BUFFER_WORDS], "nothing waits any more");
+    }
+    must_hold(refused > 0, "some vertex finds the buffer full");
 }
 
 /// Whether a timeout or no-vote arrives. The others' are lost on their way to member 1.
@@ -224,7 +333,7 @@ impl Members {
         }
         let none = yardbook::propose(&mut self.states[1], 41);
         must_hold(
-            none.answer.number == yardbook::number::DUPLICATE,
+            none.answer.number == number::DUPLICATE,
             "member 1 can make no record for round 4",
         );
     }
@@ -296,5 +405,7 @@ fn main() {
     watch_two_leaders();
     watch_carried();
     watch_bundle();
+    watch_pending();
+    take_in_any_order();
     run_members();
 }

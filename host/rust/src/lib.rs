@@ -10,6 +10,12 @@ pub const STATE_WORDS: usize = 5864;
 /// Words of a record.
 pub const RECORD_WORDS: usize = 12;
 
+/// Words of a pending buffer: the count of its records, the records by rising id, and zeros.
+pub const BUFFER_WORDS: usize = 385;
+
+/// Records that a pending buffer has room for.
+pub const BUFFER_SLOTS: usize = 32;
+
 /// The words of a record. A mask has bit p set for member p.
 pub mod record {
     pub const ROUND: usize = 0;
@@ -43,6 +49,8 @@ pub mod number {
     pub const WATCHER: u32 = 16;
     pub const SIGNING: u32 = 17;
     pub const FEW_PARENTS: u32 = 18;
+    pub const BUFFER: u32 = 19;
+    pub const BUFFER_FULL: u32 = 20;
 }
 
 /// The number, with `MISSING_PARENT` the smallest missing parent's id, and how many entries the call added to each list.
@@ -98,6 +106,14 @@ mod c {
             record: *const u32,
             record_words: usize,
         ) -> Answer;
+        pub fn yardbook_take_vertex_with(
+            state: *mut u32,
+            words: usize,
+            buffer: *mut u32,
+            buffer_words: usize,
+            record: *const u32,
+            record_words: usize,
+        ) -> Answer;
         pub fn yardbook_take_first_message(
             state: *mut u32,
             words: usize,
@@ -133,7 +149,7 @@ mod c {
 }
 
 // SAFETY, of every call below: a slice gives an aligned pointer with that many words behind it, a `&mut` one is used by nothing
-// else, and the two slices of a call do not overlap. The calls are total and keep no pointer.
+// else, and the slices of a call do not overlap. The calls are total and keep no pointer.
 
 /// Opens the state for a group of n members. `own` is the own member plus 1, or 0 for a watcher.
 #[must_use]
@@ -147,6 +163,23 @@ pub fn open(state: &mut [u32], n: u32, own: u32) -> Answer {
 pub fn take_vertex(state: &mut [u32], record: &[u32]) -> Answer {
     unsafe {
         c::yardbook_take_vertex(state.as_mut_ptr(), state.len(), record.as_ptr(), record.len())
+    }
+}
+
+/// Takes a delivered vertex, parents first or not. With `MISSING_PARENT` it waits in the buffer, and once it has its parents
+/// it is admitted by the call that admits the last of them. With `BUFFER_FULL` it is not kept. The buffer is all 0 at first, and
+/// is lent to the calls on one state only.
+#[must_use]
+pub fn take_vertex_with(state: &mut [u32], buffer: &mut [u32], record: &[u32]) -> Answer {
+    unsafe {
+        c::yardbook_take_vertex_with(
+            state.as_mut_ptr(),
+            state.len(),
+            buffer.as_mut_ptr(),
+            buffer.len(),
+            record.as_ptr(),
+            record.len(),
+        )
     }
 }
 

@@ -165,7 +165,8 @@ module _ (n : ℕ) (a b : Model) (honest : ℕ → Bool) (g : legal n ≡ true) 
   noted why l after m f h = outcome-words (λ k. Follows n k m) why l after f h
 
   -- a vertex with a pending buffer
-  with-follows : (s rec l : List ℕ) (m : Model) → Follows n l m → Either a b m → Either a b (admit (vertexWith s rec) (takeVertexWith l s rec .outcome .number) m)
+  with-follows : (s rec l : List ℕ) (m : Model) → Follows n l m → Either a b m
+      → Either a b (admit (vertexWith s rec) (takeVertexWith l s rec .outcome .number) m)
       → Follows n (takeVertexWith l s rec .outcome .words) (admit (vertexWith s rec) (takeVertexWith l s rec .outcome .number) m)
   with-follows s rec l m f i j = go (end-of l s rec)
     where

@@ -1,27 +1,25 @@
 -- The model of a list of calls without any state: where what the model holds lets every call be taken, the calls make exactly this model. Assumes nothing.
 use mathlib.Core.Path.{_≡_, refl, sym, ap, _∙_}
-use mathlib.Core.Bool.{Bool, true, false, not, _&&_, _||_}
+use mathlib.Core.Bool.{Bool, true, false, not, _&&_}
 use mathlib.Core.Logic.{⊎-elim}
 use mathlib.Core.List.{List, [], _∷_, _++_}
 use Prim.Native.Nat.{ℕ, _-_, _<_}
 use native.Mathlib.Omega.{arith}
-use lib.Dec.{eqb, leb, ltb}
-use borrow.Author.Tests.{eqb-true, lt-ltb, not-true}
-use Rattle.record.specs.Below.{all}
+use lib.Dec.{eqb, leb}
+use borrow.Author.Tests.{eqb-true, not-true}
 use Rattle.record.specs.Members.{legal, has, idRound, idMember, isRound, slots}
 use Rattle.record.specs.Refusals.{numberOf, Question, firstNo}
-use Rattle.record.specs.Layout.{roundOf, sourceOf, bodyOf, strongOf, weakCountOf, weakOf, weakSlots}
+use Rattle.record.specs.Layout.{roundOf, sourceOf, bodyOf}
 use Rattle.record.specs.Questions.{recordQuestions, bodyRefusal}
 use Rattle.record.specs.Admitted.{Admitted}
-use Rattle.record.proofs.Booleans.{which, never, and-left, and-right, and-both, and-fails-left, cond-true, imp-elim}
-use Rattle.record.proofs.Below.{all-elim}
+use Rattle.record.proofs.Booleans.{which, never, and-left, and-right, and-both, and-fails-left, cond-true}
 use Rattle.record.proofs.Turn.{next, done, front-yes, numbered-law, admitted}
 use Rattle.protocol.specs.Dag.{Records, recordsOf, present, held}
 use Rattle.replica.specs.State.{memberCount, heldMask, heardMask, vertices, firsts}
 use Rattle.replica.specs.Parents.{isParent, parentsHeld}
 use Rattle.replica.specs.Status.{stateQuestions}
 use Rattle.replica.proofs.Dags.{held-vertex, held-id}
-use Rattle.replica.proofs.ParentLaws.{parent-cases, parents-intro, weak-five}
+use Rattle.replica.proofs.ParentLaws.{parents-intro}
 use Rattle.record.proofs.Rounds.{round-in}
 use Rattle.ordering.specs.Calls.{sameBody, vertexQuestions, firstQuestions, takeBody, takeFirstBody}
 use Rattle.runs.specs.Call.{Call, opening, vertex, vertexWith, firstMessage, timeout, noVote, bundle, status, askLeaderList, askJournalList}
@@ -95,7 +93,8 @@ module _ (n : ℕ) (l : List ℕ) (m : Model) (h : Holds n l m) (r p : ℕ) (bod
       ∙ past-state l _ (h .formed)
 
   -- a vertex has the number 0
-  vertex-passes : held (recordsOf (m .vertices)) r p ≡ false → ((y : ℕ) → isParent r body y ≡ true → held (recordsOf (m .vertices)) (idRound y) (idMember y) ≡ true)
+  vertex-passes : held (recordsOf (m .vertices)) r p ≡ false → ((y : ℕ) → isParent r body y ≡ true
+      → held (recordsOf (m .vertices)) (idRound y) (idMember y) ≡ true)
       → numberOf (firstNo (vertexQuestions l r p body)) ≡ 0
   vertex-passes new there =
       let few : p < slots = omega (arith, A .source-low, h .formed .front .high) in

@@ -1,20 +1,20 @@
 -- The passes of the model beside those of the state: the same records join, wait on and leave, and the state follows the model. Assumes nothing.
 use mathlib.Core.Path.{_≡_, refl, sym, ap, ap₂, _∙_}
-use mathlib.Core.Bool.{Bool, true, false, cond, not, _&&_, _||_}
+use mathlib.Core.Bool.{Bool, true, false, not, _||_}
 use mathlib.Core.Logic.{_⊎_, inl, inr, ⊎-elim}
-use mathlib.Core.List.{List, [], _∷_, _++_, List·Memᴰ·tail}
-use Prim.Native.Nat.{ℕ, zero, suc, _+_, _-_, _≤_, _<_}
+use mathlib.Core.List.{List, [], _∷_, List·Memᴰ·tail}
+use Prim.Native.Nat.{ℕ, zero, suc, _-_, _≤_, _<_}
 use native.Mathlib.Omega.{arith}
-use lib.Dec.{eqb, ltb}
+use lib.Dec.{ltb}
 use lib.ListN.{length}
 use borrow.Author.Tests.{ltb-true, ltb-false}
 use Rattle.record.specs.Below.{all}
-use Rattle.record.specs.Members.{legal, has, idOf, idRound, idMember, slots, idLimit}
+use Rattle.record.specs.Members.{legal, has, idOf, idRound, idMember, slots}
 use Rattle.record.specs.Refusals.{numberOf}
 use Rattle.record.specs.Layout.{roundOf, sourceOf, bodyOf, strongOf, weakCountOf, weakOf}
 use Rattle.record.specs.Questions.{recordRefusal}
 use Rattle.record.specs.Admitted.{Admitted}
-use Rattle.record.proofs.Booleans.{which, never, and-left, and-right, and-both, or-left, or-right, cond-true, cond-false, imp-elim, bool-ext}
+use Rattle.record.proofs.Booleans.{which, never, and-left, and-right, and-both, or-left, or-right, imp-elim, bool-ext}
 use Rattle.record.proofs.Below.{all-elim, all-intro}
 use Rattle.record.proofs.Masks.{has-zero}
 use Rattle.record.proofs.Rounds.{id-round, id-member}
@@ -25,7 +25,7 @@ use Rattle.replica.proofs.Dags.{held-id}
 use Rattle.replica.proofs.ParentLaws.{strong-parent, weak-parent, parent-cases, parents-intro, parents-elim, weak-small}
 use Rattle.ordering.specs.Calls.{takeVertex}
 use Rattle.pending.specs.Buffer.{In, recordId, recordsOk}
-use Rattle.pending.specs.Passes.{Fate, joins, stays, leaves, Trial, Passed, ahead, followedBy, isNone, pass, passes, release}
+use Rattle.pending.specs.Passes.{Fate, joins, stays, leaves, Trial, Passed, ahead, isNone, pass, passes, release}
 use Rattle.pending.specs.Early.{tryVertex}
 use Rattle.pending.proofs.Order.{First, ok-first, admit}
 use Rattle.pending.proofs.Holding.{Joins, Stays, Leaves, ends, waiting-lacks, joined-words}
@@ -89,7 +89,8 @@ module _ (n : ℕ) (l : List ℕ) (m : Model) (h : Holds n l m) (rec : List ℕ)
           let y : ℕ = idOf (r - 1) q in
           let a : idRound y ≡ r - 1 = id-round (r - 1) q b in
           let c : idMember y ≡ q = id-member (r - 1) q b in
-          let k = there y (parents-elim l r body e y (omega (arith, A .round-high)) (strong-parent r body y (omega (arith, a)) (ap (has (strongOf body)) c ∙ d))) in
+          let is = strong-parent r body y (omega (arith, a)) (ap (has (strongOf body)) c ∙ d) in
+          let k = there y (parents-elim l r body e y (omega (arith, A .round-high)) is) in
           or-right (not (has (strongOf body) q)) (ap₂ (held v) (sym a) (sym c) ∙ k)
 
   -- the record is there exactly if it is held
@@ -199,12 +200,14 @@ module _ (n : ℕ) (a b : Model) (honest : ℕ → Bool) (g : legal n ≡ true) 
           (vertex-follows n a b honest g P l (having v) rec (f .holds) (j .asked) j₀ j₁) in
           let B = ih (takeVertex l rec .words) (rec ∷ v) F i′ in
           let c = first-joins l rec recs j in
-          record { follows = rw (c, d) (B .follows); admitted = rw (c, d) (ap (λ (x : List (List ℕ)). rec ∷ x) (B .admitted)); waiting = rw (c, d) (B .waiting) }
+          let x = ap (λ (y : List (List ℕ)). rec ∷ y) (B .admitted) in
+          record { follows = rw (c, d) (B .follows); admitted = rw (c, d) x; waiting = rw (c, d) (B .waiting) }
       go t (inr (inl s)) ih =
           let d = first _ (book-stays n l (having v) (f .holds) rec (t .passes) s) in
           let B = ih l v f (rw d at i) in
           let c = first-stays l rec recs s in
-          record { follows = rw (c, d) (B .follows); admitted = rw (c, d) (B .admitted); waiting = rw (c, d) (ap (λ (x : List (List ℕ)). rec ∷ x) (B .waiting)) }
+          let x = ap (λ (y : List (List ℕ)). rec ∷ y) (B .waiting) in
+          record { follows = rw (c, d) (B .follows); admitted = rw (c, d) (B .admitted); waiting = rw (c, d) x }
       go t (inr (inr s)) ih =
           let d = first _ (book-leaves n l (having v) (f .holds) rec (t .passes) s) in
           let B = ih l v f (rw d at i) in

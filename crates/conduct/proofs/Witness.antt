@@ -158,7 +158,8 @@ both : List (List ℕ) × List ℕ
 both = (shortRecords (opened 4 own) calls, shortRounds (opened 4 own) calls)
 
 computed : both ≡ (first ∷ voting ∷ against ∷ [], 2 ∷ [])
-unfolding both shortRecords shortRounds shortRecord shortRound calls shortOf shortTake shortVertex shortNote shortBundle shortMaking shortMade shortSigning opened outcome
+unfolding both shortRecords shortRounds shortRecord shortRound calls shortOf shortTake shortVertex shortNote shortBundle shortMaking
+    shortMade shortSigning opened outcome
     legal leader has within meets
     firstNo strongOf timeoutsOf noVotesOf weakCountOf weakOf isRound masksOk strongOk lacksLeader quorumIf timeoutsOk noVotesOk weakIdOk rises
     slotOk weakOk signerQuestions recordQuestions

@@ -24,19 +24,20 @@ use Rattle.replica.specs.Outcome.{Outcome, told, nothingAdded}
 use Rattle.replica.specs.Status.{stateQuestions}
 use Rattle.replica.specs.declared.answer.Answer.{Answer}
 use Rattle.replica.proofs.Formed.{WellFormed, well-formed}
-use Rattle.ordering.specs.Calls.{admissionQuestions, vertexQuestions, takeVertex}
+use Rattle.ordering.specs.Calls.{vertexQuestions, takeVertex}
 use Rattle.ordering.specs.Inner.{Unstopped}
 use Rattle.ordering.proofs.Turns.{record-stops}
 use Rattle.ordering.proofs.Numbers.{past-state, decided}
 use Rattle.pending.specs.Layout.{bufferSlots}
 use Rattle.pending.specs.Buffer.{recordId, sameRecord, sameId, some, putIn, countOf, recordAt, recordsFrom, recordsIn, recordsOk, bufferOf, bufferOk}
 use Rattle.pending.specs.Passes.{Passed}
-use Rattle.pending.specs.Early.{bufferedQuestions, earlyQuestions, inPlace, refusalWith, releaseAfter, toldWith, admittedWith, takeVertexWith}
-use Rattle.pending.specs.Inner.{rank, Early, Refused, refusedIn, keepEarly, Standing, Both, both, releaseIn}
+use Rattle.pending.specs.Early.{laterQuestions, bufferedQuestions, earlyQuestions, inPlace, refusalWith, releaseAfter}
+use Rattle.pending.specs.Early.{toldWith, admittedWith, takeVertexWith}
+use Rattle.pending.specs.Inner.{rank, Keepable, Refused, refusedIn, keepEarly, Standing, Both, both, releaseIn}
 use Rattle.pending.proofs.Slots.{or-false, records-length, records-at, records-end}
 use Rattle.pending.proofs.Order.{Formed, formed, First, ok-first, rank-le, bounded}
 use Rattle.pending.proofs.Upward.{records-drop}
-use Rattle.pending.proofs.Holding.{Later, later-then, Joined, joined}
+use Rattle.pending.proofs.Holding.{Later, later-then, joined}
 use Rattle.pending.proofs.Passing.{Good, one-pass, pass-later}
 
 -- ---- a record of the same id among those that rise
@@ -132,8 +133,11 @@ module _ (s rec : List ℕ) (why : Refusal) where
       early-id b = answered Conflict (next _ _ (ap not a) (stop _ _ (ap not b))) refl
 
       module _ (b : some (sameId rec) recs ≡ false) where
-        pub early-full : bufferSlots ≤ countOf s → refusedIn BufferFull s ≡ keepEarly s rec why
-        early-full k = answered BufferFull (next _ _ (ap not a) (next _ _ (ap not b) (stop _ _ (le-ltb (length recs) bufferSlots (omega (arith, records-length s 0 (countOf s))))))) refl
+        pub early-full : bufferSlots ≤ countOf s
+            → refusedIn BufferFull s ≡ keepEarly s rec why
+        early-full k =
+            let off : ltb (length recs) bufferSlots ≡ false = le-ltb (length recs) bufferSlots (omega (arith, records-length s 0 (countOf s))) in
+            answered BufferFull (next _ _ (ap not a) (next _ _ (ap not b) (stop _ _ off))) refl
 
         pub early-put : countOf s < bufferSlots → (t : List ℕ) → t ≡ bufferOf (putIn rec recs) → refusedIn why t ≡ keepEarly s rec why
         unfolding inPlace
@@ -203,13 +207,13 @@ module _ (l s rec : List ℕ) (why : Refusal) (e : why ≡ firstNo (bufferedQues
 -- what is known of the questions after the state's
 pub record Asked (l s rec : List ℕ) (why : Refusal) : Type 0 where
   -- with 14 the buffer is well formed and the record passes its own questions
-  pub early : Early s rec why
+  pub early : Keepable s rec why
   -- with 0 the buffer is well formed, and a plain vertex call admits the record
   pub buffer : numberOf why ≡ 0 → bufferOk (memberCount l) s ≡ true
   pub passes : numberOf why ≡ 0 → numberOf (firstNo (vertexQuestions l (roundOf rec) (sourceOf rec) (bodyOf rec))) ≡ 0
 
 module _ (l s rec : List ℕ) (S : WellFormed l) (why : Refusal)
-    (e : why ≡ firstNo ((bufferOk (memberCount l) s, Buffer) ∷ admissionQuestions l (memberCount l) rec)) where
+    (e : why ≡ firstNo (laterQuestions l s (memberCount l) rec)) where
   -- 14 is neither the buffer's nor the record's own
   pub from-parent : isMissing why ≡ true → (bufferOk (memberCount l) s ≡ true) × (numberOf (recordRefusal (memberCount l) rec) ≡ 0)
   unfolding firstNo

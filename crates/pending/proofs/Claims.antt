@@ -1,47 +1,46 @@
 -- The claims about a vertex taken with a pending buffer. Assumes nothing.
-use mathlib.Core.Path.{_≡_, refl, sym, ap, ap₂, _∙_}
+use mathlib.Core.Path.{_≡_, refl, sym, ap, _∙_}
 use mathlib.Core.Bool.{Bool, true, false, not}
 use mathlib.Core.Logic.{_⊎_, inl, inr, ⊎-elim}
 use mathlib.Core.List.{List, [], _∷_, Sublistᴰ, Memᴰ·cast}
 use Prim.Native.Nat.{ℕ, _≤_, _<_}
 use native.Mathlib.Omega.{arith}
-use lib.Dec.{eqb, ltb}
+use lib.Dec.{ltb}
 use lib.ListN.{length, length-drop}
 use borrow.Author.Tests.{eqb-true, eqb-false, eq-eqb, ne-eqb, ltb-true, ltb-false}
 use Rattle.record.specs.Refusals.{numberOf, missingNumber, isMissing, firstNo}
 use Rattle.record.specs.Layout.{recordSize, bodyPlace, roundOf, sourceOf, bodyOf}
 use Rattle.record.specs.Questions.{recordRefusal}
 use Rattle.record.specs.declared.refusal.Refusal.{Refusal}
-use Rattle.record.specs.declared.refusal.Refusal.the-variants.{None, Duplicate, Conflict, Buffer, BufferFull}
+use Rattle.record.specs.declared.refusal.Refusal.the-variants.{Duplicate, Conflict, Buffer, BufferFull}
 use Rattle.record.proofs.Booleans.{which, never, cond-false}
 use Rattle.record.proofs.Turn.{next, both-fronts}
-use Rattle.replica.specs.Layout.{stateSize}
 use Rattle.replica.specs.State.{memberCount}
-use Rattle.replica.specs.WellFormed.{wellFormed}
 use Rattle.replica.specs.Parents.{parentsHeld}
-use Rattle.replica.specs.Outcome.{Outcome, nothingAdded}
+use Rattle.replica.specs.Outcome.{nothingAdded}
 use Rattle.replica.specs.Status.{stateQuestions}
 use Rattle.replica.proofs.StatusLaws.{state-numbered, state-ok}
 use Rattle.replica.proofs.Formed.{WellFormed, formed, well-formed}
-use Rattle.ordering.specs.Calls.{admissionQuestions, vertexQuestions, takeBody, takeVertex}
+use Rattle.ordering.specs.Calls.{vertexQuestions, takeBody, takeVertex}
 use Rattle.ordering.specs.Kept.{LeavesWellFormed}
 use Rattle.ordering.proofs.Turns.{state-stops}
 use Rattle.ordering.proofs.Numbers.{number-yes, number-no, past-state, decided}
 use Rattle.pending.specs.Layout.{bufferSlots}
-use Rattle.pending.specs.Buffer.{In, recordId, sameRecord, sameId, some, putIn, countOf, recordsIn, recordsOk, bufferOf, bufferOk}
-use Rattle.pending.specs.Passes.{Passed, pass}
-use Rattle.pending.specs.Early.{tryVertex, bufferedQuestions, inPlace, refusalWith, releaseAfter, Ending, toldWith, admittedWith, refusedWith, takeVertexWith}
+use Rattle.pending.specs.Buffer.{In, sameRecord, sameId, some, putIn, countOf, recordsIn, recordsOk, bufferOf, bufferOk}
+use Rattle.pending.specs.Passes.{pass}
+use Rattle.pending.specs.Early.{tryVertex, bufferedQuestions, inPlace, refusalWith, releaseAfter, Ending}
+use Rattle.pending.specs.Early.{toldWith, admittedWith, refusedWith, takeVertexWith}
 use Rattle.pending.specs.Inner.{refusedIn, keepEarly}
 use Rattle.pending.specs.Claims.{takeInTurn, Admits, NoneIsReady, PassesEnd, EndsAsPlainCalls, KeepsState, KeepsBuffer}
 use Rattle.pending.specs.Claims.{Waits, WaitedBefore, Clashes, FindsNoRoom, NotLost}
 use Rattle.pending.proofs.Slots.{Laid, laid, records-length}
 use Rattle.pending.proofs.Order as order
-use Rattle.pending.proofs.Order.{Formed, ok-each, ok-long, laid-formed, admit}
-use Rattle.pending.proofs.Holding.{Later, Joined, joined, waiting-lacks}
+use Rattle.pending.proofs.Order.{Formed, ok-long, laid-formed, admit}
+use Rattle.pending.proofs.Holding.{Later, joined, waiting-lacks}
 use Rattle.pending.proofs.Passing.{Good, one-pass, second, pass-later, pass-good, pass-waiting, pass-sublist, pass-in-turn, all-wait, turn-first, Kept}
 use Rattle.pending.proofs.Passing.{pass-keeps}
-use Rattle.pending.proofs.Putting.{same-words, same-self, One, some-one, some-off, put-length, put-here, put-others, put-ok}
-use Rattle.pending.proofs.Calling.{state-no-parent, in-place-number, with-refused, with-admitted, Asked, asked, from-parent}
+use Rattle.pending.proofs.Putting.{same-words, same-self, some-one, some-off, put-length, put-here, put-others, put-ok}
+use Rattle.pending.proofs.Calling.{state-no-parent, in-place-number, with-refused, with-admitted, asked, from-parent}
 use Rattle.pending.proofs.Calling.{early-same, early-id, early-full, early-put}
 
 cast-in : {x : List ℕ} {a b : List (List ℕ)} → a ≡ b → In x a → In x b
@@ -183,11 +182,12 @@ ends-as-plain-calls l s rec e = as-plain l s rec (taken l s rec e)
 -- ---- whatever the answer
 
 pub keeps-state : KeepsState
-keeps-state l s rec e = ⊎-elim (state-after l s rec) (λ x. rw (x .end) e) (end-of l s rec)
+keeps-state l s rec a b = ⊎-elim (state-after l s rec) (λ x. rw (x .end) (a, b)) (end-of l s rec)
 
 -- what plain vertex calls keep, the call keeps
 pub with-keeps : (P : List ℕ → Type 0) → Kept P → (l s rec : List ℕ) → P l → P (takeVertexWith l s rec .outcome .words)
-with-keeps P h l s rec x = ⊎-elim (λ T. rw (end l s rec T) (pass-keeps P h (recordsIn s) (takeVertex l rec .words) (later l s rec T .formed) (h l rec (T .first) x)))
+with-keeps P h l s rec x = ⊎-elim
+    (λ T. rw (end l s rec T) (pass-keeps P h (recordsIn s) (takeVertex l rec .words) (later l s rec T .formed) (h l rec (T .first) x)))
     (λ y. rw (y .end) x) (end-of l s rec)
 
 -- what 14 of the call says
@@ -258,7 +258,8 @@ module _ (l s rec : List ℕ) (b : bufferOk (memberCount l) s ≡ true) (e : tak
 
   plain-missing : isMissing plain ≡ true
   unfolding takeBody
-  plain-missing = ⊎-elim (λ z. absurd (eqb-false 0 14 refl (sym (number-yes plain l _ z) ∙ e))) (λ h. eq-eqb _ _ (sym (number-no plain l _ h) ∙ e)) (decided plain)
+  plain-missing = ⊎-elim (λ z. absurd (eqb-false 0 14 refl (sym (number-yes plain l _ z) ∙ e)))
+      (λ h. eq-eqb _ _ (sym (number-no plain l _ h) ∙ e)) (decided plain)
 
   first : WellFormed l
   first = go (decided (firstNo (stateQuestions l)))

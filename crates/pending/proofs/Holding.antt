@@ -1,23 +1,23 @@
 -- What a trial leaves: a record that is admitted is held and the others stay, one with a missing parent waits, and one that is held leaves. Assumes nothing.
 use mathlib.Core.Path.{_≡_, refl, sym, ap, _∙_}
-use mathlib.Core.Bool.{Bool, true, false, cond, not, _&&_}
+use mathlib.Core.Bool.{true, false, not, _&&_}
 use mathlib.Core.Logic.{_⊎_, inl, inr, ⊎-elim}
 use mathlib.Core.List.{List}
-use Prim.Native.Nat.{ℕ, zero, suc, _+_, _^_, _≤_, _<_}
+use Prim.Native.Nat.{ℕ, zero, suc, _^_, _≤_, _<_}
 use native.Mathlib.Omega.{arith}
 use lib.Dec.{eqb, ltb}
-use borrow.Author.Tests.{eqb-true, eqb-false, eq-eqb, ne-eqb, ltb-true, ltb-false, not-true}
+use borrow.Author.Tests.{eqb-true, eqb-false, ltb-true, ltb-false, not-true}
 use Rattle.record.specs.Below.{least}
-use Rattle.record.specs.Members.{rounds, slots, votedRounds, has, isRound, idOf, idRound, idMember, idLimit}
+use Rattle.record.specs.Members.{rounds, slots, votedRounds, has, idOf, idRound, idMember, idLimit}
 use Rattle.record.specs.Refusals.{numberOf, missingNumber, firstNo}
 use Rattle.record.specs.Layout.{roundOf, sourceOf, bodyOf, timeoutsOf}
 use Rattle.record.specs.Questions.{recordRefusal}
 use Rattle.record.specs.Admitted.{Admitted}
 use Rattle.record.specs.declared.refusal.Refusal.{Refusal}
 use Rattle.record.specs.declared.refusal.Refusal.the-variants.{None, Duplicate, Conflict, MissingParent}
-use Rattle.record.proofs.Booleans.{which, never, and-left, and-right, and-both, and-fails-left, and-fails-right}
+use Rattle.record.proofs.Booleans.{which, never, and-left, and-right}
 use Rattle.record.proofs.Below.{least-sat}
-use Rattle.record.proofs.Rounds.{id-round, id-member, round-in}
+use Rattle.record.proofs.Rounds.{round-in}
 use Rattle.protocol.specs.Dag.{Records, held, present}
 use Rattle.replica.specs.Layout.{memberCountAt, leaderCountAt, journalCountAt}
 use Rattle.replica.specs.State.{memberCount, leaderCount, journalCount, heldMask, vertices, heldId}
@@ -294,7 +294,8 @@ waits-on l rec other S e d h w = go (ends l other S d)
       is-parent = w .is-parent;
       not-held =
           let b = parent-lower l rec S e (w .parent) (w .is-parent) in
-          ap present (j .after .other (idRound (w .parent)) (idMember (w .parent)) (apart (idRound (w .parent)) (idMember (w .parent)) (omega arith))) ∙ w .not-held;
+          let c = apart (idRound (w .parent)) (idMember (w .parent)) (omega arith) in
+          ap present (j .after .other (idRound (w .parent)) (idMember (w .parent)) c) ∙ w .not-held;
     }
     go (inr (inl s)) = rw (s .same) w
     go (inr (inr s)) = rw (s .same) w

@@ -1,28 +1,29 @@
 -- Waiting records by rising ids: the test of a buffer, a record's place among them, and a record put in. Assumes nothing.
-use mathlib.Core.Path.{_≡_, refl, sym, ap, ap₂, _∙_}
-use mathlib.Core.Bool.{Bool, true, false, cond, not, _&&_, _||_}
+use mathlib.Core.Path.{_≡_, refl, sym, ap, _∙_}
+use mathlib.Core.Bool.{Bool, true, false, not, _&&_, _||_}
 use mathlib.Core.Logic.{_⊎_, inl, inr, ⊎-elim}
 use mathlib.Core.List.{List, [], _∷_, _++_, List·Memᴰ·head, List·Memᴰ·tail, List·Memᴰ·cases-cons, List·Memᴰ·not-nil, Memᴰ·cast}
 use Prim.Native.Nat.{ℕ, zero, suc, _+_, _-_, _≤_, _<_}
 use native.Mathlib.Omega.{arith}
 use lib.Dec.{eqb, leb, ltb}
 use lib.ListN.{length, getD, take, drop, length-drop}
-use borrow.Author.Tests.{eqb-true, eqb-false, eq-eqb, ne-eqb, ltb-true, ltb-false, lt-ltb, le-ltb, leb-true, le-leb, lt-leb}
+use lib.Seq.{getD-take, getD-drop, length-take-le}
+use borrow.Author.Tests.{eqb-true, eq-eqb, ne-eqb, ltb-true, ltb-false, lt-ltb, le-ltb, leb-true, le-leb, lt-leb}
 use Rattle.record.specs.Below.{all}
-use Rattle.record.specs.Members.{rounds, slots, legal}
+use Rattle.record.specs.Members.{slots, legal}
 use Rattle.record.specs.Refusals.{numberOf}
-use Rattle.record.specs.Layout.{recordSize, bodyPlace, roundOf, sourceOf, bodyOf}
+use Rattle.record.specs.Layout.{bodyPlace, roundOf, sourceOf, bodyOf}
 use Rattle.record.specs.Questions.{recordRefusal}
 use Rattle.record.specs.Admitted.{Admitted}
-use Rattle.record.proofs.Booleans.{which, never, and-left, and-right, and-both, and-fails-left, and-fails-right, or-cases, or-right, passed, failed}
-use Rattle.record.proofs.Below.{all-elim, all-intro}
+use Rattle.record.proofs.Booleans.{which, and-left, and-right, and-both, and-fails-left, and-fails-right, or-cases, or-left, or-right, passed, failed}
+use Rattle.record.proofs.Below.{all-elim, all-intro, all-cong, all-join}
 use Rattle.record.proofs.Masks.{legal-range}
 use Rattle.record.proofs.Turn as turn
 use Rattle.pending.specs.Layout.{bufferSize, bufferSlots, slotAt}
-use Rattle.pending.specs.Buffer.{In, recordId, sameRecord, sameId, some, putIn, countOf, recordAt, recordsFrom, recordsIn, recordsOk, restZero, bufferOk}
+use Rattle.pending.specs.Buffer.{In, recordId, putIn, countOf, recordAt, recordsFrom, recordsIn, recordsOk, restZero, bufferOk}
 use Rattle.pending.specs.Buffer.{bufferOf}
-use Rattle.pending.specs.Inner.{Bounded, Sized, Sound, rank}
-use Rattle.pending.proofs.Slots.{Long, Zeros, Laid, laid, records-at, records-end, or-false}
+use Rattle.pending.specs.Inner.{Bounded, Sound, rank}
+use Rattle.pending.proofs.Slots.{Long, Zeros, laid, records-at, records-end}
 
 -- ---- a record that passes its own questions
 
@@ -213,6 +214,28 @@ slot-bounded s j S h = bounded (S .members) (recordAt s j) (S .legit) (slot-pass
 -- ---- the test of a buffer, answer by answer
 
 module _ (n : ℕ) (s : List ℕ) where
+  -- the part from a place on is zero, as it is tested, and as it is defined
+  abbrev part : ℕ → List ℕ
+  part at = take (bufferSize - at) (drop at s)
+
+  abbrev zeroPart : ℕ → Bool
+  zeroPart at = all (length (part at)) (λ i. eqb (getD (part at) i 0) 0)
+
+  rest-part : length s ≡ bufferSize → (at : ℕ) → at ≤ bufferSize → zeroPart at ≡ all bufferSize (λ i. ltb i at || eqb (getD s i 0) 0)
+  rest-part size at h =
+      let t : ℕ → Bool = λ i. ltb i at || eqb (getD s i 0) 0 in
+      let b : ℕ = bufferSize - at in
+      let whole : at + b ≡ bufferSize = omega arith in
+      let long : length (part at) ≡ b = length-take-le b (drop at s) (omega (arith, length-drop at s)) in
+      let front : all at t ≡ true = all-intro at t (λ i k. or-left _ (lt-ltb i at k)) in
+      ap (λ (k : ℕ). all k (λ i. eqb (getD (part at) i 0) 0)) long
+      ∙ all-cong b (λ i. eqb (getD (part at) i 0) 0) (λ i. t (at + i)) (λ i k. same i k)
+      ∙ sym (ap (λ (k : ℕ). all k t) (sym whole) ∙ all-join at b t ∙ rw front)
+    where
+      same : (i : ℕ) → i < bufferSize - at → eqb (getD (part at) i 0) 0 ≡ (ltb (at + i) at || eqb (getD s (at + i) 0) 0)
+      same i k =
+          ap (λ (x : ℕ). eqb x 0) (getD-take (bufferSize - at) (drop at s) i 0 k ∙ getD-drop at s i 0) ∙ rw (le-ltb (at + i) at (omega arith))
+
   pub not-sized : (length s ≡ bufferSize → ⊥) → false ≡ bufferOk n s
   unfolding bufferOk
   not-sized d = sym (and-fails-left _ (ne-eqb (length s) bufferSize d))
@@ -225,7 +248,11 @@ module _ (n : ℕ) (s : List ℕ) where
   unfolding bufferOk
   not-rising t e d = sym (and-fails-right (eqb (length s) bufferSize) (and-fails-right (leb (countOf s) bufferSlots) (and-fails-left _ (failed e d))))
 
-  pub all-rise : (t : Bool) → t ≡ recordsOk n 0 (recordsIn s) → not t ≡ false → length s ≡ bufferSize → countOf s ≤ bufferSlots → (at : ℕ) → at ≡ slotAt (countOf s)
-      → (r : Bool) → r ≡ all bufferSize (λ i. ltb i at || eqb (getD s i 0) 0) → r ≡ bufferOk n s
+  pub all-rise : (t : Bool) → t ≡ recordsOk n 0 (recordsIn s) → not t ≡ false → length s ≡ bufferSize → countOf s ≤ bufferSlots → (at : ℕ)
+      → at ≡ slotAt (countOf s)
+      → (r : Bool) → r ≡ zeroPart at → r ≡ bufferOk n s
   unfolding bufferOk restZero
-  all-rise t e d size few at a r f = f ∙ rw (a, eq-eqb (length s) bufferSize size, le-leb (countOf s) bufferSlots few, passed e d)
+  all-rise t e d size few at a r f =
+      let z : zeroPart (slotAt (countOf s)) ≡ restZero s = rest-part size (slotAt (countOf s)) (omega arith) in
+      let b : r ≡ restZero s = f ∙ ap zeroPart a ∙ z in
+      b ∙ rw (eq-eqb (length s) bufferSize size, le-leb (countOf s) bufferSlots few, passed e d)

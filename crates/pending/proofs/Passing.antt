@@ -2,9 +2,9 @@
 use mathlib.Core.Path.{_≡_, refl, sym, ap, ap₂, _∙_}
 use mathlib.Core.Bool.{true, false, cond}
 use mathlib.Core.Logic.{_⊎_, inl, inr, ⊎-elim}
-use mathlib.Core.List.{List, [], _∷_, _++_, append-nil, List·Memᴰ·head, List·Memᴰ·tail, List·Memᴰ·cases-cons, List·Memᴰ·not-nil}
+use mathlib.Core.List.{List, [], _∷_, append-nil, List·Memᴰ·head, List·Memᴰ·tail, List·Memᴰ·cases-cons, List·Memᴰ·not-nil}
 use mathlib.Core.List.{Sublistᴰ, Sublistᴰ·slnil, Sublistᴰ·cons, Sublistᴰ·cons-cons}
-use Prim.Native.Nat.{ℕ, zero, suc, _+_, _-_, _≤_, _<_}
+use Prim.Native.Nat.{ℕ, suc, _+_, _-_, _≤_}
 use native.Mathlib.Omega.{arith}
 use lib.ListN.{length}
 use Rattle.record.specs.Refusals.{numberOf, firstNo}
@@ -13,7 +13,7 @@ use Rattle.record.specs.Questions.{recordRefusal}
 use Rattle.record.specs.declared.refusal.Refusal.the-variants.{None}
 use Rattle.record.proofs.Booleans.{which}
 use Rattle.replica.specs.State.{memberCount, leaderCount, journalCount}
-use Rattle.replica.specs.Outcome.{Outcome, unchanged, admitted, outcome}
+use Rattle.replica.specs.Outcome.{Outcome, unchanged, admitted}
 use Rattle.replica.proofs.Formed.{WellFormed, formed, well-formed}
 use Rattle.ordering.specs.Calls.{vertexQuestions, takeBody, takeVertex}
 use Rattle.ordering.specs.Bundle.{followed}
@@ -24,7 +24,7 @@ use Rattle.pending.specs.Passes.{Fate, Passed, ahead, followedBy, isNone
 use Rattle.pending.specs.Early.{tryVertex}
 use Rattle.pending.specs.Claims.{takeInTurn}
 use Rattle.pending.proofs.Order.{First, ok-first, first-ok, ok-lower}
-use Rattle.pending.proofs.Holding.{Later, later-self, later-then, Joined, joined, Waiting, Joins, Stays, Leaves, ends, waiting-stays, waits-on}
+use Rattle.pending.proofs.Holding.{Later, later-self, later-then, joined, Waiting, Joins, Stays, Leaves, ends, waiting-stays, waits-on}
 
 -- a vertex call keeps a state well formed
 pub vertex-formed : (l rec : List ℕ) → WellFormed l → WellFormed (takeVertex l rec .words)

@@ -1,6 +1,6 @@
 -- A record put in among those that rise, and found there. Assumes nothing.
 use mathlib.Core.Path.{_≡_, refl, sym, ap, _∙_}
-use mathlib.Core.Bool.{Bool, true, false, _||_, false≢true}
+use mathlib.Core.Bool.{Bool, true, false, false≢true}
 use mathlib.Core.Logic.{_⊎_, inl, inr, ⊎-elim}
 use mathlib.Core.List.{List, [], _∷_, List·Memᴰ·head, List·Memᴰ·tail, List·Memᴰ·cases-cons, List·Memᴰ·not-nil}
 use Prim.Native.Nat.{ℕ, suc, _<_}
@@ -69,7 +69,8 @@ unfolding putIn
 put-here rec [] = List·Memᴰ·head refl
 put-here rec (other ∷ recs) = go (which (ltb (recordId other) (recordId rec))) (put-here rec recs)
   where
-    go : (ltb (recordId other) (recordId rec) ≡ true) ⊎ (ltb (recordId other) (recordId rec) ≡ false) → In rec (putIn rec recs) → In rec (putIn rec (other ∷ recs))
+    go : (ltb (recordId other) (recordId rec) ≡ true) ⊎ (ltb (recordId other) (recordId rec) ≡ false) → In rec (putIn rec recs)
+        → In rec (putIn rec (other ∷ recs))
     go (inl t) ih = rw t (List·Memᴰ·tail ih)
     go (inr t) ih = rw t (List·Memᴰ·head refl)
 

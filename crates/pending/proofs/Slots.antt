@@ -6,7 +6,7 @@ use mathlib.Core.List.{List, [], _∷_, _++_, append-assoc, List·Memᴰ·head, 
 use Prim.Native.Nat.{ℕ, zero, suc, _+_, _-_, _*_, _≤_, _<_}
 use native.Mathlib.Numerals.{add-one}
 use native.Mathlib.Omega.{arith}
-use lib.ListN.{length, getD, take, drop, set, replicate, length-drop, length-append, length-replicate, getD-replicate, take-append-drop}
+use lib.ListN.{length, getD, take, drop, replicate, length-drop, length-append, length-replicate, getD-replicate, take-append-drop}
 use lib.Seq.{take-at, drop-at, drop-drop, getD-take, getD-drop, length-take-le, take-take, ext-getD, paste, length-paste, drop-cons, getD-append-add}
 use lib.Dec.{ltb}
 use borrow.Author.Tests.{ltb-true, ltb-false}
@@ -103,7 +103,9 @@ slot-word s j i h = getD-take recordSize (drop (slotAt j) s) i 0 h ∙ getD-drop
 pub slot-same : (s t : List ℕ) (j : ℕ) → length s ≡ bufferSize → length t ≡ bufferSize → j < bufferSlots
     → ((i : ℕ) → slotAt j ≤ i → i < slotAt (j + 1) → getD s i 0 ≡ getD t i 0) → recordAt s j ≡ recordAt t j
 slot-same s t j a b h e = ext-getD 0 (recordAt s j) (recordAt t j) (slot-size s j a h ∙ sym (slot-size t j b h))
-    (λ i k. let q : i < recordSize = omega (arith, slot-size s j a h) in slot-word s j i q ∙ e (slotAt j + i) (omega arith) (omega arith) ∙ sym (slot-word t j i q))
+    (λ i k.
+    let q : i < recordSize = omega (arith, slot-size s j a h) in
+    slot-word s j i q ∙ e (slotAt j + i) (omega arith) (omega arith) ∙ sym (slot-word t j i q))
 
 -- a word outside of what is written over
 pub pasted-other : (s : List ℕ) (at : ℕ) (rec : List ℕ) (k i : ℕ) → at + k ≤ length s → k ≤ length rec → (i < at) ⊎ (at + k ≤ i)

@@ -21,9 +21,10 @@ use Rattle.ordering.proofs.Copying.{paste-before, paste-after, paste-part}
 use Rattle.pending.specs.Layout.{bufferSize, bufferSlots, countPlace, slotAt}
 use Rattle.pending.specs.Buffer.{countOf, recordAt, recordsFrom, recordsIn, bufferOf}
 use Rattle.pending.specs.Passes.{Passed, pass, stays}
-use Rattle.pending.specs.Early.{fateOf, tryVertex}
+use Rattle.pending.specs.Early.{tryVertex}
 use Rattle.pending.specs.Inner.{Sweeping, Swept, swept, sweepOne, both, released, releaseIn}
-use Rattle.pending.proofs.Slots.{Zeros, buffer-laid, slot-size, slot-same, records-end, records-at, records-all, records-more, records-same, over-size, over-here, over-there, over-after}
+use Rattle.pending.proofs.Slots.{Zeros, buffer-laid, slot-size, slot-same, records-end, records-at, records-all, records-more}
+use Rattle.pending.proofs.Slots.{records-same, over-size, over-here, over-there, over-after}
 use Rattle.pending.proofs.Order.{Formed, slot-passes}
 use Rattle.pending.proofs.Upward.{counted-size, counted, counted-word, counted-slot}
 use Rattle.pending.proofs.Holding.{Joins, Stays, Leaves, ends}
@@ -32,8 +33,8 @@ use Rattle.pending.proofs.Passing.{Good, one-pass, first-joins, first-s
 -- ---- one slot
 
 module _ (l s m : List ℕ) where
-  pub sweep-stays : (t : List ℕ) (j k : ℕ) (a : Answer) (rec : List ℕ) → told a m ≡ takeVertex l rec → rec ≡ recordAt s j → (b : Bool) → b ≡ isMissing (a .refusal)
-      → b ≡ true → t ≡ paste s (slotAt k) (recordAt s j) recordSize → swept (k + 1) m t ≡ sweepOne l s j k
+  pub sweep-stays : (t : List ℕ) (j k : ℕ) (a : Answer) (rec : List ℕ) → told a m ≡ takeVertex l rec → rec ≡ recordAt s j → (b : Bool)
+      → b ≡ isMissing (a .refusal) → b ≡ true → t ≡ paste s (slotAt k) (recordAt s j) recordSize → swept (k + 1) m t ≡ sweepOne l s j k
   sweep-stays t j k a rec e d b f h g =
       let o : told a m ≡ takeVertex l (recordAt s j) = e ∙ ap (takeVertex l) d in
       let n : isMissing (a .refusal) ≡ true = sym f ∙ h in
@@ -136,7 +137,8 @@ module _ (n : ℕ) (l₀ s₀ l s : List ℕ) (k j : ℕ) (F : Formed n s₀) (g
                 ap (λ (i : ℕ). recordsFrom (paste s (slotAt k) rec recordSize) 0 i ++ pass tryVertex l others .waiting) one
                 ∙ ap (λ (x : List (List ℕ)). x ++ pass tryVertex l others .waiting) (records-more (paste s (slotAt k) rec recordSize) 0 k
                 ∙ ap₂ (λ (x : List (List ℕ)) (y : List ℕ). x ++ (y ∷ []))
-                (records-same (paste s (slotAt k) rec recordSize) s 0 0 k (λ i h. over-there s k rec (g .size) low long (0 + i) (omega arith) (λ q. omega arith)))
+                (records-same (paste s (slotAt k) rec recordSize) s 0 0 k
+                (λ i h. over-there s k rec (g .size) low long (0 + i) (omega arith) (λ q. omega arith)))
                 (ap (recordAt (paste s (slotAt k) rec recordSize)) at ∙ over-here s k rec (g .size) low long))
                 ∙ append-assoc (recordsFrom s 0 k) (rec ∷ []) (pass tryVertex l others .waiting)
                 ∙ ap (λ (q : Passed (List ℕ)). recordsFrom s 0 k ++ q .waiting) (sym p) ∙ g .waiting);

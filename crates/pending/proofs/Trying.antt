@@ -1,11 +1,8 @@
 -- A waiting record tried as a vertex call: its own questions and the state's are passed, so its place decides. Assumes nothing.
 use mathlib.Core.Path.{_≡_, refl, sym, ap, _∙_}
-use mathlib.Core.Bool.{true}
-use mathlib.Core.List.{List, _++_}
+use mathlib.Core.List.{List}
 use Prim.Native.Nat.{ℕ}
-use native.Mathlib.Omega.{arith}
 use lib.ListN.{length, take, drop}
-use Rattle.record.specs.Members.{legal}
 use Rattle.record.specs.Refusals.{numberOf, firstNo}
 use Rattle.record.specs.Layout.{roundOf, sourceOf, bodyOf, recordSize, bodySize, bodyPlace}
 use Rattle.record.specs.Questions.{recordRefusal}
@@ -16,10 +13,10 @@ use Rattle.replica.specs.declared.answer.Answer.{Answer}
 use Rattle.replica.proofs.Formed.{WellFormed, formed}
 use Rattle.ordering.specs.Calls.{placeQuestions, vertexQuestions, takeVertex}
 use Rattle.ordering.specs.Inner.{Placing, Unstopped}
-use Rattle.ordering.proofs.Turns.{RecordKnown, record-known}
+use Rattle.ordering.proofs.Turns.{record-known}
 use Rattle.ordering.proofs.Numbers.{past-state}
 use Rattle.ordering.proofs.Taking.{vertex-refused}
-use Rattle.pending.specs.Inner.{Standing, Trying}
+use Rattle.pending.specs.Inner.{Trying}
 
 -- the questions of its place decide
 pub place-decides : (l rec : List ℕ) → WellFormed l → numberOf (recordRefusal (memberCount l) rec) ≡ 0 → (why : Refusal)

@@ -1,13 +1,13 @@
 -- The loops that write words of a buffer, a turn at a time. Assumes nothing.
-use mathlib.Core.Path.{_≡_, refl, sym, ap, ap₂, _∙_}
+use mathlib.Core.Path.{_≡_, sym, ap, ap₂, _∙_}
 use mathlib.Core.List.{List}
 use mathlib.Core.Logic.{_⊎_, inl, inr, ⊎-elim}
 use Prim.Native.Nat.{ℕ, suc, _+_, _-_, _≤_, _<_}
 use native.Mathlib.Numerals.{add-one}
 use native.Mathlib.Omega.{arith}
 use lib.Dec.{ltb}
-use lib.ListN.{length, getD, set, replicate, length-replicate, getD-replicate, take, drop}
-use lib.Seq.{paste, paste-zero, paste-suc, getD-take, getD-drop, drop-paste, take-paste}
+use lib.ListN.{length, getD, set, replicate, length-replicate, getD-replicate}
+use lib.Seq.{paste, paste-zero, paste-suc}
 use borrow.Author.Tests.{ltb-true, ltb-false}
 use Rattle.record.specs.Layout.{recordSize}
 use Rattle.record.proofs.Booleans.{which}
@@ -35,7 +35,9 @@ unwritten l x from to at i a e size h k b =
 
 -- zeros
 pub cleared-none : (l : List ℕ) (from to : ℕ) → l ≡ paste l from (replicate (to - from) 0) (from - from)
-cleared-none l from to = let n : from - from ≡ 0 = omega arith in paste-zero l from (replicate (to - from) 0) ∙ ap (paste l from (replicate (to - from) 0)) (sym n)
+cleared-none l from to =
+    let n : from - from ≡ 0 = omega arith in
+    paste-zero l from (replicate (to - from) 0) ∙ ap (paste l from (replicate (to - from) 0)) (sym n)
 
 pub cleared-more : (l x : List ℕ) (from to i : ℕ) → x ≡ paste l from (replicate (to - from) 0) (i - from) → from ≤ i → i < to → i < length l
     → set x i 0 ≡ paste l from (replicate (to - from) 0) (i + 1 - from)

@@ -4,11 +4,14 @@ use mathlib.Core.Bool.{true, false}
 use mathlib.Core.Logic.{_⊎_}
 use mathlib.Core.List.{List, [], _∷_, Sublistᴰ}
 use Prim.Native.Nat.{ℕ}
+use lib.ListN.{length}
 use Rattle.record.specs.Refusals.{numberOf, missingNumber}
 use Rattle.record.specs.Layout.{roundOf, bodyOf}
 use Rattle.record.specs.declared.refusal.Refusal.the-variants.{None, Duplicate, Conflict, BufferFull}
+use Rattle.replica.specs.Layout.{stateSize}
 use Rattle.replica.specs.State.{memberCount}
 use Rattle.replica.specs.Parents.{parentsHeld}
+use Rattle.replica.specs.WellFormed.{wellFormed}
 use Rattle.replica.specs.Outcome.{Outcome, unchanged}
 use Rattle.ordering.specs.Calls.{takeVertex}
 use Rattle.ordering.specs.Bundle.{followed}
@@ -52,7 +55,7 @@ EndsAsPlainCalls = (l s rec : List ℕ) → Admits l s rec
 
 -- a well-formed state stays so
 abbrev pub KeepsState : Type 0
-KeepsState = (l s rec : List ℕ) → LeavesWellFormed (unchanged None l) → LeavesWellFormed (takeVertexWith l s rec .outcome)
+KeepsState = (l s rec : List ℕ) → length l ≡ stateSize → wellFormed l ≡ true → LeavesWellFormed (takeVertexWith l s rec .outcome)
 
 -- a buffer that is well formed for the state's members stays so
 abbrev pub KeepsBuffer : Type 0

@@ -1,5 +1,5 @@
 -- A vertex taken with a pending buffer.
-use mathlib.Core.Bool.{Bool, false, cond, not}
+use mathlib.Core.Bool.{false, cond, not}
 use mathlib.Core.List.{List, [], _∷_, _++_}
 use Prim.Native.Nat.{ℕ}
 use lib.Dec.{eqb, ltb}
@@ -18,9 +18,13 @@ use Rattle.pending.specs.Passes.{Fate, joins, stays, leaves, Trial, Pass
 
 -- ---- the questions
 
--- 1, 3, 19, and 4 to 14 as a plain vertex call asks them
+-- 19, and 4 to 14 as a plain vertex call asks them, among n members
+abbrev pub laterQuestions : List ℕ → List ℕ → ℕ → List ℕ → List Question
+laterQuestions l s n rec = (bufferOk n s, Buffer) ∷ admissionQuestions l n rec
+
+-- 1 and 3, and then these
 abbrev pub bufferedQuestions : List ℕ → List ℕ → List ℕ → List Question
-bufferedQuestions l s rec = stateQuestions l ++ ((bufferOk (memberCount l) s, Buffer) ∷ admissionQuestions l (memberCount l) rec)
+bufferedQuestions l s rec = stateQuestions l ++ laterQuestions l s (memberCount l) rec
 
 -- In place of 14: a waiting record of the same id gives 12 if it is the same and 13 if not, 32 others give 20, and else it is 14.
 abbrev pub earlyQuestions : List (List ℕ) → List ℕ → Refusal → List Question

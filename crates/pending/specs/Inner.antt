@@ -2,7 +2,7 @@
 use mathlib.Core.Path.{_≡_}
 use mathlib.Core.Bool.{true, cond}
 use mathlib.Core.List.{List, [], _∷_}
-use Prim.Native.Nat.{ℕ, zero, suc, _+_, _≤_, _<_}
+use Prim.Native.Nat.{ℕ, suc, _+_, _≤_, _<_}
 use lib.Dec.{eqb, ltb}
 use lib.ListN.{length}
 use lib.Seq.{paste}
@@ -50,7 +50,7 @@ pub record PlaceOf (s : List ℕ) (j : ℕ) (rec : List ℕ) : Type 0 where
   pub place : j ≡ rank (recordsIn s) (recordId rec)
 
 -- where the refusal is a missing parent's, the buffer is well formed, and the record passes its own questions
-pub record Early (s rec : List ℕ) (why : Refusal) : Type 0 where
+pub record Keepable (s rec : List ℕ) (why : Refusal) : Type 0 where
   pub sound : isMissing why ≡ true → Sound s
   pub bounded : isMissing why ≡ true → Bounded rec
 

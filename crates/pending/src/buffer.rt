@@ -1,13 +1,8 @@
 // When a pending buffer is well formed.
 ghost use mathlib.Core.Path.{_≡_};
-ghost use mathlib.Core.Bool.{true, _||_};
-ghost use Prim.Native.Nat.{_≤_};
-ghost use lib.Dec.{eqb, ltb};
-ghost use lib.ListN.{length, getD};
-ghost use Rattle.record.specs.Below.{all};
+ghost use mathlib.Core.Bool.{true};
 ghost use Rattle.record.specs.Members.{legal};
 ghost use Rattle.record.specs.Handed.{QuorumOf};
-ghost use Rattle.pending.specs.Layout.{bufferSize};
 ghost use Rattle.pending.specs.Buffer.{recordId, recordsIn, recordsOk, bufferOk};
 ghost use Rattle.pending.specs.Inner.{Bounded, Sized};
 use super::layout::BUFFER_SIZE;
@@ -20,6 +15,7 @@ use record::layout::SOURCE;
 use record::members::SLOTS;
 use record::questions::check;
 use record::refusal::number;
+use replica::wellformed::is_zero;
 
 // The id of a record.
 pub fn id_of(rec: &[u32]) -> u32
@@ -53,21 +49,6 @@ fn records_ok(buffer: &[u32], n: u32, quorum: u32) -> bool
     true
 }
 
-// Every word from a place on is 0.
-fn rest_zero(buffer: &[u32], from: usize) -> bool
-    requires { ⌜ (length (now buffer) ≡ bufferSize) × (from ≤ bufferSize) ⌝ }
-    ensures { λ r. ⌜ r ≡ all bufferSize (λ i. ltb i from || eqb (getD (now (buffer .entry)) i 0) 0) ⌝ }
-{
-    let mut i = from;
-    while i < BUFFER_SIZE {
-        if buffer[i] != 0 {
-            return false;
-        }
-        i += 1;
-    }
-    true
-}
-
 // The buffer is well formed for n members.
 pub fn is_buffer(buffer: &[u32], n: u32, quorum: u32) -> bool
     requires { ⌜ (legal n ≡ true) × QuorumOf n quorum ⌝ }
@@ -83,5 +64,6 @@ pub fn is_buffer(buffer: &[u32], n: u32, quorum: u32) -> bool
     if !records_ok(buffer, n, quorum) {
         return false;
     }
-    rest_zero(buffer, slot_at(count))
+    let rest = slot_at(count);
+    is_zero(&buffer[rest..BUFFER_SIZE])
 }

@@ -1,18 +1,15 @@
 // Taking a vertex with a pending buffer.
 ghost use mathlib.Core.Path.{_≡_};
 ghost use mathlib.Core.Bool.{true};
-ghost use mathlib.Core.List.{_∷_};
 ghost use lib.ListN.{length};
 ghost use Rattle.record.specs.Members.{legal};
 ghost use Rattle.record.specs.Refusals.{firstNo};
 ghost use Rattle.record.specs.Handed.{QuorumOf};
-ghost use Rattle.record.specs.declared.refusal.Refusal.the-variants.{Buffer};
 ghost use Rattle.replica.specs.Layout.{stateSize};
-ghost use Rattle.ordering.specs.Calls.{admissionQuestions};
 ghost use Rattle.ordering.specs.Inner.{Unstopped};
 ghost use Rattle.pending.specs.Buffer.{bufferOk};
-ghost use Rattle.pending.specs.Early.{toldWith, releaseAfter, admittedWith, takeVertexWith};
-ghost use Rattle.pending.specs.Inner.{Early, refusedIn, keepEarly};
+ghost use Rattle.pending.specs.Early.{laterQuestions, toldWith, releaseAfter, admittedWith, takeVertexWith};
+ghost use Rattle.pending.specs.Inner.{Keepable, refusedIn, keepEarly};
 use super::buffer::id_of;
 use super::buffer::is_buffer;
 use super::layout::BUFFER_SLOTS;
@@ -38,7 +35,7 @@ use replica::status::check_state;
 // Question 19, and 4 to 14, for a state whose own questions are passed.
 fn check_early(state: &[u32], buffer: &[u32], n: u32, quorum: u32, rec: &[u32]) -> Refusal
     requires { ⌜ (length (now state) ≡ stateSize) × (legal n ≡ true) × QuorumOf n quorum ⌝ }
-    ensures { λ r. ⌜ r ≡ firstNo ((bufferOk n (now (buffer .entry)), Buffer) ∷ admissionQuestions (now (state .entry)) n (now (rec .entry))) ⌝ }
+    ensures { λ r. ⌜ r ≡ firstNo (laterQuestions (now (state .entry)) (now (buffer .entry)) n (now (rec .entry))) ⌝ }
 {
     if !is_buffer(buffer, n, quorum) {
         return Refusal::Buffer;
@@ -48,7 +45,7 @@ fn check_early(state: &[u32], buffer: &[u32], n: u32, quorum: u32, rec: &[u32]) 
 
 // A record whose parent is missing is put in the buffer, unless 12, 13 or 20 is answered in place of 14. Other refusals stay.
 fn keep_early(buffer: &mut [u32], rec: &[u32], why: Refusal) -> Refusal
-    requires { ⌜ Early (now buffer) (now rec) why ⌝ }
+    requires { ⌜ Keepable (now buffer) (now rec) why ⌝ }
     ensures { λ r. ⌜ refusedIn r (now (buffer .exit)) ≡ keepEarly (now (buffer .entry)) (now (rec .entry)) why ⌝ }
 {
     if !is_missing(why) {

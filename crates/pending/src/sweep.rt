@@ -1,8 +1,7 @@
 // The passes over the waiting records after an admission.
 ghost use mathlib.Core.Path.{_≡_};
 ghost use mathlib.Core.Bool.{true};
-ghost use Prim.Native.Nat.{_≤_, _<_};
-ghost use lib.ListN.{length};
+ghost use Prim.Native.Nat.{_<_};
 ghost use Rattle.replica.specs.Outcome.{told};
 ghost use Rattle.ordering.specs.Calls.{takeVertex};
 ghost use Rattle.pending.specs.Buffer.{bufferOk};

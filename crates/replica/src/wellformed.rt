@@ -60,7 +60,7 @@ use record::questions::terms_of;
 const AFTER_LAST: u32 = ROUNDS + 1;
 
 // Every word of the part is 0. The words are joined before they are tested, so that no word costs a branch.
-fn is_zero(part: &[u32]) -> bool
+pub fn is_zero(part: &[u32]) -> bool
     ensures { λ r. ⌜ r ≡ all (length (now (part .entry))) (λ i. eqb (getD (now (part .entry)) i 0) 0) ⌝ }
 {
     let mut joined: u32 = 0;

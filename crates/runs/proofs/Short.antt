@@ -14,7 +14,7 @@ use Rattle.record.specs.Refusals.{numberOf, Question, firstNo}
 use Rattle.record.specs.Layout.{roundOf, sourceOf, bodyOf}
 use Rattle.record.specs.Questions.{signerQuestions, recordQuestions}
 use Rattle.record.specs.declared.refusal.Refusal.{Refusal}
-use Rattle.record.specs.declared.refusal.Refusal.the-variants.{MemberCount, Source, PastEnd, Duplicate, Watcher, Buffer}
+use Rattle.record.specs.declared.refusal.Refusal.the-variants.{MemberCount, Source, PastEnd, Duplicate, Watcher}
 use Rattle.record.proofs.Booleans.{which, and-left, and-right, cond-true, cond-false}
 use Rattle.record.proofs.Turn.{next, done}
 use Rattle.protocol.specs.Dag.{Records}
@@ -33,13 +33,14 @@ use Rattle.replica.specs.declared.answer.Status.{Status}
 use Rattle.replica.proofs.Formed.{WellFormed, formed, well-formed}
 use Rattle.replica.proofs.Opened.{opened-formed}
 use Rattle.commits.specs.Commit.{raiseRound, appendLeaders, orderLeaders, commit, lowest, commitUpTo}
-use Rattle.ordering.specs.Calls.{placeQuestions, admissionQuestions, takeVertex, takeBody, hear, takeFirstBody, takeTimeout, takeNoVote, bundleQuestions, takeTimeouts}
+use Rattle.ordering.specs.Calls.{placeQuestions, takeVertex, takeBody, hear, takeFirstBody}
+use Rattle.ordering.specs.Calls.{takeTimeout, takeNoVote, bundleQuestions, takeTimeouts}
 use Rattle.ordering.proofs.Carried.{written}
 use Rattle.ordering.proofs.Kept.{keeps}
 use Rattle.ordering.proofs.Numbers.{past-state}
-use Rattle.pending.specs.Buffer.{recordsIn, bufferOk}
+use Rattle.pending.specs.Buffer.{recordsIn}
 use Rattle.pending.specs.Passes.{Trial, Passed, ahead, followedBy, isNone, pass, passes, release}
-use Rattle.pending.specs.Early.{inPlace, refusalWith, fateOf, tryVertex, Ending, admittedWith, refusedWith, takeVertexWith}
+use Rattle.pending.specs.Early.{laterQuestions, inPlace, refusalWith, fateOf, tryVertex, Ending, admittedWith, refusedWith, takeVertexWith}
 use Rattle.pending.proofs.Passing.{vertex-formed, ahead-after}
 use Rattle.pending.proofs.Claims.{keeps-state}
 use Rattle.proposing.specs.Own.{isMember, markRound}
@@ -145,7 +146,7 @@ shortSigning l = firstNo ((isMember l, Watcher) ∷ signingQuestions l)
 
 -- of a vertex with a pending buffer: the refusal, a waiting record tried, and the end
 unfoldable pub shortWith : List ℕ → List ℕ → List ℕ → Refusal
-shortWith l s rec = inPlace (recordsIn s) rec (firstNo ((bufferOk (memberCount l) s, Buffer) ∷ admissionQuestions l (memberCount l) rec))
+shortWith l s rec = inPlace (recordsIn s) rec (firstNo (laterQuestions l s (memberCount l) rec))
 
 unfoldable pub shortTake : List ℕ → List ℕ → Outcome
 shortTake l rec = outcome (shortVertex l rec) l (shortCommits (raiseRound (written l (roundOf rec) (sourceOf rec) (bodyOf rec))) 31)
@@ -313,7 +314,7 @@ module _ (l : List ℕ) (S : WellFormed l) where
   pub formed-after : (c : Call) → WellFormed (outcomeOf c l .words)
   formed-after (opening n own) = formed-opening n own (which (legal n && leb own n))
   formed-after (vertex rec) = formed-kept _ (keeps l (S .size) (well-formed l S) .0 _ _ _)
-  formed-after (vertexWith s rec) = formed-kept _ (keeps-state l s rec (S .size, well-formed l S))
+  formed-after (vertexWith s rec) = formed-kept _ (keeps-state l s rec (S .size) (well-formed l S))
   formed-after (firstMessage rec) = formed-kept _ (keeps l (S .size) (well-formed l S) .1 _ _ _)
   formed-after (timeout r p) = formed-kept _ (keeps l (S .size) (well-formed l S) .2 r p)
   formed-after (noVote r p) = formed-kept _ (keeps l (S .size) (well-formed l S) .3 r p)

@@ -9,7 +9,8 @@ returns-4 c =
     let s : tie.Start = search in
     let k : tie.After-records-ok = search in
     let a : tie.After-slot-at = search in
-    all-rise (s .args .n) (s .args .buffer .now) _ (k .records-ok .ensures) (search) (search needs) (search needs) _ (a .slot-at .ensures) _ (c .rest-zero .ensures)
+    all-rise (s .args .n) (s .args .buffer .now) _ (k .records-ok .ensures) (search) (search needs) (search needs) _ (a .slot-at .ensures) _
+    (c .is-zero .ensures)
 
 pub is-buffer-spec : {M : Type 1} → statement M
 is-buffer-spec =
@@ -21,5 +22,9 @@ is-buffer-spec =
     (λ c κs. search needs)
     (λ c. search not-rising)
     (λ c κs. search needs)
+    (λ c. search needs)
+    (λ c. search needs)
+    (λ c. search needs)
+    (λ c. search needs)
     (λ c κs. search needs)
     returns-4)

@@ -8,7 +8,7 @@ use borrow.Author.Needs.{needs}
 use Rattle.record.specs.Refusals.{isMissing}
 use Rattle.record.proofs.Booleans.{passed, failed}
 use Rattle.pending.specs.Buffer.{recordsIn, some, sameRecord, sameId}
-use Rattle.pending.specs.Inner.{Sound, Bounded, PlaceOf, rank}
+use Rattle.pending.specs.Inner.{Sound, PlaceOf, rank}
 use Rattle.pending.proofs.Order.{Formed, formed}
 use Rattle.pending.proofs.Calling.{early-other, early-same, early-id, early-full, early-put}
 use Rattle.pending.proofs.early.keep_early.Statement.{statement}

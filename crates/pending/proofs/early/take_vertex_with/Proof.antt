@@ -1,16 +1,13 @@
 -- `take_vertex_with` meets its contract. Assumes nothing.
-use mathlib.Core.Path.{_≡_, refl, sym, ap, _∙_}
-use mathlib.Core.List.{List, _∷_}
+use mathlib.Core.Path.{_≡_, refl, ap, _∙_}
+use mathlib.Core.List.{List}
 use Prim.Native.Nat.{ℕ}
 use borrow.Author.Needs.{needs}
 use Rattle.record.specs.Refusals.{isMissing, Question, firstNo}
-use Rattle.record.specs.declared.refusal.Refusal.the-variants.{Buffer}
 use Rattle.replica.specs.State.{memberCount}
 use Rattle.replica.proofs.Formed.{WellFormed}
-use Rattle.ordering.specs.Calls.{admissionQuestions}
 use Rattle.ordering.proofs.Turns.{state-stops, state-past, state-formed}
-use Rattle.pending.specs.Buffer.{bufferOk}
-use Rattle.pending.specs.Early.{bufferedQuestions}
+use Rattle.pending.specs.Early.{laterQuestions, bufferedQuestions}
 use Rattle.pending.proofs.Calling.{state-no-parent, early-other, with-refused, with-admitted, Asked, asked}
 use Rattle.pending.proofs.early.take_vertex_with.Statement.{statement}
 use Rattle.pending.proofs.early.take_vertex_with.Tie as tie
@@ -26,7 +23,7 @@ rec s = s .args .rec .now
 
 -- the questions after those of the state
 abbrev after : tie.Start → List Question
-after s = (bufferOk (memberCount (words s)) (buffer s), Buffer) ∷ admissionQuestions (words s) (memberCount (words s)) (rec s)
+after s = laterQuestions (words s) (buffer s) (memberCount (words s)) (rec s)
 
 returns : tie.Need-returns
 returns c =

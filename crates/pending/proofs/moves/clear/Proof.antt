@@ -3,7 +3,7 @@ use mathlib.Core.Path.{_≡_}
 use Prim.Native.Nat.{_≤_, _-_}
 use native.Mathlib.Omega.{arith}
 use lib.ListN.{length, replicate}
-use lib.Seq.{paste, paste-zero}
+use lib.Seq.{paste}
 use borrow.Author.Needs.{needs}
 use Rattle.pending.specs.Layout.{bufferSize}
 use Rattle.pending.proofs.Writing.{cleared-none, cleared-more}
@@ -17,7 +17,9 @@ abbrev μ-loop : tie.MeasureT-loop
 μ-loop buffer₀ from to i₀ buffer i = to - i
 
 loop-holds : tie.Need-loop-holds Inv-loop μ-loop
-loop-holds c = let s : tie.Start Inv-loop μ-loop = search in (omega arith, s .pre .1, s .pre .0, cleared-none (s .args .buffer .now) (s .args .from) (s .args .to))
+loop-holds c =
+    let s : tie.Start Inv-loop μ-loop = search in
+    (omega arith, s .pre .1, s .pre .0, cleared-none (s .args .buffer .now) (s .args .from) (s .args .to))
 
 loop-again : tie.Need-loop-again Inv-loop μ-loop
 loop-again c =

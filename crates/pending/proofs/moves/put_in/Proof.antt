@@ -1,12 +1,12 @@
 -- Invariant: the records from slot i on have moved up.
-use mathlib.Core.Path.{_≡_, refl, sym, ap, _∙_}
+use mathlib.Core.Path.{_≡_, refl, sym, _∙_}
 use mathlib.Core.List.{List}
-use Prim.Native.Nat.{ℕ, _+_, _≤_, _<_, _-_}
+use Prim.Native.Nat.{ℕ, _+_, _≤_, _-_}
 use native.Mathlib.Omega.{arith}
-use lib.ListN.{length, length-set}
+use lib.ListN.{length-set}
 use borrow.Author.Needs.{needs}
 use Rattle.pending.specs.Layout.{countPlace}
-use Rattle.pending.specs.Buffer.{recordId, countOf, recordAt, recordsIn}
+use Rattle.pending.specs.Buffer.{recordId, countOf, recordsIn}
 use Rattle.pending.proofs.Slots.{records-length}
 use Rattle.pending.proofs.Order.{Formed, formed, rank-le}
 use Rattle.pending.proofs.Upward.{Moved, moved-none, moved-more, put-done}

@@ -1,7 +1,7 @@
 -- Invariant: j records have lower ids, and those from slot j on say how many more.
-use mathlib.Core.Path.{_≡_, refl, sym, ap, _∙_}
+use mathlib.Core.Path.{_≡_, refl, ap, _∙_}
 use mathlib.Core.List.{List}
-use Prim.Native.Nat.{ℕ, suc, _+_, _≤_, _<_, _-_}
+use Prim.Native.Nat.{ℕ, _+_, _≤_, _-_}
 use native.Mathlib.Omega.{arith}
 use borrow.Author.Needs.{needs}
 use Rattle.pending.specs.Buffer.{recordId, countOf, recordAt, recordsFrom, recordsIn}
@@ -37,7 +37,8 @@ id-of-requires c κs =
     rw (slot-part (words s) _ _ (a .slot-at .ensures)) (slot-bounded (words s) (l .loop .j) (s .pre) (omega arith))
 
 -- the id of the record in slot j
-known : (c : tie.After-id-of Inv-loop μ-loop) → let l : tie.At-loop Inv-loop μ-loop = search in c .id-of .result ≡ recordId (recordAt (words (search)) (l .loop .j))
+known : (c : tie.After-id-of Inv-loop μ-loop)
+    → let l : tie.At-loop Inv-loop μ-loop = search in c .id-of .result ≡ recordId (recordAt (words (search)) (l .loop .j))
 known c =
     let s : tie.Start Inv-loop μ-loop = search in
     let a : tie.After-slot-at Inv-loop μ-loop = search in

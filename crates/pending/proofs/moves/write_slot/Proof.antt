@@ -18,7 +18,9 @@ abbrev μ-loop : tie.MeasureT-loop
 μ-loop buffer₀ j rec at i₀ buffer i = recordSize - i
 
 loop-holds : tie.Need-loop-holds Inv-loop μ-loop
-loop-holds c = let s : tie.Start Inv-loop μ-loop = search in (omega arith, s .pre .0, paste-zero (s .args .buffer .now) (slotAt (s .args .j)) (s .args .rec .now))
+loop-holds c =
+    let s : tie.Start Inv-loop μ-loop = search in
+    (omega arith, s .pre .0, paste-zero (s .args .buffer .now) (slotAt (s .args .j)) (s .args .rec .now))
 
 loop-again : tie.Need-loop-again Inv-loop μ-loop
 loop-again c =
@@ -27,8 +29,8 @@ loop-again c =
     let a : tie.After-slot-at Inv-loop μ-loop = search in (
       omega arith,
       search needs,
-      written-more (s .args .buffer .now) (l .loop .buffer) _ (slotAt (s .args .j)) _ (s .args .rec .now) (l .loop .i) (a .slot-at .ensures) (l .loop .inv .2) refl
-          (omega (arith, s .pre .0, s .pre .1)) (omega (arith, s .pre .2)),
+      written-more (s .args .buffer .now) (l .loop .buffer) _ (slotAt (s .args .j)) _ (s .args .rec .now) (l .loop .i)
+          (a .slot-at .ensures) (l .loop .inv .2) refl (omega (arith, s .pre .0, s .pre .1)) (omega (arith, s .pre .2)),
     )
 
 returns : tie.Need-returns Inv-loop μ-loop

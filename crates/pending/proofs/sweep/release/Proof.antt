@@ -1,12 +1,12 @@
 -- Invariant: the records below slot j are tried, and those of them that wait on are in the first slots.
-use mathlib.Core.Path.{_≡_, refl, sym, ap, _∙_}
+use mathlib.Core.Path.{_≡_, refl, sym, _∙_}
 use mathlib.Core.List.{List}
-use Prim.Native.Nat.{ℕ, _+_, _≤_, _<_, _-_}
+use Prim.Native.Nat.{ℕ, _≤_, _-_}
 use native.Mathlib.Omega.{arith}
-use lib.ListN.{length, length-set}
+use lib.ListN.{length-set}
 use borrow.Author.Needs.{needs}
 use Rattle.replica.proofs.Formed.{formed}
-use Rattle.pending.specs.Layout.{bufferSize, bufferSlots, countPlace}
+use Rattle.pending.specs.Layout.{countPlace}
 use Rattle.pending.specs.Buffer.{countOf}
 use Rattle.pending.proofs.Order as order
 use Rattle.pending.proofs.Order.{Formed}

@@ -1,5 +1,4 @@
 -- `retry` meets its contract. Assumes nothing.
-use mathlib.Core.Path.{_∙_}
 use borrow.Author.Needs.{needs}
 use Rattle.pending.proofs.Trying.{Tried, tried}
 use Rattle.pending.proofs.sweep.retry.Statement.{statement}
@@ -11,16 +10,16 @@ known s = tried _ _ _ _ (s .pre)
 check-place-requires : tie.Need-check-place-requires
 check-place-requires c κs = let k = known (search) in k .placing
 
+admit-vertex-requires : tie.Need-admit-vertex-requires
+admit-vertex-requires c κs =
+    let p : tie.After-check-place = search in
+    known (search) .unstopped _ (p .check-place .ensures) (cc)
+
 returns : tie.Need-returns
 returns c =
     let p : tie.After-check-place = search in
     let t : tie.Then1 = search in
     known (search) .stopped _ (p .check-place .ensures) (λ d. t .if1 .taken (cc)) _ (c .refuse .ensures)
-
-admit-vertex-requires : tie.Need-admit-vertex-requires
-admit-vertex-requires c κs =
-    let p : tie.After-check-place = search in
-    known (search) .unstopped _ (p .check-place .ensures) (cc)
 
 pub retry-spec : {M : Type 1} → statement M
 retry-spec =

@@ -1,5 +1,4 @@
 -- `sweep_one` meets its contract. Assumes nothing.
-use mathlib.Core.Path.{_≡_, refl}
 use borrow.Author.Needs.{needs}
 use Rattle.pending.proofs.Slots.{slot-part}
 use Rattle.pending.proofs.Swept.{sweep-stays, sweep-goes}

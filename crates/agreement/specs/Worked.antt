@@ -3,13 +3,14 @@
 use mathlib.Core.Path.{_≡_}
 use mathlib.Core.Bool.{Bool, true, _&&_}
 use mathlib.Core.List.{List, [], _∷_, _++_, List·Memᴰ}
-use Prim.Native.Nat.{ℕ}
+use Prim.Native.Nat.{ℕ, _-_}
 use lib.Dec.{eqb}
 use lib.ListN.{replicate, take}
 use Rattle.replica.specs.Layout.{stateSize, journalAt, watcher}
 use Rattle.replica.specs.State.{currentRound, committedRound}
 use Rattle.replica.specs.Outcome.{Outcome}
 use Rattle.replica.specs.Place.{Span}
+use Rattle.pending.specs.Layout.{bufferSize}
 use Rattle.pending.specs.Buffer.{bufferOf}
 use Rattle.runs.specs.Call.{Call, opening, vertex, vertexWith, firstMessage, timeout, bundle, askJournalList, handJournalList}
 use Rattle.runs.specs.Call.{outcomeOf, Given, nothing, part, buffered, givenOf, run}
@@ -114,6 +115,10 @@ withoutLeader = opening 4 watcher ∷ v1 1 11 ∷ v1 2 12 ∷ v1 3 13 ∷ []
 abbrev pub early : ℕ → List ℕ
 early p = rec 2 p 15 0 0 0
 
+-- an empty buffer without its last word
+abbrev pub short : List ℕ
+short = take (bufferSize - 1) (bufferOf [])
+
 -- ---- the table
 
 unfoldable pub rows : List Row
@@ -177,11 +182,11 @@ rows =
     ∷ row withoutLeader (bundle 33 23) 5 0 1 0 [] []
     ∷ row withoutLeader (bundle 2 7) 0 0 1 0 [] []
     -- Request A5. S, vertex 2/0, strong 15, with an empty buffer: 14 with ref 19, and it waits there. With a buffer where it waits: 12. Another of that
-    -- ref: 13. With a buffer of 384 words, or with two of one ref: 19.
+    -- ref: 13. With a buffer that is a word short, or with two of one ref: 19.
     ∷ giving s (vertexWith (bufferOf []) (early 0)) 14 19 (buffered (bufferOf (early 0 ∷ []))) 2 0 [] []
     ∷ giving s (vertexWith (bufferOf (early 0 ∷ [])) (early 0)) 12 0 (buffered (bufferOf (early 0 ∷ []))) 2 0 [] []
     ∷ giving s (vertexWith (bufferOf (early 0 ∷ [])) (rec 2 0 15 0 0 99)) 13 0 (buffered (bufferOf (early 0 ∷ []))) 2 0 [] []
-    ∷ giving s (vertexWith (take 384 (bufferOf [])) (early 0)) 19 0 (buffered (take 384 (bufferOf []))) 2 0 [] []
+    ∷ giving s (vertexWith short (early 0)) 19 0 (buffered short) 2 0 [] []
     ∷ giving s (vertexWith (bufferOf (early 0 ∷ early 0 ∷ [])) (early 0)) 19 0 (buffered (bufferOf (early 0 ∷ early 0 ∷ []))) 2 0 [] []
     -- Then vertex 1/3 with a buffer of 2/0, 2/1 and 2/2, strong 15, 3/0, strong 7, and 3/1, strong 15: 0. The first four are admitted, round 1 is
     -- committed, and 3/1 waits for 2/3.

@@ -34,20 +34,12 @@ use calls::call;
 use input::Command;
 use input::Cursor;
 use input::next_command;
+use replica::opening::clear;
 
 fn least(a: usize, b: usize) -> usize
     ensures { λ r. ⌜ (r ≤ a) × (r ≤ b) ⌝ }
 {
     if a < b { a } else { b }
-}
-
-// Writes 0 to every word.
-fn clear(words: &mut [u32]) {
-    let mut i: usize = 0;
-    while i < words.len() {
-        words[i] = 0;
-        i += 1;
-    }
 }
 
 fn set(lent: &mut [u32], at: usize, word: u32) {

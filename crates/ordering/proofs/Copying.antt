@@ -21,7 +21,7 @@ pub take-whole : (d s : List ℕ) (i : ℕ) → length d ≤ i → length s ≤ 
 take-whole d s i hd hs e = sym (take-all i d hd) ∙ e ∙ take-all i s hs
 
 -- a part that was lent and has come back with other words
-put-pasted : (a k : ℕ) (d ys s : List ℕ) → ys ≡ take k s → take a d ++ (ys ++ drop ((a + k) - a) (drop a d)) ≡ paste d a s k
+pub put-pasted : (a k : ℕ) (d ys s : List ℕ) → ys ≡ take k s → take a d ++ (ys ++ drop ((a + k) - a) (drop a d)) ≡ paste d a s k
 put-pasted a k d ys s e =
     let n : a + ((a + k) - a) ≡ a + k = omega arith in
     ap₂ (λ (y z : List ℕ). take a d ++ (y ++ z)) e (drop-drop ((a + k) - a) a d ∙ ap (λ (m : ℕ). drop m d) n)

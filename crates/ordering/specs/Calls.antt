@@ -34,13 +34,13 @@ placeQuestions l r p body =
     ∷ (parentsHeld l r body, MissingParent (least idLimit (missing l r body)))
     ∷ []
 
--- questions 4 to 14, of a record among n members
-abbrev pub admissionQuestions : List ℕ → ℕ → List ℕ → List Question
-admissionQuestions l n rec =
-    recordQuestions n (roundOf rec) (sourceOf rec) (bodyOf rec) ++ placeQuestions l (roundOf rec) (sourceOf rec) (bodyOf rec)
+-- questions 4 to 14, among n members
+abbrev pub admissionQuestions : List ℕ → ℕ → ℕ → ℕ → List ℕ → List Question
+admissionQuestions l n r p body = recordQuestions n r p body ++ placeQuestions l r p body
 
+-- all questions of a vertex call
 abbrev pub vertexQuestions : List ℕ → ℕ → ℕ → List ℕ → List Question
-vertexQuestions l r p body = stateQuestions l ++ (recordQuestions (memberCount l) r p body ++ placeQuestions l r p body)
+vertexQuestions l r p body = stateQuestions l ++ admissionQuestions l (memberCount l) r p body
 
 -- the vertex is written to its cell and marked held
 unfoldable pub putVertex : List ℕ → ℕ → ℕ → List ℕ → List ℕ

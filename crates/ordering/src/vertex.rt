@@ -6,7 +6,7 @@ ghost use lib.ListN.{length};
 ghost use Rattle.record.specs.Refusals.{firstNo};
 ghost use Rattle.record.specs.Members.{rounds, slots, legal};
 ghost use Rattle.record.specs.Handed.{QuorumOf};
-ghost use Rattle.record.specs.Layout.{bodySize};
+ghost use Rattle.record.specs.Layout.{bodySize, roundOf, sourceOf, bodyOf};
 ghost use Rattle.replica.specs.Layout.{stateSize};
 ghost use Rattle.replica.specs.Outcome.{told};
 ghost use Rattle.commits.specs.Commit.{raiseRound};
@@ -122,7 +122,8 @@ pub fn check_place(state: &[u32], n: u32, round: u32, source: u32, body: &[u32])
 // Questions 4 to 14, of a vertex for a state whose own questions are passed.
 pub fn check_vertex(state: &[u32], n: u32, quorum: u32, rec: &[u32]) -> Refusal
     requires { ⌜ (length (now state) ≡ stateSize) × (legal n ≡ true) × QuorumOf n quorum ⌝ }
-    ensures { λ r. ⌜ r ≡ firstNo (admissionQuestions (now (state .entry)) n (now (rec .entry))) ⌝ }
+    ensures { λ r. ⌜ r ≡ firstNo (admissionQuestions (now (state .entry)) n
+        (roundOf (now (rec .entry))) (sourceOf (now (rec .entry))) (bodyOf (now (rec .entry)))) ⌝ }
 {
     let why = check(n, quorum, rec);
     if number(why) != 0 {

@@ -1,16 +1,17 @@
 -- The loops that write words of a buffer, a turn at a time. Assumes nothing.
 use mathlib.Core.Path.{_≡_, sym, ap, ap₂, _∙_}
-use mathlib.Core.List.{List}
+use mathlib.Core.List.{List, _++_}
 use mathlib.Core.Logic.{_⊎_, inl, inr, ⊎-elim}
-use Prim.Native.Nat.{ℕ, suc, _+_, _-_, _≤_, _<_}
+use Prim.Native.Nat.{ℕ, _+_, _-_, _≤_, _<_}
 use native.Mathlib.Numerals.{add-one}
 use native.Mathlib.Omega.{arith}
 use lib.Dec.{ltb}
-use lib.ListN.{length, getD, set, replicate, length-replicate, getD-replicate}
-use lib.Seq.{paste, paste-zero, paste-suc}
+use lib.ListN.{length, getD, set, take, drop, replicate, length-drop, length-replicate}
+use lib.Seq.{paste, paste-suc, take-all, length-take-le}
 use borrow.Author.Tests.{ltb-true, ltb-false}
 use Rattle.record.specs.Layout.{recordSize}
 use Rattle.record.proofs.Booleans.{which}
+use Rattle.ordering.proofs.Copying.{put-pasted}
 use Rattle.pending.specs.Layout.{bufferSize, bufferSlots, slotAt}
 use Rattle.pending.specs.Buffer.{recordAt}
 use Rattle.pending.proofs.Slots.{slot-size, slot-word, pasted-other}
@@ -33,19 +34,13 @@ unwritten l x from to at i a e size h k b =
     side : (slotAt from + i < slotAt to) ⊎ (slotAt to + i ≤ slotAt from + i)
     side = ⊎-elim (λ t. inl (omega (arith, ltb-true from to t))) (λ t. inr (omega (arith, ltb-false from to t))) (which (ltb from to))
 
--- zeros
-pub cleared-none : (l : List ℕ) (from to : ℕ) → l ≡ paste l from (replicate (to - from) 0) (from - from)
-cleared-none l from to =
-    let n : from - from ≡ 0 = omega arith in
-    paste-zero l from (replicate (to - from) 0) ∙ ap (paste l from (replicate (to - from) 0)) (sym n)
-
-pub cleared-more : (l x : List ℕ) (from to i : ℕ) → x ≡ paste l from (replicate (to - from) 0) (i - from) → from ≤ i → i < to → i < length l
-    → set x i 0 ≡ paste l from (replicate (to - from) 0) (i + 1 - from)
-cleared-more l x from to i e low high fits =
-    let z : List ℕ = replicate (to - from) 0 in
-    let n : from + (i - from) ≡ i = omega arith in
-    let m : suc (i - from) ≡ i + 1 - from = omega arith in
-    ap₂ (λ (y : List ℕ) (k : ℕ). set y k 0) e (sym n)
-    ∙ ap (λ (w : ℕ). set (paste l from z (i - from)) (from + (i - from)) w) (sym (getD-replicate (to - from) (i - from) 0 0 (omega arith)))
-    ∙ paste-suc l from z (i - from) 0 (omega arith) (omega (arith, length-replicate {A = ℕ} (to - from) 0))
-    ∙ ap (paste l from z) m
+-- a part that was lent and has come back with zeros
+pub cleared : (s ys : List ℕ) (from to : ℕ) → from ≤ to → to ≤ length s → ys ≡ replicate (length (take (to - from) (drop from s))) 0
+    → take from s ++ (ys ++ drop (to - from) (drop from s)) ≡ paste s from (replicate (to - from) 0) (to - from)
+cleared s ys from to low high e =
+    let n : from + (to - from) - from ≡ to - from = omega arith in
+    let long : length (take (to - from) (drop from s)) ≡ to - from =
+    length-take-le (to - from) (drop from s) (omega (arith, length-drop from s)) in
+    ap (λ (k : ℕ). take from s ++ (ys ++ drop k (drop from s))) (sym n)
+    ∙ put-pasted from (to - from) s ys (replicate (to - from) 0)
+    (e ∙ ap (λ (k : ℕ). replicate k 0) long ∙ sym (take-all (to - from) (replicate (to - from) 0) (omega (arith, length-replicate {A = ℕ} (to - from) 0))))

@@ -5,6 +5,7 @@ use Prim.Native.Nat.{ℕ}
 use lib.Dec.{eqb, ltb}
 use lib.ListN.{length}
 use Rattle.record.specs.Refusals.{numberOf, missingNumber, isMissing, Question, firstNo}
+use Rattle.record.specs.Layout.{roundOf, sourceOf, bodyOf}
 use Rattle.record.specs.declared.refusal.Refusal.{Refusal}
 use Rattle.record.specs.declared.refusal.Refusal.the-variants.{Duplicate, Conflict, Buffer, BufferFull}
 use Rattle.replica.specs.State.{memberCount}
@@ -20,7 +21,7 @@ use Rattle.pending.specs.Passes.{Fate, joins, stays, leaves, Trial, Pass
 
 -- 19, and 4 to 14 as a plain vertex call asks them, among n members
 abbrev pub laterQuestions : List ℕ → List ℕ → ℕ → List ℕ → List Question
-laterQuestions l s n rec = (bufferOk n s, Buffer) ∷ admissionQuestions l n rec
+laterQuestions l s n rec = (bufferOk n s, Buffer) ∷ admissionQuestions l n (roundOf rec) (sourceOf rec) (bodyOf rec)
 
 -- 1 and 3, and then these
 abbrev pub bufferedQuestions : List ℕ → List ℕ → List ℕ → List Question

@@ -1,7 +1,7 @@
 // Finding a record's place in a buffer, putting it in, and moving records.
 ghost use mathlib.Core.Path.{_≡_};
-ghost use Prim.Native.Nat.{_+_, _-_, _<_, _≤_};
-ghost use lib.ListN.{length, replicate};
+ghost use Prim.Native.Nat.{_<_};
+ghost use lib.ListN.{length};
 ghost use lib.Seq.{paste};
 ghost use Rattle.record.specs.Layout.{recordSize};
 ghost use Rattle.pending.specs.Layout.{bufferSize, bufferSlots, slotAt};
@@ -94,18 +94,6 @@ pub fn copy_slot(buffer: &mut [u32], from: u32, to: u32)
     let mut i: usize = 0;
     while i < RECORD_SIZE {
         buffer[place + i] = buffer[at + i];
-        i += 1;
-    }
-}
-
-// The words from one place to another become 0.
-pub fn clear(buffer: &mut [u32], from: usize, to: usize)
-    requires { ⌜ (length (now buffer) ≡ bufferSize) × (from ≤ to) × (to ≤ bufferSize) ⌝ }
-    ensures { λ _. ⌜ now (buffer .exit) ≡ paste (now (buffer .entry)) from (replicate (to - from) 0) (to - from) ⌝ }
-{
-    let mut i = from;
-    while i < to {
-        buffer[i] = 0;
         i += 1;
     }
 }

@@ -8,7 +8,6 @@ ghost use Rattle.pending.specs.Buffer.{bufferOk};
 ghost use Rattle.pending.specs.Inner.{Standing, Trying, Sweeping, swept, sweepOne, both, releaseIn};
 use super::layout::COUNT;
 use super::layout::slot_at;
-use super::moves::clear;
 use super::moves::copy_slot;
 use ordering::vertex::admit_vertex;
 use ordering::vertex::check_place;
@@ -20,6 +19,7 @@ use record::refusal::is_missing;
 use record::refusal::number;
 use replica::answer::Answer;
 use replica::answer::refuse;
+use replica::opening::clear;
 
 // A waiting record tried as a vertex call: its own questions are passed already.
 fn retry(state: &mut [u32], n: u32, quorum: u32, rec: &[u32]) -> Answer
@@ -61,6 +61,8 @@ pub fn release(state: &mut [u32], buffer: &mut [u32], n: u32, quorum: u32)
         kept = sweep_one(state, buffer, n, quorum, j, kept);
         j += 1;
     }
-    clear(buffer, slot_at(kept), slot_at(count));
+    let free = slot_at(kept);
+    let end = slot_at(count);
+    clear(&mut buffer[free..end]);
     buffer[COUNT] = kept;
 }

@@ -13,12 +13,12 @@ use record::members::is_legal;
 use record::refusal::Refusal;
 
 // Writes 0 to every word.
-fn clear(state: &mut [u32])
-    ensures { λ _. ⌜ now (state .exit) ≡ replicate (length (now (state .entry))) 0 ⌝ }
+pub fn clear(words: &mut [u32])
+    ensures { λ _. ⌜ now (words .exit) ≡ replicate (length (now (words .entry))) 0 ⌝ }
 {
     let mut i: usize = 0;
-    while i < state.len() {
-        state[i] = 0;
+    while i < words.len() {
+        words[i] = 0;
         i += 1;
     }
 }

@@ -21,7 +21,7 @@ rec s = s .args .rec .now
 
 -- the questions after those of the state
 abbrev after : tie.Start → List Question
-after s = admissionQuestions (words s) (memberCount (words s)) (rec s)
+after s = admissionQuestions (words s) (memberCount (words s)) (roundOf (rec s)) (sourceOf (rec s)) (bodyOf (rec s))
 
 -- the state's questions are passed
 state : (c : tie.Else1) → WellFormed (words (search))

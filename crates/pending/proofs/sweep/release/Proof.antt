@@ -3,7 +3,8 @@ use mathlib.Core.Path.{_≡_, refl, sym, _∙_}
 use mathlib.Core.List.{List}
 use Prim.Native.Nat.{ℕ, _≤_, _-_}
 use native.Mathlib.Omega.{arith}
-use lib.ListN.{length-set}
+use lib.ListN.{length, length-set}
+use borrow.Rule.Slice.PartMut.{putMid, same-len-mid}
 use borrow.Author.Needs.{needs}
 use Rattle.replica.proofs.Formed.{formed}
 use Rattle.pending.specs.Layout.{countPlace}
@@ -11,6 +12,7 @@ use Rattle.pending.specs.Buffer.{countOf}
 use Rattle.pending.proofs.Order as order
 use Rattle.pending.proofs.Order.{Formed}
 use Rattle.pending.proofs.Passing.{Good}
+use Rattle.pending.proofs.Writing.{cleared}
 use Rattle.pending.proofs.Swept.{Going, going-start, going-trying, step, sweep-done}
 use Rattle.pending.proofs.sweep.release.Statement.{statement}
 use Rattle.pending.proofs.sweep.release.Tie as tie
@@ -55,17 +57,6 @@ loop-again c =
           (o .sweep-one .ensures),
     )
 
-returns : tie.Need-returns Inv-loop μ-loop
-returns c =
-    let l : tie.At-loop Inv-loop μ-loop = search in
-    let s : tie.Start Inv-loop μ-loop = search in
-    let a : tie.After-slot-at Inv-loop μ-loop = search in
-    let b : tie.After-slot-at2 Inv-loop μ-loop = search in
-    let k : tie.After-clear Inv-loop μ-loop = search in
-    let e : l .loop .j ≡ countOf (buffer s) = omega arith in
-    sweep-done (s .args .n) (state s) (buffer s) (l .loop .state) (l .loop .buffer) _ _ (l .loop .kept) _ _ (F s) (G s) (rw e at (l .loop .inv .2))
-    (a .slot-at .ensures) (b .slot-at2 .ensures) (k .clear .ensures) refl
-
 slot-at-requires : tie.Need-slot-at-requires Inv-loop μ-loop
 slot-at-requires c κs =
     let l : tie.At-loop Inv-loop μ-loop = search in
@@ -75,17 +66,19 @@ slot-at-requires c κs =
 slot-at-requires-2 : tie.Need-slot-at-requires-2 Inv-loop μ-loop
 slot-at-requires-2 c κs = let s : tie.Start Inv-loop μ-loop = search in F s .few
 
-clear-requires : tie.Need-clear-requires Inv-loop μ-loop
-clear-requires c κs =
+-- the slots to be cleared stand in the buffer, one behind the other
+bounds : (c : tie.After-slot-at2 Inv-loop μ-loop) → let l : tie.At-loop Inv-loop μ-loop = search in let a : tie.After-slot-at Inv-loop μ-loop = search in
+    (a .slot-at .result ≤ c .slot-at2 .result) × (c .slot-at2 .result ≤ length (l .loop .buffer))
+bounds c =
     let l : tie.At-loop Inv-loop μ-loop = search in
     let s : tie.Start Inv-loop μ-loop = search in
     let a : tie.After-slot-at Inv-loop μ-loop = search in
-    let b : tie.After-slot-at2 Inv-loop μ-loop = search in
     let f = F s .few in
     let k = l .loop .inv .2 .few in
     let x = a .slot-at .ensures in
-    let y = b .slot-at2 .ensures in
-    (l .loop .inv .2 .size, omega arith, omega arith)
+    let y = c .slot-at2 .ensures in
+    let z = l .loop .inv .2 .size in
+    (omega arith, omega arith)
 
 same-length : tie.Need-same-length Inv-loop μ-loop
 same-length c =
@@ -97,8 +90,24 @@ same-length-2 : tie.Need-same-length-2 Inv-loop μ-loop
 same-length-2 c =
     let l : tie.At-loop Inv-loop μ-loop = search in
     let s : tie.Start Inv-loop μ-loop = search in
+    let a : tie.After-slot-at Inv-loop μ-loop = search in
+    let b : tie.After-slot-at2 Inv-loop μ-loop = search in
     let k : tie.After-clear Inv-loop μ-loop = search in
-    length-set (k .clear .last .0) countPlace _ ∙ k .clear .kept .0 ∙ l .loop .inv .2 .size ∙ sym (F s .size)
+    let at : ℕ = a .slot-at .result in
+    let size : ℕ = b .slot-at2 .result - at in
+    length-set (putMid at size (l .loop .buffer) (k .clear .last .0)) countPlace (l .loop .kept)
+    ∙ same-len-mid at size (l .loop .buffer) (k .clear .last .0) (k .clear .kept .0) ∙ l .loop .inv .2 .size ∙ sym (F s .size)
+
+returns : tie.Need-returns Inv-loop μ-loop
+returns c =
+    let l : tie.At-loop Inv-loop μ-loop = search in
+    let s : tie.Start Inv-loop μ-loop = search in
+    let a : tie.After-slot-at Inv-loop μ-loop = search in
+    let b : tie.After-slot-at2 Inv-loop μ-loop = search in
+    let k : tie.After-clear Inv-loop μ-loop = search in
+    let e : l .loop .j ≡ countOf (buffer s) = omega arith in
+    sweep-done (s .args .n) (state s) (buffer s) (l .loop .state) (l .loop .buffer) _ _ (l .loop .kept) _ _ (F s) (G s) (rw e at (l .loop .inv .2))
+    (a .slot-at .ensures) (b .slot-at2 .ensures) (cleared (l .loop .buffer) (k .clear .last .0) _ _ (bounds b .0) (bounds b .1) (k .clear .ensures)) refl
 
 pub release-spec : {M : Type 1} → statement M
 release-spec =
@@ -114,7 +123,11 @@ release-spec =
     loop-again
     slot-at-requires
     slot-at-requires-2
-    clear-requires
+    (λ c. let b = bounds (search) in search needs)
+    (λ c. let b = bounds (search) in search needs)
+    (λ c. let b = bounds (search) in search needs)
+    (λ c. let b = bounds (search) in search needs)
+    (λ c κs. search needs)
     (λ c. search needs)
     same-length
     same-length-2

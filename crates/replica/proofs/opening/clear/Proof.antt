@@ -11,10 +11,10 @@ use Rattle.replica.proofs.opening.clear.Statement.{statement}
 use Rattle.replica.proofs.opening.clear.Tie as tie
 
 abbrev Inv-loop : tie.InvT-loop
-Inv-loop state₀ i₀ state i = (i ≤ length state₀) × (length state ≡ length state₀) × (state ≡ replicate i 0 ++ drop i state₀)
+Inv-loop words₀ i₀ words i = (i ≤ length words₀) × (length words ≡ length words₀) × (words ≡ replicate i 0 ++ drop i words₀)
 
 abbrev μ-loop : tie.MeasureT-loop
-μ-loop state₀ i₀ state i = length state₀ - i
+μ-loop words₀ i₀ words i = length words₀ - i
 
 loop-holds : tie.Need-loop-holds Inv-loop μ-loop
 loop-holds c = (omega arith, search needs, fill-none _ 0)
@@ -26,15 +26,15 @@ loop-again c =
       omega arith,
       search needs,
       ap (λ (x : List ℕ). set x (at-loop .loop .i) 0) (at-loop .loop .inv .2)
-          ∙ fill-more (at-loop .loop .i) 0 (start .args .state .now) (omega arith),
+          ∙ fill-more (at-loop .loop .i) 0 (start .args .words .now) (omega arith),
     )
 
 returns : tie.Need-returns Inv-loop μ-loop
 returns c =
     let at-loop : tie.At-loop Inv-loop μ-loop = search in
     let start : tie.Start Inv-loop μ-loop = search in
-    let e : at-loop .loop .i ≡ length (start .args .state .now) = omega arith in at-loop .loop .inv .2
-    ∙ rw (e, drop-length (start .args .state .now)) (append-nil _)
+    let e : at-loop .loop .i ≡ length (start .args .words .now) = omega arith in at-loop .loop .inv .2
+    ∙ rw (e, drop-length (start .args .words .now)) (append-nil _)
 
 pub clear-spec : {M : Type 1} → statement M
 clear-spec =

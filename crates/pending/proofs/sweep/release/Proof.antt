@@ -95,7 +95,7 @@ same-length-2 c =
     let k : tie.After-clear Inv-loop μ-loop = search in
     let at : ℕ = a .slot-at .result in
     let size : ℕ = b .slot-at2 .result - at in
-    length-set (putMid at size (l .loop .buffer) (k .clear .last .0)) countPlace (l .loop .kept)
+    length-set (putMid at size (l .loop .buffer) (k .clear .last .0)) countPlace _
     ∙ same-len-mid at size (l .loop .buffer) (k .clear .last .0) (k .clear .kept .0) ∙ l .loop .inv .2 .size ∙ sym (F s .size)
 
 returns : tie.Need-returns Inv-loop μ-loop

@@ -247,8 +247,11 @@ std::optional<Growth> growth(const std::vector<Timed>& all, std::string_view nam
     return Growth{(to->ns[ours] - from->ns[ours]) / added, (to->ns[plain_engine] - from->ns[plain_engine]) / added};
 }
 
-// Opening writes every word of any state: what it adds is less than the timer can tell.
+// Opening writes every word of any state, and each released vertex has the rounds above the full ones looked through, fewer the more are full:
+// there a full round adds less than the timer can tell, or takes off.
 constexpr double least_growth = 5;
+
+bool tells(const std::optional<Growth>& g) { return g && g->our >= least_growth && g->plain >= least_growth; }
 
 void print_growth(const std::vector<Timed>& all) {
     std::puts("\nWhat a full round adds to a call, library / plain C++ in ns, and the ratio:\n");
@@ -263,7 +266,7 @@ void print_growth(const std::vector<Timed>& all) {
         std::printf("\n| %s |", name.c_str());
         for (const u32 n : member_counts) {
             const std::optional<Growth> g = growth(all, name, n);
-            if (!g || g->plain < least_growth) std::printf(" - |");
+            if (!tells(g)) std::printf(" - |");
             else std::printf(" %.0f / %.0f, %.2f |", g->our, g->plain, g->our / g->plain);
         }
     }
@@ -283,7 +286,7 @@ void print_summary(const std::vector<Timed>& all) {
         largest = std::max(largest, r);
         if (t.c.rounds != fullness.back()) continue;
         const std::optional<Growth> g = growth(all, t.c.name, t.c.n);
-        if (!g || g->plain < least_growth) continue;
+        if (!tells(g)) continue;
         steeper += g->our > limit * g->plain;
         steepest = std::max(steepest, g->our / g->plain);
     }

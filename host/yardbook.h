@@ -145,9 +145,10 @@ yardbook_answer yardbook_take_vertex(uint32_t *state, size_t state_words, const 
  * checked before a record is handed over: what is in the buffer is taken without asking the host again.
  *
  * The buffer is the host's, like the state. It is all zeros at first, and again whenever the state is opened, and is lent to
- * the calls on one state only, as the last one left it. A host that may restart stores it with the state, or asks the senders again
- * for what waited. yardbook_take_vertex knows no buffer: a record that waits for a vertex taken there leaves after the next one
- * that is admitted here, so a host does best to take all its vertices by one of the two calls.
+ * the calls on one state only, as the last one left it. A host that may restart stores it with the state, or starts with zeros and
+ * asks the senders again for what waited; so it may do at any time, as when records whose parents never come fill the buffer.
+ * yardbook_take_vertex knows no buffer: a record that waits for a vertex taken there leaves after the next one that is admitted
+ * here, so a host does best to take all its vertices by one of the two calls.
  */
 yardbook_answer yardbook_take_vertex_with(uint32_t *state, size_t state_words, uint32_t *buffer, size_t buffer_words,
                                           const uint32_t *record, size_t record_words);

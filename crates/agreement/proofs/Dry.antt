@@ -3,11 +3,11 @@ use mathlib.Core.Path.{_≡_, refl, sym, ap, _∙_}
 use mathlib.Core.Bool.{Bool, true, false, not, _&&_}
 use mathlib.Core.Logic.{⊎-elim}
 use mathlib.Core.List.{List, [], _∷_, _++_}
-use Prim.Native.Nat.{ℕ, _-_, _<_}
+use Prim.Native.Nat.{ℕ, _<_}
 use native.Mathlib.Omega.{arith}
 use lib.Dec.{eqb, leb}
 use borrow.Author.Tests.{eqb-true, not-true}
-use Rattle.record.specs.Members.{legal, has, idRound, idMember, isRound, slots}
+use Rattle.record.specs.Members.{legal, has, idRound, idMember, idLimit, isRound, slots}
 use Rattle.record.specs.Refusals.{numberOf, Question, firstNo}
 use Rattle.record.specs.Layout.{roundOf, sourceOf, bodyOf}
 use Rattle.record.specs.Questions.{recordQuestions, bodyRefusal}
@@ -93,7 +93,7 @@ module _ (n : ℕ) (l : List ℕ) (m : Model) (h : Holds n l m) (r p : ℕ) (bod
       ∙ past-state l _ (h .formed)
 
   -- a vertex has the number 0
-  vertex-passes : held (recordsOf (m .vertices)) r p ≡ false → ((y : ℕ) → isParent r body y ≡ true
+  vertex-passes : held (recordsOf (m .vertices)) r p ≡ false → ((y : ℕ) → y < idLimit → isParent r body y ≡ true
       → held (recordsOf (m .vertices)) (idRound y) (idMember y) ≡ true)
       → numberOf (firstNo (vertexQuestions l r p body)) ≡ 0
   vertex-passes new there =
@@ -101,7 +101,7 @@ module _ (n : ℕ) (l : List ℕ) (m : Model) (h : Holds n l m) (r p : ℕ) (bod
       let free : (isRound r && has (heldMask l r) p) ≡ false = sym (held-vertex l (h .formed .size) r p few) ∙ ap present (h .vertex r p) ∙ new in
       let off : has (heldMask l r) p ≡ false = rw (round-in r (A .round-low) (A .round-high)) at free in
       let parents : parentsHeld l r body ≡ true = parents-intro l r body
-      (λ y b d. held-id l (h .formed .size) y ∙ ap present (h .vertex (idRound y) (idMember y)) ∙ there y d) in
+      (λ y b d. held-id l (h .formed .size) y ∙ ap present (h .vertex (idRound y) (idMember y)) ∙ there y b d) in
       ap numberOf (sym (next _ _ (ap not (and-fails-left (sameBody l r p body) off)) (next _ _ (ap not off) (next _ _ parents done)) ∙ in-record _))
 
   -- a first message has the number 0
@@ -122,7 +122,7 @@ module _ (n : ℕ) (l : List ℕ) (m : Model) (h : Holds n l m) where
       let ok : numberOf (bodyRefusal n (roundOf rec) (sourceOf rec) (bodyOf rec)) ≡ 0 = eqb-true _ 0 (and-left _ _ e) in
       let rest = and-right (eqb (numberOf (bodyRefusal n (roundOf rec) (sourceOf rec) (bodyOf rec))) 0) _ e in
       vertex-passes n l m h (roundOf rec) (sourceOf rec) (bodyOf rec) ok (not-true _ (and-left _ _ rest))
-      (parent-there n l m h rec ok (and-right (not (held (recordsOf (m .vertices)) (roundOf rec) (sourceOf rec))) _ rest))
+      (parent-there n l m h rec (and-right (not (held (recordsOf (m .vertices)) (roundOf rec) (sourceOf rec))) _ rest))
 
   -- a record that is taken has the number 0; of other calls the number does not matter
   admit-taken : (c : Call) → taken n m c ≡ true → admit c (outcomeOf c l .number) m ≡ admit c 0 m

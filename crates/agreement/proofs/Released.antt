@@ -1,33 +1,24 @@
 -- The passes of the model beside those of the state: the same records join, wait on and leave, and the state follows the model. Assumes nothing.
-use mathlib.Core.Path.{_≡_, refl, sym, ap, ap₂, _∙_}
+use mathlib.Core.Path.{_≡_, refl, sym, ap, _∙_}
 use mathlib.Core.Bool.{Bool, true, false, not, _||_}
-use mathlib.Core.Logic.{_⊎_, inl, inr, ⊎-elim}
+use mathlib.Core.Logic.{_⊎_, inl, inr}
 use mathlib.Core.List.{List, [], _∷_, List·Memᴰ·tail}
-use Prim.Native.Nat.{ℕ, zero, suc, _-_, _≤_, _<_}
-use native.Mathlib.Omega.{arith}
-use lib.Dec.{ltb}
+use Prim.Native.Nat.{ℕ, zero, suc, _<_}
 use lib.ListN.{length}
-use borrow.Author.Tests.{ltb-true, ltb-false}
-use Rattle.record.specs.Below.{all}
-use Rattle.record.specs.Members.{legal, has, idOf, idRound, idMember, slots}
-use Rattle.record.specs.Refusals.{numberOf}
-use Rattle.record.specs.Layout.{roundOf, sourceOf, bodyOf, strongOf, weakCountOf, weakOf}
-use Rattle.record.specs.Questions.{recordRefusal}
-use Rattle.record.specs.Admitted.{Admitted}
-use Rattle.record.proofs.Booleans.{which, never, and-left, and-right, and-both, or-left, or-right, imp-elim, bool-ext}
+use Rattle.record.specs.Members.{legal, idRound, idMember, idLimit}
+use Rattle.record.specs.Layout.{roundOf, sourceOf, bodyOf}
+use Rattle.record.proofs.Booleans.{which, or-left, or-right, imp-elim, bool-ext}
 use Rattle.record.proofs.Below.{all-elim, all-intro}
-use Rattle.record.proofs.Masks.{has-zero}
-use Rattle.record.proofs.Rounds.{id-round, id-member}
 use Rattle.protocol.specs.Dag.{Records, recordsOf, present, held}
-use Rattle.replica.specs.State.{memberCount, vertices, heldId}
+use Rattle.replica.specs.State.{vertices}
 use Rattle.replica.specs.Parents.{isParent, parentsHeld}
 use Rattle.replica.proofs.Dags.{held-id}
-use Rattle.replica.proofs.ParentLaws.{strong-parent, weak-parent, parent-cases, parents-intro, parents-elim, weak-small}
+use Rattle.replica.proofs.ParentLaws.{parents-intro, parents-elim}
 use Rattle.ordering.specs.Calls.{takeVertex}
 use Rattle.pending.specs.Buffer.{In, recordId, recordsOk}
 use Rattle.pending.specs.Passes.{Fate, joins, stays, leaves, Trial, Passed, ahead, isNone, pass, passes, release}
 use Rattle.pending.specs.Early.{tryVertex}
-use Rattle.pending.proofs.Order.{First, ok-first, admit}
+use Rattle.pending.proofs.Order.{ok-first}
 use Rattle.pending.proofs.Holding.{Joins, Stays, Leaves, ends, waiting-lacks, joined-words}
 use Rattle.pending.proofs.Passing.{Good, first-joins, first-stays, first-leaves, pass-waiting}
 use Rattle.agreement.specs.Model.{Model, parentsThere, tryRecord}
@@ -37,7 +28,7 @@ use Rattle.agreement.proofs.Following.{Holds, Follows, vertex-follows}
 
 -- ---- the parents of a record, in the state and in the model
 
-module _ (n : ℕ) (l : List ℕ) (m : Model) (h : Holds n l m) (rec : List ℕ) (ok : numberOf (recordRefusal n rec) ≡ 0) where
+module _ (n : ℕ) (l : List ℕ) (m : Model) (h : Holds n l m) (rec : List ℕ) where
   abbrev v : Records
   v = recordsOf (m .vertices)
 
@@ -47,51 +38,25 @@ module _ (n : ℕ) (l : List ℕ) (m : Model) (h : Holds n l m) (rec : List ℕ)
   abbrev body : List ℕ
   body = bodyOf rec
 
-  A : Admitted (memberCount l) r (sourceOf rec) body
-  A = admit (memberCount l) rec (rw (h .members) ok)
-
   same : (y : ℕ) → held (vertices l) (idRound y) (idMember y) ≡ held v (idRound y) (idMember y)
   same y = ap present (h .vertex (idRound y) (idMember y))
 
   -- a parent is there
-  pub parent-there : parentsThere v r body ≡ true → (y : ℕ) → isParent r body y ≡ true → held v (idRound y) (idMember y) ≡ true
+  pub parent-there : parentsThere v r body ≡ true → (y : ℕ) → y < idLimit → isParent r body y ≡ true → held v (idRound y) (idMember y) ≡ true
   unfolding parentsThere
-  parent-there e y d = ⊎-elim
-      (λ w.
-      let z : r - 1 ≡ idRound y = omega (arith, w .0) in
-      ap (λ (t : ℕ). held v t (idMember y)) (sym z)
-      ∙ imp-elim (has (strongOf body) (idMember y)) _
-      (all-elim slots (λ q. not (has (strongOf body) q) || held v (r - 1) q) (and-left _ _ e) (idMember y) (omega arith)) (w .1))
-      (λ w. ap (λ (t : ℕ). held v (idRound t) (idMember t)) (sym (w .2))
-      ∙ all-elim (weakCountOf body) (λ i. held v (idRound (weakOf body i)) (idMember (weakOf body i)))
-      (and-right (all slots (λ q. not (has (strongOf body) q) || held v (r - 1) q)) _ e) (w .0) (w .1))
-      (parent-cases r body y d)
+  parent-there e y b d = imp-elim (isParent r body y) _ (all-elim idLimit (λ z. not (isParent r body z) || held v (idRound z) (idMember z)) e y b) d
 
   -- all are there exactly if all are held
   parents-are : parentsHeld l r body ≡ parentsThere v r body
   unfolding parentsThere
   parents-are = bool-ext
-      (λ e. and-both
-      (all-intro slots _ (λ q b. strong e q b (which (has (strongOf body) q))))
-      (all-intro (weakCountOf body) _ (λ i b. there (weakOf body i) (parents-elim l r body e (weakOf body i) (weak-small (memberCount l) r (sourceOf rec) l body
-      (h .formed .front .members) A i b) (weak-parent r body i b)))))
-      (λ e. parents-intro l r body (λ y b d. held-id l (h .formed .size) y ∙ same y ∙ parent-there e y d))
+      (λ e. all-intro idLimit _ (λ y b. there e y b (which (isParent r body y))))
+      (λ e. parents-intro l r body (λ y b d. held-id l (h .formed .size) y ∙ same y ∙ parent-there e y b d))
     where
-      there : (y : ℕ) → heldId l y ≡ true → held v (idRound y) (idMember y) ≡ true
-      there y e = sym (same y) ∙ sym (held-id l (h .formed .size) y) ∙ e
-
-      strong : parentsHeld l r body ≡ true → (q : ℕ) → q < slots → (has (strongOf body) q ≡ true) ⊎ (has (strongOf body) q ≡ false)
-          → (not (has (strongOf body) q) || held v (r - 1) q) ≡ true
-      strong e q b (inr d) = or-left _ (ap not d)
-      strong e q b (inl d) =
-          let two : 2 ≤ r = ⊎-elim (λ t. ltb-true 1 r t)
-          (λ t. never d (ap (λ (x : ℕ). has x q) (A .strong-first (omega (arith, A .round-low, ltb-false 1 r t))) ∙ has-zero q)) (which (ltb 1 r)) in
-          let y : ℕ = idOf (r - 1) q in
-          let a : idRound y ≡ r - 1 = id-round (r - 1) q b in
-          let c : idMember y ≡ q = id-member (r - 1) q b in
-          let is = strong-parent r body y (omega (arith, a)) (ap (has (strongOf body)) c ∙ d) in
-          let k = there y (parents-elim l r body e y (omega (arith, A .round-high)) is) in
-          or-right (not (has (strongOf body) q)) (ap₂ (held v) (sym a) (sym c) ∙ k)
+      there : parentsHeld l r body ≡ true → (y : ℕ) → y < idLimit → (isParent r body y ≡ true) ⊎ (isParent r body y ≡ false)
+          → (not (isParent r body y) || held v (idRound y) (idMember y)) ≡ true
+      there e y b (inr d) = or-left _ (ap not d)
+      there e y b (inl d) = or-right (not (isParent r body y)) (sym (same y) ∙ sym (held-id l (h .formed .size) y) ∙ parents-elim l r body e y b d)
 
   -- the record is there exactly if it is held
   place : held (vertices l) r (sourceOf rec) ≡ held v r (sourceOf rec)
@@ -182,17 +147,17 @@ module _ (n : ℕ) (a b : Model) (honest : ℕ → Bool) (g : legal n ≡ true) 
   beside low [] l v e f i = record { follows = f; admitted = refl; waiting = refl }
   beside low (rec ∷ recs) l v e f i =
       let t = ok-first n low rec recs e in
-      go t (ends l rec (f .holds .formed) (rw (f .holds .members) (t .passes))) (λ k w. beside (recordId rec) recs k w (t .others))
+      go (ends l rec (f .holds .formed) (rw (f .holds .members) (t .passes))) (λ k w. beside (recordId rec) recs k w (t .others))
     where
       -- the pass over the model, by the end of the first trial
       first : (t : Trial (List (List ℕ))) → tryRecord v rec ≡ t → pass tryRecord v (rec ∷ recs) ≡ ahead rec (t .fate) (pass tryRecord (t .after) recs)
       first t d = ap (λ (x : Trial (List (List ℕ))). ahead rec (x .fate) (pass tryRecord (x .after) recs)) d
 
-      go : First n low rec recs → Joins l rec ⊎ (Stays l rec ⊎ Leaves l rec)
+      go : Joins l rec ⊎ (Stays l rec ⊎ Leaves l rec)
           → ((k : List ℕ) (w : List (List ℕ)) → Follows n k (having w) → Either a b (having (pass tryRecord w recs .after)) → Beside k w recs)
           → Beside l v (rec ∷ recs)
-      go t (inl j) ih =
-          let d = first _ (book-joins n l (having v) (f .holds) rec (t .passes) j) in
+      go (inl j) ih =
+          let d = first _ (book-joins n l (having v) (f .holds) rec j) in
           let i′ : Either a b (having (pass tryRecord (rec ∷ v) recs .after)) = rw d at i in
           let j₁ : Either a b (having (rec ∷ v)) = either-before (inside _ _ (pass-more recs (rec ∷ v))) i′ in
           let j₀ : Either a b (having v) = either-before (inside v (rec ∷ v) (λ x h. List·Memᴰ·tail h)) j₁ in
@@ -202,14 +167,14 @@ module _ (n : ℕ) (a b : Model) (honest : ℕ → Bool) (g : legal n ≡ true) 
           let c = first-joins l rec recs j in
           let x = ap (λ (y : List (List ℕ)). rec ∷ y) (B .admitted) in
           record { follows = rw (c, d) (B .follows); admitted = rw (c, d) x; waiting = rw (c, d) (B .waiting) }
-      go t (inr (inl s)) ih =
-          let d = first _ (book-stays n l (having v) (f .holds) rec (t .passes) s) in
+      go (inr (inl s)) ih =
+          let d = first _ (book-stays n l (having v) (f .holds) rec s) in
           let B = ih l v f (rw d at i) in
           let c = first-stays l rec recs s in
           let x = ap (λ (y : List (List ℕ)). rec ∷ y) (B .waiting) in
           record { follows = rw (c, d) (B .follows); admitted = rw (c, d) (B .admitted); waiting = rw (c, d) x }
-      go t (inr (inr s)) ih =
-          let d = first _ (book-leaves n l (having v) (f .holds) rec (t .passes) s) in
+      go (inr (inr s)) ih =
+          let d = first _ (book-leaves n l (having v) (f .holds) rec s) in
           let B = ih l v f (rw d at i) in
           let c = first-leaves l rec recs s in
           record { follows = rw (c, d) (B .follows); admitted = rw (c, d) (B .admitted); waiting = rw (c, d) (B .waiting) }

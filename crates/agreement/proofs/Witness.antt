@@ -8,7 +8,7 @@ use native.Mathlib.Omega.{arith}
 use lib.Count.{ones}
 use lib.Dec.{eqb, lit≤}
 use borrow.Author.Tests.{eq-eqb, not-true}
-use Rattle.record.specs.Below.{all, count}
+use Rattle.record.specs.Below.{all, any, count}
 use Rattle.record.specs.Members.{legal, leader, has, within, meets, isRound}
 use Rattle.record.specs.Refusals.{firstNo}
 use Rattle.record.specs.Layout.{roundOf, sourceOf, bodyOf, strongOf, timeoutsOf, noVotesOf, weakCountOf, weakOf}
@@ -23,6 +23,7 @@ use Rattle.protocol.proofs.Laws.{records-ext}
 use Rattle.protocol.proofs.Lists.{same, same-eq}
 use Rattle.protocol.proofs.Witness as protocol
 use Rattle.replica.specs.Layout.{watcher}
+use Rattle.replica.specs.Parents.{isParent}
 use Rattle.replica.specs.Opening.{opened, openState}
 use Rattle.replica.proofs.Opened.{opened-size}
 use Rattle.pending.specs.Buffer.{In, recordsFrom, wordsOf, bufferOf, recordsOk, restZero, bufferOk}
@@ -90,9 +91,9 @@ same-records l m e d = records-ext (recordsOf l) (recordsOf m) (λ r p. go r p (
 
 -- every call is taken
 all-taken : (i : Bool) → allTaken 4 (empty 4) (callsOf i) ≡ true
-unfolding callsOf vertexCalls firstOf early late allTaken taken vertexTaken parentsThere pass passes recordsOf legal leader has within meets strongOf timeoutsOf
+unfolding callsOf vertexCalls firstOf early late allTaken taken vertexTaken parentsThere isParent pass passes recordsOf legal leader has within meets strongOf timeoutsOf
     noVotesOf weakCountOf weakOf signerQuestions recordQuestions bufferOf wordsOf recordsFrom recordsOk restZero bufferOk
-    firstNo isRound masksOk strongOk lacksLeader quorumIf timeoutsOk noVotesOk weakIdOk rises slotOk weakOk all ones
+    firstNo isRound masksOk strongOk lacksLeader quorumIf timeoutsOk noVotesOk weakIdOk rises slotOk weakOk all any ones
 all-taken true = refl
 all-taken false = refl
 
@@ -103,7 +104,7 @@ made i = dry (empty 4) (callsOf i)
 -- its vertices
 made-vertices : (i : Bool) → recordsOf (made i .vertices) ≡ recordsOf (vertexOf i)
 unfolding made dry callsOf vertexCalls vertexOf firstOf early late every agree same recordsOf pass passes bufferOf wordsOf recordsFrom
-    parentsThere has strongOf weakCountOf weakOf all
+    parentsThere isParent any has strongOf weakCountOf weakOf all
 made-vertices true = same-records (made true .vertices) (vertexOf true) refl refl
 made-vertices false = same-records (made false .vertices) (vertexOf false) refl refl
 
@@ -150,17 +151,17 @@ both x y = eqb (roundOf x) (roundOf y) && (honest (sourceOf x) && (votes 4 (roun
 -- they are met
 vertices-one : pairs oneVertex allVertices allVertices ≡ true
 unfolding allVertices made dry callsOf vertexCalls firstOf early late pairs every oneVertex twin same
-    pass passes bufferOf wordsOf recordsFrom recordsOf parentsThere has strongOf weakCountOf weakOf all
+    pass passes bufferOf wordsOf recordsFrom recordsOf parentsThere isParent any has strongOf weakCountOf weakOf all
 vertices-one = refl
 
 records-one : pairs oneRecord allFirsts allVertices ≡ true
 unfolding allVertices allFirsts made dry callsOf vertexCalls firstOf early late pairs every oneRecord twin same
-    pass passes bufferOf wordsOf recordsFrom recordsOf parentsThere has strongOf weakCountOf weakOf all
+    pass passes bufferOf wordsOf recordsFrom recordsOf parentsThere isParent any has strongOf weakCountOf weakOf all
 records-one = refl
 
 never-both : pairs (λ x y. not (both x y)) (allVertices ++ allFirsts) allVertices ≡ true
 unfolding allVertices allFirsts made dry callsOf vertexCalls firstOf early late pairs every both leader has strongOf noVotesOf
-    pass passes bufferOf wordsOf recordsFrom recordsOf parentsThere weakCountOf weakOf all
+    pass passes bufferOf wordsOf recordsFrom recordsOf parentsThere isParent any weakCountOf weakOf all
 never-both = refl
 
 -- the premises hold of these models

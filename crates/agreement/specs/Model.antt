@@ -1,11 +1,12 @@
 -- The model (01: plain book) of a list of calls: the records that were admitted.
-use mathlib.Core.Bool.{Bool, cond, not, _&&_, _||_}
+use mathlib.Core.Bool.{Bool, cond, not, _||_}
 use mathlib.Core.List.{List, [], _∷_}
-use Prim.Native.Nat.{ℕ, zero, suc, _-_}
+use Prim.Native.Nat.{ℕ, zero, suc}
 use Rattle.record.specs.Below.{all}
-use Rattle.record.specs.Members.{slots, has, idRound, idMember}
-use Rattle.record.specs.Layout.{roundOf, sourceOf, bodyOf, strongOf, weakCountOf, weakOf}
+use Rattle.record.specs.Members.{idRound, idMember, idLimit}
+use Rattle.record.specs.Layout.{roundOf, sourceOf, bodyOf}
 use Rattle.protocol.specs.Dag.{Records, Dag, recordsOf, held}
+use Rattle.replica.specs.Parents.{isParent}
 use Rattle.pending.specs.Buffer.{recordsIn}
 use Rattle.pending.specs.Passes.{joins, stays, leaves, Trial, release}
 use Rattle.runs.specs.Call.{Call, opening, vertex, vertexWith, firstMessage, timeout, noVote, bundle}
@@ -22,9 +23,7 @@ empty n = record { n = n; vertices = []; firsts = [] }
 
 -- all strong and weak parents of a body of round r are there
 unfoldable pub parentsThere : Records → ℕ → List ℕ → Bool
-parentsThere v r body =
-    all slots (λ q. not (has (strongOf body) q) || held v (r - 1) q)
-    && all (weakCountOf body) (λ i. held v (idRound (weakOf body i)) (idMember (weakOf body i)))
+parentsThere v r body = all idLimit (λ y. not (isParent r body y) || held v (idRound y) (idMember y))
 
 -- a waiting record tried against these vertices: one of its id there drops it, and with all parents there it joins
 abbrev pub tryRecord : List (List ℕ) → List ℕ → Trial (List (List ℕ))

@@ -10,7 +10,7 @@ use lib.ListN.{length, getD, take, drop, length-drop}
 use lib.Seq.{getD-take, getD-drop, length-take-le}
 use borrow.Author.Tests.{eqb-true, eq-eqb, ne-eqb, ltb-true, ltb-false, lt-ltb, le-ltb, leb-true, le-leb, lt-leb}
 use Rattle.record.specs.Below.{all}
-use Rattle.record.specs.Members.{slots, legal}
+use Rattle.record.specs.Members.{legal}
 use Rattle.record.specs.Refusals.{numberOf}
 use Rattle.record.specs.Layout.{bodyPlace, roundOf, sourceOf, bodyOf}
 use Rattle.record.specs.Questions.{recordRefusal}

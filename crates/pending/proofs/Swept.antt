@@ -20,7 +20,7 @@ use Rattle.ordering.specs.Calls.{takeVertex}
 use Rattle.ordering.proofs.Copying.{paste-before, paste-after, paste-part}
 use Rattle.pending.specs.Layout.{bufferSize, bufferSlots, countPlace, slotAt}
 use Rattle.pending.specs.Buffer.{countOf, recordAt, recordsFrom, recordsIn, bufferOf}
-use Rattle.pending.specs.Passes.{Passed, pass, stays}
+use Rattle.pending.specs.Passes.{Passed, pass}
 use Rattle.pending.specs.Early.{tryVertex}
 use Rattle.pending.specs.Inner.{Sweeping, Swept, swept, sweepOne, both, released, releaseIn}
 use Rattle.pending.proofs.Slots.{Zeros, buffer-laid, slot-size, slot-same, records-end, records-at, records-all, records-more}

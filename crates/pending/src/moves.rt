@@ -63,7 +63,7 @@ pub fn has_id(buffer: &[u32], j: u32, rec: &[u32]) -> bool
     requires { ⌜ PlaceOf (now buffer) j (now rec) ⌝ }
     ensures { λ r. ⌜ r ≡ some (sameId (now (rec .entry))) (recordsIn (now (buffer .entry))) ⌝ }
 {
-    if buffer[COUNT] <= j {
+    if j >= buffer[COUNT] {
         return false;
     }
     let at = slot_at(j);

@@ -91,8 +91,8 @@ same-records l m e d = records-ext (recordsOf l) (recordsOf m) (λ r p. go r p (
 
 -- every call is taken
 all-taken : (i : Bool) → allTaken 4 (empty 4) (callsOf i) ≡ true
-unfolding callsOf vertexCalls firstOf early late allTaken taken vertexTaken parentsThere isParent pass passes recordsOf legal leader has within meets strongOf timeoutsOf
-    noVotesOf weakCountOf weakOf signerQuestions recordQuestions bufferOf wordsOf recordsFrom recordsOk restZero bufferOk
+unfolding callsOf vertexCalls firstOf early late allTaken taken vertexTaken parentsThere isParent pass passes recordsOf legal leader has within meets
+    strongOf timeoutsOf noVotesOf weakCountOf weakOf signerQuestions recordQuestions bufferOf wordsOf recordsFrom recordsOk restZero bufferOk
     firstNo isRound masksOk strongOk lacksLeader quorumIf timeoutsOk noVotesOk weakIdOk rises slotOk weakOk all any ones
 all-taken true = refl
 all-taken false = refl

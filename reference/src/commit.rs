@@ -34,14 +34,19 @@ impl ReplicaState {
 
     /// Whether a round above the committed one is committable (01: ready).
     fn is_committable(&self, round: u32) -> bool {
+        self.holds(self.group.leader_id(round)) && self.group.is_quorum(self.voters(round))
+    }
+
+    /// The members whose first message or held vertex of the next round votes for the round's leader
+    /// (02, request A6).
+    fn voters(&self, round: u32) -> u32 {
         let next = vertex_id(round + 1, 0)..vertex_id(round + 2, 0);
-        let voting = self
-            .vertices
+        self.vertices
             .range(next)
-            .filter(|(_, record)| record.votes(self.group));
-        self.holds(self.group.leader_id(round))
-            && (self.group.is_quorum(self.votes.get(round + 1))
-                || voting.count() >= self.group.quorum() as usize)
+            .filter(|(_, record)| record.votes(self.group))
+            .fold(self.votes.get(round + 1), |voters, (_, record)| {
+                voters | bit(record.source)
+            })
     }
 
     /// Commits a committable round.

@@ -90,12 +90,23 @@ impl Model {
 
     /// The highest round that is directly committed.
     fn last_round(&self, group: Group) -> Option<u32> {
-        let quorum = group.quorum() as usize;
         (1..=LAST_COMMITTABLE_ROUND).rev().find(|&round| {
             self.vertices.contains_key(&group.leader_id(round))
-                && (count_votes(&self.vertices, group, round) >= quorum
-                    || count_votes(&self.first_messages, group, round) >= quorum)
+                && self.voters(group, round).len() >= group.quorum() as usize
         })
+    }
+
+    /// The members with a vertex or a first message of the round after that has the round's leader in
+    /// its strong mask.
+    fn voters(&self, group: Group, round: u32) -> BTreeSet<u32> {
+        let leader = group.leader(round);
+        self.vertices
+            .values()
+            .chain(self.first_messages.values())
+            .filter(|record| record.round == round + 1)
+            .filter(|record| members(record.strong).any(|member| member == leader))
+            .map(|record| record.source)
+            .collect()
     }
 
     /// The leader vertices from the last directly committed one down to round 1, by rising round.
@@ -158,13 +169,4 @@ fn keep(records: &mut BTreeMap<u32, Record>, words: &[u32]) {
     if let Some(record) = Record::from_words(words) {
         records.insert(record.id(), record);
     }
-}
-
-/// How many of the records are of the round after and have the round's leader in the strong mask.
-fn count_votes(records: &BTreeMap<u32, Record>, group: Group, round: u32) -> usize {
-    let leader = group.leader(round);
-    let votes = |record: &&Record| {
-        record.round == round + 1 && members(record.strong).any(|member| member == leader)
-    };
-    records.values().filter(votes).count()
 }

@@ -1,7 +1,8 @@
 //! Simulated groups: after every call the state is well formed and its lists equal the model's, an
 //! admitted vertex leaves a current round of its own round or above, an admitted bundle of timeouts
-//! ends as single ones, a vertex with a pending buffer as plain vertices, and the lists of two
-//! replicas are prefixes of one another.
+//! ends as single ones, a vertex with a pending buffer as plain vertices, no round with a quorum of
+//! voters by either sighting is left to commit, and the lists of two replicas are prefixes of one
+//! another.
 
 mod common;
 
@@ -9,7 +10,7 @@ use std::collections::{BTreeMap, BTreeSet};
 
 use common::*;
 use reference::group::{has, Group};
-use reference::layout::{mask_place, CURRENT_ROUND, HELD, LAST_ROUND, N, TIMEOUTS};
+use reference::layout::*;
 use reference::model::Lists;
 use reference::record::Record;
 use reference::simulate::{simulate, Options, Run};
@@ -40,6 +41,10 @@ struct Seen {
     buffered: usize,
     released: usize,
     several_released: usize,
+    /// Calls that committed a round for which neither first messages nor vertices alone are a quorum,
+    /// and those for which there is none without members that are seen both ways and vote only once.
+    by_both: usize,
+    by_split: usize,
     /// States with every cell of the group held.
     full: usize,
 }
@@ -64,6 +69,7 @@ fn follow(calls: &[Call], against_model: bool, seen: &mut Seen) -> State {
             check_growth(call, &before, &state, answer);
             seen.several_leaders += usize::from(answer.leaders > 1);
             check_admitted(call, &before, &state, seen);
+            check_voters(call, &before, &state, seen);
             expected = model.lists();
         } else {
             assert_eq!(state, before, "{call:?}");
@@ -142,6 +148,34 @@ fn check_admitted(call: &Call, before: &State, after: &State, seen: &mut Seen) {
         Call::Timeouts(round, mask) => check_bundle((*round, *mask), before, after, seen),
         _ => {}
     }
+}
+
+/// After a vertex or a first message the committed round has a quorum of voters if it was raised, and
+/// no round above it has.
+fn check_voters(call: &Call, before: &State, after: &State, seen: &mut Seen) {
+    if call.record().is_none() {
+        return;
+    }
+    let group = Group::new(after[N]).expect("the size is legal");
+    let is_ready = |round: u32| {
+        let [heard, held] = sightings(after, round);
+        holds(after, group.leader_id(round)) && group.is_quorum(heard | held)
+    };
+    let last = after[COMMITTED_ROUND];
+    assert_eq!(
+        (last + 1..LAST_ROUND).find(|&q| is_ready(q)),
+        None,
+        "{call:?}"
+    );
+    if last == before[COMMITTED_ROUND] {
+        return;
+    }
+    assert!(is_ready(last), "{call:?}");
+    let [heard, held] = sightings(after, last);
+    let twice = after[mask_place(last + 1, HEARD)] & after[mask_place(last + 1, HELD)];
+    let split = twice & (heard ^ held);
+    seen.by_both += usize::from(!group.is_quorum(heard) && !group.is_quorum(held));
+    seen.by_split += usize::from(!group.is_quorum((heard | held) & !split));
 }
 
 /// An admitted bundle leaves the words that single timeouts of its new members leave.
@@ -272,6 +306,7 @@ fn typical_groups_commit_and_agree() {
     assert!(seen.skipped > 20, "{}", seen.skipped);
     assert!(seen.weak > 100, "{}", seen.weak);
     assert!(seen.by_certificate > 50, "{}", seen.by_certificate);
+    assert!(seen.by_both > 100, "{}", seen.by_both);
     check_bundles(&seen);
     check_buffers(&seen);
     let later = [16, 17, 19, 20];
@@ -303,6 +338,20 @@ fn check_bundles(seen: &Seen) {
     assert_eq!(seen.bundles, BTreeSet::from([0, 5, 7, 12]));
 }
 
+/// Many first messages are lost and faulty members vote by one record of two.
+#[test]
+fn groups_commit_by_either_sighting() {
+    let options = Options {
+        lost_messages: 50,
+        split_votes: 80,
+        ..Options::typical()
+    };
+    let seen = run_groups(&options, 0..3);
+    assert!(seen.by_both > 200, "{}", seen.by_both);
+    assert!(seen.by_split > 50, "{}", seen.by_split);
+    assert!(seen.committed > 500, "{}", seen.committed);
+}
+
 /// With short delays bundles come before the vertices that carry the same certificate.
 #[test]
 fn groups_with_bundles_go_on_by_them() {
@@ -312,7 +361,7 @@ fn groups_with_bundles_go_on_by_them() {
         spread: 40,
         ..Options::typical()
     };
-    let seen = run_groups(&options, 0..2);
+    let seen = run_groups(&options, 0..3);
     assert!(seen.by_bundle > 20, "{}", seen.by_bundle);
     assert!(seen.committed > 400, "{}", seen.committed);
     check_bundles(&seen);

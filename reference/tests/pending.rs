@@ -827,7 +827,7 @@ fn a_replica_with_plain_vertices_instead_ends_alike() {
     let mut released = 0;
     for n in LEGAL_SIZES {
         let options = Options {
-            rounds: 16,
+            rounds: 24,
             buffers: 100,
             ..Options::rough()
         };

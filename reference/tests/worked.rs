@@ -140,12 +140,13 @@ fn commit_by_vertices() {
     assert_eq!(committed(&state), 1);
 }
 
+/// As request A6 has it.
 #[test]
-fn votes_of_the_two_kinds_are_not_added() {
+fn commit_by_first_messages_and_a_vertex() {
     let mut state = state_s();
     firsts(&mut state, &[plain(2, 0, 7), plain(2, 1, 7)]);
     vertices(&mut state, &[plain(2, 2, 7)]);
-    assert_eq!(committed(&state), 0);
+    assert_eq!(lists(&state), (vec![16], vec![16]));
 }
 
 #[test]

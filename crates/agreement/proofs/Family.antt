@@ -7,7 +7,8 @@ use Prim.Native.Nat.{ℕ, suc, _-_}
 use native.Mathlib.Omega.{arith}
 use Rattle.record.specs.Members.{legal, leader, has}
 use Rattle.record.specs.Layout.{roundOf, bodyOf, noVotesOf}
-use Rattle.protocol.specs.Dag.{Dag, recordsOf, votes}
+use Rattle.record.proofs.Booleans.{or-cases}
+use Rattle.protocol.specs.Dag.{Dag, recordsOf, votes, voter}
 use Rattle.protocol.specs.Premises.{ValidVertices, DagPremises}
 use Rattle.protocol.proofs.Paths.{parent-present, no-vote-present}
 use Rattle.agreement.specs.Model.{Model, dagOf}
@@ -67,6 +68,17 @@ module _ (n : ℕ) (a b : Model) (honest : ℕ → Bool) where
         (ap₂ (λ (s : ℕ) (body : List ℕ). votes n s body) d (sym (x .body)) ∙ v)
         (ap₂ (λ (body : List ℕ) (s : ℕ). has (noVotesOf body) s) (sym (y .body)) (x .source) ∙ w)
 
+    -- so with the votes that make a voter
+    voter-both : (i j : Part n a b) (r p m : ℕ) → honest p ≡ true → voter n (partDag n a b i) r p ≡ true
+        → has (noVotesOf (recordsOf (j .model .vertices) (suc r) m)) p ≡ true → ⊥
+    unfolding voter
+    voter-both i j r p m e v w = ⊎-elim
+        (λ d. let x = find-in (i .model .vertices) (suc r) p (parent-present _ (leader n r) d) in
+        not-both i j r p m (i .model .vertices) x (inl (vertex-of i _ (x .there))) e d w)
+        (λ d. let x = find-in (i .model .firsts) (suc r) p (parent-present _ (leader n r) d) in
+        not-both i j r p m (i .model .firsts) x (inr (first-of i _ (x .there))) e d w)
+        (or-cases _ _ v)
+
     -- the premises of the safety theorem
     pub family : DagPremises n (partDag n a b) honest
     family = record {
@@ -83,10 +95,5 @@ module _ (n : ℕ) (a b : Model) (honest : ℕ → Bool) where
           let y = find-in (j .model .vertices) r p hj in
           x .body ∙ ap bodyOf (P .one-record (x .rec) (y .rec) (first-of i _ (x .there)) (vertex-of j _ (y .there))
           (record { round = x .round ∙ sym (y .round); source = x .source ∙ sym (y .source) }) (ap honest (x .source) ∙ e)) ∙ sym (y .body);
-      no-both = λ i j r p m e v w. ⊎-elim
-          (λ d. let x = find-in (i .model .vertices) (suc r) p (parent-present _ (leader n r) d) in
-          not-both i j r p m (i .model .vertices) x (inl (vertex-of i _ (x .there))) e d w)
-          (λ d. let x = find-in (i .model .firsts) (suc r) p (parent-present _ (leader n r) d) in
-          not-both i j r p m (i .model .firsts) x (inr (first-of i _ (x .there))) e d w)
-          v;
+      no-both = voter-both;
     }

@@ -91,7 +91,7 @@ same-records l m e d = records-ext (recordsOf l) (recordsOf m) (λ r p. go r p (
 
 -- every call is taken
 all-taken : (i : Bool) → allTaken 4 (empty 4) (callsOf i) ≡ true
-unfolding callsOf vertexCalls firstOf early late allTaken taken vertexTaken parentsThere isParent pass passes recordsOf legal leader has within meets
+unfolding callsOf vertexCalls vertexOf firstOf early late allTaken taken vertexTaken parentsThere isParent pass passes recordsOf legal leader has within meets
     strongOf timeoutsOf noVotesOf weakCountOf weakOf signerQuestions recordQuestions bufferOf wordsOf recordsFrom recordsOk restZero bufferOk
     firstNo isRound masksOk strongOk lacksLeader quorumIf timeoutsOk noVotesOk weakIdOk rises slotOk weakOk all any ones
 all-taken true = refl
@@ -110,7 +110,7 @@ made-vertices false = same-records (made false .vertices) (vertexOf false) refl 
 
 -- its first messages
 made-firsts : (i : Bool) → recordsOf (made i .firsts) ≡ recordsOf (firstOf i)
-unfolding made dry callsOf vertexCalls firstOf early late every agree same recordsOf
+unfolding made dry callsOf vertexCalls vertexOf firstOf early late every agree same recordsOf
 made-firsts true = same-records (made true .firsts) (firstOf true) refl refl
 made-firsts false = same-records (made false .firsts) (firstOf false) refl refl
 
@@ -150,17 +150,17 @@ both x y = eqb (roundOf x) (roundOf y) && (honest (sourceOf x) && (votes 4 (roun
 
 -- they are met
 vertices-one : pairs oneVertex allVertices allVertices ≡ true
-unfolding allVertices made dry callsOf vertexCalls firstOf early late pairs every oneVertex twin same
+unfolding allVertices made dry callsOf vertexCalls vertexOf firstOf early late pairs every oneVertex twin same
     pass passes bufferOf wordsOf recordsFrom recordsOf parentsThere isParent any has strongOf weakCountOf weakOf all
 vertices-one = refl
 
 records-one : pairs oneRecord allFirsts allVertices ≡ true
-unfolding allVertices allFirsts made dry callsOf vertexCalls firstOf early late pairs every oneRecord twin same
+unfolding allVertices allFirsts made dry callsOf vertexCalls vertexOf firstOf early late pairs every oneRecord twin same
     pass passes bufferOf wordsOf recordsFrom recordsOf parentsThere isParent any has strongOf weakCountOf weakOf all
 records-one = refl
 
 never-both : pairs (λ x y. not (both x y)) (allVertices ++ allFirsts) allVertices ≡ true
-unfolding allVertices allFirsts made dry callsOf vertexCalls firstOf early late pairs every both leader has strongOf noVotesOf
+unfolding allVertices allFirsts made dry callsOf vertexCalls vertexOf firstOf early late pairs every both leader has strongOf noVotesOf
     pass passes bufferOf wordsOf recordsFrom recordsOf parentsThere isParent any weakCountOf weakOf all
 never-both = refl
 

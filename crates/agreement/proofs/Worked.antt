@@ -19,7 +19,7 @@ use Rattle.record.specs.declared.refusal.Refusal.{Refusal}
 use Rattle.record.specs.declared.refusal.Refusal.the-variants.{None, MemberCount}
 use Rattle.record.proofs.Booleans.{and-both}
 use Rattle.record.proofs.Turn.{next, stop, done}
-use Rattle.protocol.specs.Dag.{committed}
+use Rattle.protocol.specs.Dag.{voter, committed}
 use Rattle.protocol.specs.Paths.{path, historyUpTo}
 use Rattle.protocol.specs.Chain.{chain, walk}
 use Rattle.replica.specs.Layout.{stateSize, watcher}
@@ -149,7 +149,7 @@ unfolding later rows computed shortAdmitted shortEnd shortSeen shortOf shortGive
     has within meets
     firstNo strongOf timeoutsOf noVotesOf weakCountOf weakOf isRound masksOk strongOk lacksLeader quorumIf timeoutsOk noVotesOk weakIdOk rises
     slotOk weakOk signerQuestions recordQuestions
-    all any count select least committed path historyUpTo chain walk vertices firsts isParent missing parentsHeld passable
+    all any count select least voter committed path historyUpTo chain walk vertices firsts isParent missing parentsHeld passable
     highestPassable raiseRound appendLeader appendLeaders enter enterAll orderLeader orderLeaders line listed byList commitBy shortCommits
     committable addMember addMembers sameBody putVertex carryTimeouts hear isNew ones onesIn
 ends = refl

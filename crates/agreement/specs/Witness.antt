@@ -3,7 +3,7 @@ use mathlib.Core.Path.{_≡_}
 use mathlib.Core.Bool.{Bool, true, false}
 use mathlib.Core.List.{List, [], _∷_, _++_, map}
 use Prim.Native.Nat.{ℕ}
-use Rattle.protocol.specs.Witness.{plain, early, late, firstOf, witnessDag, honest}
+use Rattle.protocol.specs.Witness.{plain, early, late, vertexOf, firstOf, witnessDag, honest}
 use Rattle.replica.specs.Layout.{watcher}
 use Rattle.replica.specs.Opening.{opened, openState}
 use lib.ListN.{drop}
@@ -20,7 +20,7 @@ start = openState (opened 4 watcher) 4 watcher .words
 -- The vertices. To the second state they come one by one; of the first state's, one comes with a buffer in which nine others wait for it.
 unfoldable pub vertexCalls : Bool → List Call
 vertexCalls true = vertexWith (bufferOf (drop 1 early)) (plain 1 0 0 0 0) ∷ map vertex late
-vertexCalls false = map vertex early
+vertexCalls false = map vertex (vertexOf false)
 
 -- all vertices, then the first messages, with calls between them that admit no record
 unfoldable pub callsOf : Bool → List Call
@@ -39,7 +39,7 @@ pub record Witness : Type 0 where
   pub allowed-calls : (i : Bool) → allAllowed (callsOf i) ≡ true
   pub premises : Premises 4 (modelFor true) (modelFor false) honest
   -- All records were admitted: the models hold what the protocol's witness does. There the leaders of rounds 1 and 2 are skipped, the latter with a
-  -- no-vote certificate; the first DAG commits rounds 3 and 4 by vertices, the second round 3 by first messages alone.
+  -- no-vote certificate; the first DAG commits rounds 3 and 4 by vertices, the second round 3 by two first messages and a third member's vertex.
   pub same-dag : (i : Bool) → dagOf (modelFor i) ≡ witnessDag i
   -- what the claim gives, and that it is not about empty lists
   pub agreed : Agreed (run start (callsOf true)) (run start (callsOf false)) (modelFor true) (modelFor false)

@@ -80,6 +80,10 @@ vt r p strong timeouts = vertex (rec r p strong timeouts 0 0)
 abbrev pub vtn : ℕ → ℕ → ℕ → ℕ → ℕ → Call
 vtn r p strong timeouts noVotes = vertex (rec r p strong timeouts noVotes 0)
 
+-- a first message with timeouts
+abbrev pub ft : ℕ → ℕ → ℕ → ℕ → Call
+ft r p strong timeouts = firstMessage (rec r p strong timeouts 0 0)
+
 -- a vertex of round 1, with its tag
 abbrev pub v1 : ℕ → ℕ → Call
 v1 p tag = vertex (rec 1 p 0 0 0 tag)
@@ -148,8 +152,8 @@ rows =
     -- S, vertices 2/0 and 2/1, strong 7: committed 0. Then 2/2, strong 7: committed 1.
     ∷ row (s ++ v 2 0 7 ∷ []) (v 2 1 7) 0 0 2 0 [] []
     ∷ row (s ++ v 2 0 7 ∷ v 2 1 7 ∷ []) (v 2 2 7) 0 0 3 1 (16 ∷ []) (16 ∷ [])
-    -- S, first messages 2/0 and 2/1, vertex 2/2, all strong 7: committed 0.
-    ∷ row (s ++ f 2 0 7 ∷ f 2 1 7 ∷ []) (v 2 2 7) 0 0 2 0 [] []
+    -- S, first messages 2/0 and 2/1, vertex 2/2, all strong 7: leaders 16, journal 16, as request A6 has it.
+    ∷ row (s ++ f 2 0 7 ∷ f 2 1 7 ∷ []) (v 2 2 7) 0 0 2 1 (16 ∷ []) (16 ∷ [])
     -- S, vertices 1/3; 2/0 and 2/1, strong 7; 2/3, strong 14, timeouts 7; first messages 3/0, 3/1, 3/2, strong 11:
     -- leaders 16 33, journal 16 17 18 33.
     ∷ row (s ++ v1 3 13 ∷ v 2 0 7 ∷ v 2 1 7 ∷ vt 2 3 14 7 ∷ f 3 0 11 ∷ f 3 1 11 ∷ []) (f 3 2 11) 0 0 3 2 (16 ∷ 33 ∷ []) (16 ∷ 17 ∷ 18 ∷ 33 ∷ [])
@@ -192,6 +196,15 @@ rows =
     -- committed, and 3/1 waits for 2/3.
     ∷ giving s (vertexWith (bufferOf (early 0 ∷ early 1 ∷ early 2 ∷ rec 3 0 7 0 0 0 ∷ rec 3 1 15 0 0 0 ∷ [])) (rec 1 3 0 0 0 13)) 0 0
     (buffered (bufferOf (rec 3 1 15 0 0 0 ∷ []))) 3 1 (16 ∷ []) (16 ∷ [])
+    -- Request A6. S, first messages 2/0 and 2/1, vertex 2/1, all strong 7: committed 0, for member 1 counts once. Then vertex 2/2, strong 7: committed 1.
+    ∷ row (s ++ f 2 0 7 ∷ f 2 1 7 ∷ []) (v 2 1 7) 0 0 2 0 [] []
+    ∷ row (s ++ f 2 0 7 ∷ f 2 1 7 ∷ v 2 1 7 ∷ []) (v 2 2 7) 0 0 2 1 (16 ∷ []) (16 ∷ [])
+    -- S, first messages 2/0, strong 14, timeouts 7, and 2/1, 2/2, strong 7: committed 0. Then vertex 2/0, strong 7: committed 1.
+    ∷ row (s ++ ft 2 0 14 7 ∷ f 2 1 7 ∷ []) (f 2 2 7) 0 0 2 0 [] []
+    ∷ row (s ++ ft 2 0 14 7 ∷ f 2 1 7 ∷ f 2 2 7 ∷ []) (v 2 0 7) 0 0 2 1 (16 ∷ []) (16 ∷ [])
+    -- S, vertex 1/3, first message 2/0, strong 7, vertices 2/0, strong 14, timeouts 7, and 2/2, strong 7: committed 0. Then 2/3, strong 7: committed 1.
+    ∷ row (s ++ v1 3 13 ∷ f 2 0 7 ∷ vt 2 0 14 7 ∷ []) (v 2 2 7) 0 0 2 0 [] []
+    ∷ row (s ++ v1 3 13 ∷ f 2 0 7 ∷ vt 2 0 14 7 ∷ v 2 2 7 ∷ []) (v 2 3 7) 0 0 2 1 (16 ∷ []) (16 ∷ [])
     ∷ []
 
 -- THE CLAIM: every row of the table passes.

@@ -6,5 +6,6 @@ pub mod Entering
 pub mod Committing
 pub mod Repeating
 pub mod Ground
+pub mod Claims
 pub mod Frames
 pub mod Growing

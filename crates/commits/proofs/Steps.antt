@@ -225,20 +225,15 @@ pub not-led : (n : ℕ) (d : Dag) (q : ℕ) → held (d .vertex) q (leader n q) 
 unfolding committed
 not-led n d q e = sym (and-fails-left _ e)
 
-pub by-messages : (n : ℕ) (d : Dag) (q : ℕ) → held (d .vertex) q (leader n q) ≡ true → enough n (λ p. votes n q (d .first (suc q) p)) ≡ true
-    → true ≡ committed n d q
+-- the mask of the voters of a state meets the quorum exactly if the round of the held leader is committed
+pub by-voters : (l : List ℕ) → Standing l → (n q : ℕ) (m : Members) → n ≡ memberCount l → 1 ≤ q → q ≤ votedRounds
+    → m .bits ≡ voters n (vertices l) q (votesMask l (q + 1)) n → held (vertices l) q (leader n q) ≡ true → meets n (m .bits) ≡ committed n (dag l) q
 unfolding committed
-by-messages n d q e h = sym (and-both e (or-right (enough n (λ p. votes n q (d .vertex (suc q) p))) h))
-
-pub by-vertices : (n : ℕ) (d : Dag) (q : ℕ) → held (d .vertex) q (leader n q) ≡ true → enough n (λ p. votes n q (d .first (suc q) p)) ≡ false
-    → enough n (λ p. votes n q (d .vertex (suc q) p)) ≡ committed n d q
-unfolding committed
-by-vertices n d q e h = rw (e, h) (sym (or-false (enough n (λ p. votes n q (d .vertex (suc q) p)))))
-
--- so by the mask of the voters
-pub by-voters : (n : ℕ) (d : Dag) (q : ℕ) (m : Members) → m .bits ≡ voters n (d .vertex) q n
-    → held (d .vertex) q (leader n q) ≡ true → enough n (λ p. votes n q (d .first (suc q) p)) ≡ false → meets n (m .bits) ≡ committed n d q
-by-voters n d q m e led none = rw e (voters-claim n (d .vertex) q ∙ by-vertices n d q led none)
+by-voters l S n q m e low high d h =
+    ap (meets n) (d ∙ ap (λ (r : ℕ). voters n (vertices l) q (votesMask l r) n) (add-one q))
+    ∙ voters-claim n (dag l) q (votesMask l (suc q)) (rw (sym e) at (S .votes-low (suc q) (omega arith) (omega arith)))
+    (λ p k. sym (first-votes l S n q p e low high))
+    ∙ rw h
 
 -- ---- the lowest committable round
 
@@ -250,11 +245,14 @@ pub committable-low : (l : List ℕ) (q : ℕ) → q ≤ committedRound l → co
 unfolding committable
 committable-low l q h = and-fails-left _ (le-ltb (committedRound l) q h)
 
--- the mask has the voters below p among the vertices of round q + 1
+-- the mask has the voters by first messages, and those below p by vertices of round q + 1
 abbrev pub Voters : List ℕ → ℕ → ℕ → ℕ → Members → Type 0
-Voters l n q p m = m .bits ≡ voters n (vertices l) q p
+Voters l n q p m = m .bits ≡ voters n (vertices l) q (votesMask l (q + 1)) p
 
 module _ (l : List ℕ) (n q p at : ℕ) (C : Cell l (q + 1) p at) where
+  abbrev first : ℕ
+  first = votesMask l (q + 1)
+
   -- a vertex votes exactly if the strong mask in its cell has the leader
   vertex-vote : has (getD l (at + strongPlace) 0) (leader n q) ≡ votes n q (vertices l (suc q) p)
   vertex-vote = rw (← add-one q) (ap (λ (x : ℕ). has x (leader n q)) (C .strong))
@@ -262,7 +260,8 @@ module _ (l : List ℕ) (n q p at : ℕ) (C : Cell l (q + 1) p at) where
   -- so the mask of the voters below p becomes that of the voters below p + 1
   pub voter-in : (m o : Members) → Voters l n q p m → has (getD l (at + strongPlace) 0) (leader n q) ≡ true → o ≡ with m p → Voters l n q (p + 1) o
   voter-in m o w h e =
-      rw e (ap (λ (x : ℕ). add x p) w ∙ sym (voters-in n (vertices l) q p (sym vertex-vote ∙ h)) ∙ ap (voters n (vertices l) q) (sym (add-one p)))
+      rw e (ap (λ (x : ℕ). add x p) w ∙ sym (voters-in n (vertices l) q first p (sym vertex-vote ∙ h)) ∙ ap (voters n (vertices l) q first) (sym (add-one p)))
 
   pub voter-out : (m o : Members) → Voters l n q p m → has (getD l (at + strongPlace) 0) (leader n q) ≡ false → o ≡ m → Voters l n q (p + 1) o
-  voter-out m o w h e = rw e (w ∙ sym (voters-out n (vertices l) q p (sym vertex-vote ∙ h)) ∙ ap (voters n (vertices l) q) (sym (add-one p)))
+  voter-out m o w h e =
+      rw e (w ∙ sym (voters-out n (vertices l) q first p (sym vertex-vote ∙ h)) ∙ ap (voters n (vertices l) q first) (sym (add-one p)))

@@ -1,2 +1,3 @@
 pub mod Commit
+pub mod Claims
 pub mod Standing

@@ -1,7 +1,7 @@
 // The commits: which rounds are committable, and what committing one writes.
 ghost use mathlib.Core.Path.{_≡_};
 ghost use mathlib.Core.Bool.{true, false};
-ghost use Prim.Native.Nat.{_<_, _≤_};
+ghost use Prim.Native.Nat.{_+_, _<_, _≤_};
 ghost use lib.ListN.{length};
 ghost use Rattle.record.specs.Below.{count, select};
 ghost use Rattle.record.specs.Members.{leader, has, rounds, slots, votedRounds, idLimit};
@@ -9,7 +9,7 @@ ghost use Rattle.record.specs.Handed.{QuorumOf};
 ghost use Rattle.protocol.specs.Dag.{committed};
 ghost use Rattle.protocol.specs.Masks.{voters};
 ghost use Rattle.replica.specs.Layout.{stateSize, journalSize};
-ghost use Rattle.replica.specs.State.{memberCount, committedRound, journalCount, vertices, dag};
+ghost use Rattle.replica.specs.State.{memberCount, committedRound, journalCount, votesMask, vertices, dag};
 ghost use Rattle.commits.specs.Commit.{appendLeader, appendLeaders, enter, orderLeader, orderLeaders, commit, lowest, commitAll};
 ghost use Rattle.commits.specs.Standing.{Standing, Room, LeaderRoom, LeaderReady, LeadersReady, Going, Next, orderId, orderRound};
 use super::history::history_of;
@@ -35,12 +35,14 @@ use replica::masks::add_member;
 use replica::masks::is_marked;
 use replica::masks::mask_of;
 
-// The members whose vertices of round q + 1 vote for the leader of round q.
-fn vertex_voters(state: &[u32], n: u32, q: u32, voted: u32) -> Members
+// The voters for the leader of round q: the members whose first messages of round q + 1 name it, and those whose vertices do.
+fn voters_for(state: &[u32], n: u32, q: u32, voted: u32) -> Members
     requires { ⌜ Standing (now state) × (n ≡ memberCount (now state)) × (q ≤ votedRounds) × (voted ≡ leader n q) ⌝ }
-    ensures { λ r. ⌜ r .bits ≡ voters n (vertices (now (state .entry))) q n ⌝ }
+    ensures { λ r. ⌜ r .bits ≡ voters n (vertices (now (state .entry))) q (votesMask (now (state .entry)) (q + 1)) n ⌝ }
 {
-    let mut voters = Members { bits: 0 };
+    let mut voters = Members {
+        bits: mask_of(state, VOTES, q + 1),
+    };
     let mut p: u32 = 0;
     while p < n {
         let at = cell_at(q + 1, p);
@@ -52,7 +54,7 @@ fn vertex_voters(state: &[u32], n: u32, q: u32, voted: u32) -> Members
     voters
 }
 
-// Round q is committed directly: its leader's vertex is held, and a quorum of first messages or of vertices votes for it.
+// Round q is committed directly: its leader's vertex is held, and it has a quorum of voters.
 fn is_committed(state: &[u32], n: u32, quorum: u32, q: u32) -> bool
     requires { ⌜ Standing (now state) × (n ≡ memberCount (now state)) × QuorumOf n quorum × (1 ≤ q) × (q ≤ votedRounds) ⌝ }
     ensures { λ r. ⌜ r ≡ committed n (dag (now (state .entry))) q ⌝ }
@@ -61,13 +63,7 @@ fn is_committed(state: &[u32], n: u32, quorum: u32, q: u32) -> bool
     if !has_bit(mask_of(state, HELD, q), leader) {
         return false;
     }
-    let votes = Members {
-        bits: mask_of(state, VOTES, q + 1),
-    };
-    if votes.meets_quorum(quorum) {
-        return true;
-    }
-    let voters = vertex_voters(state, n, q, leader);
+    let voters = voters_for(state, n, q, leader);
     voters.meets_quorum(quorum)
 }
 

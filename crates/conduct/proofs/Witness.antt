@@ -14,7 +14,7 @@ use Rattle.record.specs.Layout.{strongOf, timeoutsOf, noVotesOf, weakCountOf, w
 use Rattle.record.specs.Questions.{masksOk, strongOk, lacksLeader, quorumIf, timeoutsOk, noVotesOk, weakIdOk, rises, slotOk, weakOk}
 use Rattle.record.specs.Questions.{signerQuestions, recordQuestions}
 use Rattle.record.proofs.Booleans.{which, cond-true, cond-false}
-use Rattle.protocol.specs.Dag.{committed}
+use Rattle.protocol.specs.Dag.{voter, committed}
 use Rattle.protocol.specs.Paths.{path, historyUpTo}
 use Rattle.protocol.specs.Chain.{chain, walk}
 use Rattle.replica.specs.State.{vertices, firsts, addMember, addMembers}
@@ -163,7 +163,7 @@ unfolding both shortRecords shortRounds shortRecord shortRound calls shortOf sho
     legal leader has within meets
     firstNo strongOf timeoutsOf noVotesOf weakCountOf weakOf isRound masksOk strongOk lacksLeader quorumIf timeoutsOk noVotesOk weakIdOk rises
     slotOk weakOk signerQuestions recordQuestions
-    all any count select least committed path historyUpTo chain walk vertices firsts isParent missing parentsHeld passable
+    all any count select least voter committed path historyUpTo chain walk vertices firsts isParent missing parentsHeld passable
     highestPassable raiseRound appendLeader appendLeaders enter enterAll orderLeader orderLeaders line listed byList commitBy shortCommits
     committable addMember addMembers sameBody putVertex carryTimeouts isNew ones onesIn
     marksRound markRound parentsIn madeStrong madeTimeouts madeNoVotes isUnreached madeRecord makingQuestions maySign putOwnNoVote

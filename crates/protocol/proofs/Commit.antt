@@ -11,7 +11,7 @@ use Rattle.record.specs.Below.{count}
 use Rattle.record.specs.Members.{quorum, leader, votedRounds}
 use Rattle.record.proofs.Booleans.{which, never, and-left, and-right, and-both, or-cases, or-left, or-right, cond-cong}
 use Rattle.record.proofs.Below.{count-mono, count-cong}
-use Rattle.protocol.specs.Dag.{Dag, present, held, votes, enough, committed, lastUpTo, last}
+use Rattle.protocol.specs.Dag.{Dag, present, held, votes, voter, enough, committed, lastUpTo, last}
 use Rattle.protocol.specs.Claims.{Settled}
 use Rattle.protocol.proofs.Paths.{parent-present}
 
@@ -72,12 +72,23 @@ pub record Within (d e : Dag) : Type 0 where
 enough-more : (n : ℕ) (s t : ℕ → Bool) → ((p : ℕ) → s p ≡ true → t p ≡ true) → enough n s ≡ true → enough n t ≡ true
 enough-more n s t h e = le-leb (quorum n) (count n t) (omega (arith, leb-true (quorum n) (count n s) e, count-mono n s t h))
 
-module _ (n : ℕ) (d e : Dag) (W : Within d e) where
-  vertex-votes : (q p : ℕ) → votes n q (d .vertex (suc q) p) ≡ true → votes n q (e .vertex (suc q) p) ≡ true
-  vertex-votes q p v = rw (W .vertices (suc q) p (parent-present _ (leader n q) v)) at v
+-- a quorum of vertices alone, or of first messages alone, commits a round whose leader's vertex is there
+pub either-alone : (n : ℕ) (d : Dag) (r : ℕ) → held (d .vertex) r (leader n r) ≡ true
+    → (enough n (λ p. votes n r (d .first (suc r) p)) ≡ true) ⊎ (enough n (λ p. votes n r (d .vertex (suc r) p)) ≡ true) → committed n d r ≡ true
+unfolding committed voter
+either-alone n d r h e = and-both h (⊎-elim
+    (λ x. enough-more n _ _ (λ p v. or-right (votes n r (d .vertex (suc r) p)) v) x)
+    (λ x. enough-more n _ _ (λ p v. or-left _ v) x)
+    e)
 
-  first-votes : (q p : ℕ) → votes n q (d .first (suc q) p) ≡ true → votes n q (e .first (suc q) p) ≡ true
-  first-votes q p v = rw (W .firsts (suc q) p (parent-present _ (leader n q) v)) at v
+module _ (n : ℕ) (d e : Dag) (W : Within d e) where
+  -- voters stay voters
+  voter-stays : (q p : ℕ) → voter n d q p ≡ true → voter n e q p ≡ true
+  unfolding voter
+  voter-stays q p v = ⊎-elim {A = votes n q (d .vertex (suc q) p) ≡ true} {B = votes n q (d .first (suc q) p) ≡ true}
+      (λ x. or-left _ (rw (W .vertices (suc q) p (parent-present _ (leader n q) x)) at x))
+      (λ x. or-right (votes n q (e .vertex (suc q) p)) (rw (W .firsts (suc q) p (parent-present _ (leader n q) x)) at x))
+      (or-cases _ _ v)
 
   -- committed rounds stay committed
   pub committed-stays : (q : ℕ) → committed n d q ≡ true → committed n e q ≡ true
@@ -85,10 +96,7 @@ module _ (n : ℕ) (d e : Dag) (W : Within d e) where
   committed-stays q c =
       let h : held (d .vertex) q (leader n q) ≡ true = and-left (held (d .vertex) q (leader n q)) _ c in
       and-both (rw (W .vertices q (leader n q) h) at h)
-      (⊎-elim
-      (λ x. or-left _ (enough-more n _ _ (vertex-votes q) x))
-      (λ x. or-right (enough n (λ p. votes n q (e .vertex (suc q) p))) (enough-more n _ _ (first-votes q) x))
-      (or-cases _ _ (and-right (held (d .vertex) q (leader n q)) _ c)))
+      (enough-more n (voter n d q) (voter n e q) (voter-stays q) (and-right (held (d .vertex) q (leader n q)) _ c))
 
 -- ---- two DAGs with the same vertices, and the same votes of first messages
 
@@ -96,9 +104,9 @@ module _ (n : ℕ) (d e : Dag) (same : (r p : ℕ) → d .vertex r p ≡ e .vert
     (alike : (r p : ℕ) → votes n r (d .first (suc r) p) ≡ votes n r (e .first (suc r) p)) where
   -- they commit the same rounds
   pub committed-cong : (q : ℕ) → committed n d q ≡ committed n e q
-  unfolding committed
+  unfolding committed voter
   committed-cong q = ap₂ _&&_ (ap present (same q (leader n q)))
-      (ap₂ _||_ (ap (leb (quorum n)) (count-cong n _ _ (λ p l. ap (votes n q) (same (suc q) p)))) (ap (leb (quorum n)) (count-cong n _ _ (λ p l. alike q p))))
+      (ap (leb (quorum n)) (count-cong n _ _ (λ p l. ap₂ _||_ (ap (votes n q) (same (suc q) p)) (alike q p))))
 
   -- and have the same last one
   pub up-to-cong : (k : ℕ) → lastUpTo n d k ≡ lastUpTo n e k

@@ -15,9 +15,9 @@ use Rattle.record.specs.Layout.{strongOf, noVotesOf, weakCountOf}
 use Rattle.record.proofs.Booleans.{which, never, and-left, and-right, and-both, or-cases, and-cong}
 use Rattle.record.proofs.Below.{any-intro, any-elim, any-cong, count-pos, meet}
 use Rattle.record.proofs.Masks.{legal-range, leader-lt, has-zero}
-use Rattle.protocol.specs.Dag.{Records, Dag, present, held, votes, committed}
+use Rattle.protocol.specs.Dag.{Records, Dag, present, held, votes, voter, committed}
 use Rattle.protocol.specs.Paths.{path, linked}
-use Rattle.protocol.specs.Premises.{ValidVertices, Voter, DagPremises}
+use Rattle.protocol.specs.Premises.{ValidVertices, DagPremises}
 use Rattle.protocol.specs.Claims.{KeyLemma}
 
 -- a body with a parent, a no-vote or a weak id is there
@@ -95,21 +95,19 @@ module _ (n : ℕ) {I : Type 0} (dag : I → Dag) (honest : ℕ → Bool) (P : D
   leader-low : (r : ℕ) → leader n r < n
   leader-low r = leader-lt n r (omega (arith, legal-range n (P .members) .low))
 
-  -- the voters of a committed round: a quorum, each with a vertex or a first message that votes
-  voters : (i : I) (q : ℕ) → committed n (dag i) q ≡ true
-      → (s : ℕ → Bool) × (quorum n ≤ count n s) × ((p : ℕ) → s p ≡ true → Voter n (dag i) q p)
+  -- the voters of a committed round are a quorum
+  voters : (i : I) (q : ℕ) → committed n (dag i) q ≡ true → quorum n ≤ count n (voter n (dag i) q)
   unfolding committed
-  voters i q c =
-      ⊎-elim
-      (λ h. ((λ p. votes n q (dag i .vertex (suc q) p)), leb-true _ _ h, λ p e. inl e))
-      (λ h. ((λ p. votes n q (dag i .first (suc q) p)), leb-true _ _ h, λ p e. inr e))
-      (or-cases _ _ (and-right (held (dag i .vertex) q (leader n q)) _ c))
+  voters i q c = leb-true _ _ (and-right (held (dag i .vertex) q (leader n q)) _ c)
 
   -- an honest voter's vertex, in any DAG that holds it, votes
   voter-votes : (i j : I) (q p : ℕ) → honest p ≡ true → held (dag j .vertex) (suc q) p ≡ true
-      → Voter n (dag i) q p → votes n q (dag j .vertex (suc q) p) ≡ true
-  voter-votes i j q p hp hj (inl e) = rw (P .one-vertex i j (suc q) p (parent-present _ (leader n q) e) hj) at e
-  voter-votes i j q p hp hj (inr e) = rw (P .one-record i j (suc q) p hp (parent-present _ (leader n q) e) hj) at e
+      → voter n (dag i) q p ≡ true → votes n q (dag j .vertex (suc q) p) ≡ true
+  unfolding voter
+  voter-votes i j q p hp hj v = ⊎-elim {A = votes n q (dag i .vertex (suc q) p) ≡ true} {B = votes n q (dag i .first (suc q) p) ≡ true}
+      (λ e. rw (P .one-vertex i j (suc q) p (parent-present _ (leader n q) e) hj) at e)
+      (λ e. rw (P .one-record i j (suc q) p hp (parent-present _ (leader n q) e) hj) at e)
+      (or-cases _ _ v)
 
   -- the next leader's vertex has an edge to a committed leader's vertex: its no-vote certificate would meet the voters
   next : (i j : I) (q : ℕ) → zero < q → committed n (dag i) q ≡ true → held (dag j .vertex) (suc q) (leader n (suc q)) ≡ true
@@ -121,21 +119,19 @@ module _ (n : ℕ) {I : Type 0} (dag : I → Dag) (honest : ℕ → Bool) (P : D
           → has (strongOf (dag j .vertex (suc q) (leader n (suc q)))) (leader n q) ≡ true
       go (inl e) = e
       go (inr e) =
-          let v = voters i q c in
           let a = P .well-formed j .admitted (suc q) (leader n (suc q)) h in
-          let w = honest-meet (v .0) (has (noVotesOf (dag j .vertex (suc q) (leader n (suc q))))) (v .1) (a .no-vote-quorum (omega arith)
+          let w = honest-meet (voter n (dag i) q) (has (noVotesOf (dag j .vertex (suc q) (leader n (suc q))))) (voters i q c) (a .no-vote-quorum (omega arith)
           (simp unary-clauses e) refl) in
-          absurd (P .no-both i j q (w .0) (leader n (suc q)) (w .4) (v .2 (w .0) (w .2)) (w .3))
+          absurd (P .no-both i j q (w .0) (leader n (suc q)) (w .4) (w .2) (w .3))
 
   -- every vertex two rounds above a committed leader has a path to it
   two : (i j : I) (q p : ℕ) → zero < q → committed n (dag i) q ≡ true → held (dag j .vertex) (suc (suc q)) p ≡ true
       → path n (dag j .vertex) (suc (suc q)) p q (leader n q) ≡ true
   two i j q p l c h =
       let W = P .well-formed j in
-      let v = voters i q c in
-      let w = honest-meet (v .0) (has (strongOf (dag j .vertex (suc (suc q)) p))) (v .1) (W .admitted (suc (suc q)) p h .strong-later (omega arith)) in
+      let w = honest-meet (voter n (dag i) q) (has (strongOf (dag j .vertex (suc (suc q)) p))) (voters i q c) (W .admitted (suc (suc q)) p h .strong-later (omega arith)) in
       let e : votes n q (dag j .vertex (suc q) (w .0)) ≡ true = voter-votes i j q (w .0) (w .4) (parent-held n _ W (suc q) p (w .0) (w .3))
-      (v .2 (w .0) (w .2)) in
+      (w .2) in
       path-edge n (dag j .vertex) (suc q) p (w .0) q (leader n q) (omega arith) (w .1) (w .3)
       (path-edge n (dag j .vertex) q (w .0) (leader n q) q (leader n q) (omega arith) (leader-low q) e
       (path-self n (dag j .vertex) q (leader n q) l (parent-held n _ W q (w .0) (leader n q) e)))

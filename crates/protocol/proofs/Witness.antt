@@ -16,11 +16,11 @@ use Rattle.record.specs.Admitted.{Admitted}
 use Rattle.record.proofs.Booleans.{which, never, and-left, and-right, and-both, or-left, or-right, imp, imp-elim}
 use Rattle.record.proofs.Below.{all-elim}
 use Rattle.record.proofs.Masks.{has-bound}
-use Rattle.protocol.specs.Dag.{recordsOf, present, held, votes, committed, lastUpTo, last}
+use Rattle.protocol.specs.Dag.{recordsOf, present, held, voter, committed, lastUpTo, last}
 use Rattle.protocol.specs.Paths.{path}
 use Rattle.protocol.specs.Chain.{walk, chain}
 use Rattle.protocol.specs.Journal.{among, fresh, extend}
-use Rattle.protocol.specs.Premises.{ValidVertices, Voter}
+use Rattle.protocol.specs.Premises.{ValidVertices}
 use Rattle.protocol.specs.Masks.{join, joinWeak, joinParents, joinRound, fill, reachMasks}
 use Rattle.protocol.specs.Witness.{early, late, firstOf, vertexOf, witnessDag, honest, DagWitness}
 use Rattle.protocol.proofs.Paths.{parent-present, no-vote-present, weak-present}
@@ -46,17 +46,6 @@ every-found t (x ∷ l) e r p h = go (which (eqb (roundOf x) r && eqb (sourceOf 
     go (inl d) ih =
         rw (d, ← eqb-true (roundOf x) r (and-left _ _ d), ← eqb-true (sourceOf x) p (and-right (eqb (roundOf x) r) _ d))
         (and-left (t (roundOf x) (sourceOf x) (bodyOf x)) _ e)
-    go (inr d) ih = rw d (ih (rw d at h))
-
--- what is found in a list is found in a longer one
-found-longer : (l m : List (List ℕ)) (r p : ℕ) → present (recordsOf l r p) ≡ true → recordsOf (l ++ m) r p ≡ recordsOf l r p
-unfolding recordsOf
-found-longer [] m r p h = absurd (false≢true h)
-found-longer (x ∷ l) m r p h = go (which (eqb (roundOf x) r && eqb (sourceOf x) p)) (found-longer l m r p)
-  where
-    go : ((eqb (roundOf x) r && eqb (sourceOf x) p) ≡ true) ⊎ ((eqb (roundOf x) r && eqb (sourceOf x) p) ≡ false)
-        → (present (recordsOf l r p) ≡ true → recordsOf (l ++ m) r p ≡ recordsOf l r p) → recordsOf (x ∷ (l ++ m)) r p ≡ recordsOf (x ∷ l) r p
-    go (inl d) ih = rw d
     go (inr d) ih = rw d (ih (rw d at h))
 
 -- ---- admitted records of four members with at most one weak id
@@ -169,20 +158,32 @@ unfolding witnessDag recordsOf early late vertexOf every kept both fits quorumIn
 formed true = kept-formed (vertexOf true) refl
 formed false = kept-formed (vertexOf false) refl
 
+-- the body is that of the vertex of its round and member, if there is one
+shared : Bool → ℕ → ℕ → List ℕ → Bool
+shared j r p b = imp (held (witnessDag j .vertex) r p) (same b (witnessDag j .vertex r p))
+
+shared-same : (j : Bool) (r p : ℕ) (b : List ℕ) → shared j r p b ≡ true → held (witnessDag j .vertex) r p ≡ true → b ≡ witnessDag j .vertex r p
+unfolding shared
+shared-same j r p b e h = same-eq _ _ (imp-elim (held (witnessDag j .vertex) r p) _ e h)
+
+all-shared : (i j : Bool) → every (shared j) (vertexOf i) ≡ true
+unfolding witnessDag recordsOf early late vertexOf every shared same
+all-shared true true = refl
+all-shared true false = refl
+all-shared false true = refl
+all-shared false false = refl
+
 one-vertex : (i j : Bool) (r p : ℕ) → held (witnessDag i .vertex) r p ≡ true → held (witnessDag j .vertex) r p ≡ true
     → witnessDag i .vertex r p ≡ witnessDag j .vertex r p
-unfolding witnessDag vertexOf
-one-vertex true true r p h k = refl
-one-vertex true false r p h k = found-longer early late r p k
-one-vertex false true r p h k = sym (found-longer early late r p h)
-one-vertex false false r p h k = refl
+unfolding witnessDag
+one-vertex i j r p h = shared-same j r p _ (every-found (shared j) (vertexOf i) (all-shared i j) r p h)
 
 -- a first message of an honest member is its vertex
 told : Bool → ℕ → ℕ → List ℕ → Bool
-told j r p b = imp (honest p) (imp (held (witnessDag j .vertex) r p) (same b (witnessDag j .vertex r p)))
+told j r p b = imp (honest p) (shared j r p b)
 
 all-told : (i j : Bool) → every (told j) (firstOf i) ≡ true
-unfolding witnessDag recordsOf early late firstOf vertexOf every told same
+unfolding witnessDag recordsOf early late firstOf vertexOf every told shared same
 all-told true true = refl
 all-told true false = refl
 all-told false true = refl
@@ -191,43 +192,37 @@ all-told false false = refl
 one-record : (i j : Bool) (r p : ℕ) → honest p ≡ true → present (witnessDag i .first r p) ≡ true → held (witnessDag j .vertex) r p ≡ true
     → witnessDag i .first r p ≡ witnessDag j .vertex r p
 unfolding witnessDag told
-one-record i j r p g h k =
-    same-eq _ _ (imp-elim (held (witnessDag j .vertex) r p) _ (imp-elim (honest p) _ (every-found (told j) (firstOf i) (all-told i j) r p h) g) k)
+one-record i j r p g h = shared-same j r p _ (imp-elim (honest p) _ (every-found (told j) (firstOf i) (all-told i j) r p h) g)
 
--- member q votes neither by a vertex nor by a first message of round r
-silent : Bool → ℕ → ℕ → Bool
-silent i r q = not (votes 4 (r - 1) (witnessDag i .vertex r q) || votes 4 (r - 1) (witnessDag i .first r q))
-
--- no honest member of the record's no-vote mask votes
+-- no honest member of the record's no-vote mask is a voter
 apart : Bool → ℕ → ℕ → List ℕ → Bool
-apart i r p b = all 4 (λ q. imp (has (noVotesOf b) q) (imp (honest q) (silent i r q)))
+apart i r p b = all 4 (λ q. imp (has (noVotesOf b) q) (imp (honest q) (not (voter 4 (witnessDag i) (r - 1) q))))
 
 all-apart : (i j : Bool) → every (apart i) (vertexOf j) ≡ true
-unfolding witnessDag recordsOf early late firstOf vertexOf every apart silent all has leader strongOf noVotesOf
+unfolding witnessDag recordsOf early late firstOf vertexOf every apart voter all has leader strongOf noVotesOf
 all-apart true true = refl
 all-apart true false = refl
 all-apart false true = refl
 all-apart false false = refl
 
-no-both : (i j : Bool) (r p m : ℕ) → honest p ≡ true → Voter 4 (witnessDag i) r p → has (noVotesOf (witnessDag j .vertex (suc r) m)) p ≡ true → ⊥
-unfolding apart silent witnessDag
+no-both : (i j : Bool) (r p m : ℕ) → honest p ≡ true → voter 4 (witnessDag i) r p ≡ true → has (noVotesOf (witnessDag j .vertex (suc r) m)) p ≡ true → ⊥
+unfolding apart witnessDag
 no-both i j r p m g v s =
     let h : present (recordsOf (vertexOf j) (suc r) m) ≡ true = no-vote-present _ p s in
     let k : p < 4 = has-bound 4 _ p (formed j .admitted (suc r) m h .no-votes-low) s in
-    let t = all-elim 4 (λ q. imp (has (noVotesOf (recordsOf (vertexOf j) (suc r) m)) q) (imp (honest q) (silent i (suc r) q)))
+    let t = all-elim 4 (λ q. imp (has (noVotesOf (recordsOf (vertexOf j) (suc r) m)) q) (imp (honest q) (not (voter 4 (witnessDag i) (suc r - 1) q))))
     (every-found (apart i) (vertexOf j) (all-apart i j) (suc r) m h) p k in
-    let u : not (votes 4 r (witnessDag i .vertex (suc r) p) || votes 4 r (witnessDag i .first (suc r) p))
-    ≡ true = simp unary-clauses at (imp-elim (honest p) _ (imp-elim _ _ t s) g) in
-    never (⊎-elim (λ x. or-left _ x) (λ x. or-right (votes 4 r (witnessDag i .vertex (suc r) p)) x) v) (not-true _ u)
+    let u : not (voter 4 (witnessDag i) r p) ≡ true = simp unary-clauses at (imp-elim (honest p) _ (imp-elim _ _ t s) g) in
+    never v (not-true _ u)
 
 -- ---- the journals, by the masks of the histories
 
 chain-first : chain 4 (witnessDag true .vertex) 0 (last 4 (witnessDag true)) ≡ 3 ∷ 4 ∷ []
-unfolding witnessDag recordsOf early late firstOf vertexOf lastUpTo committed leader has count strongOf chain walk path any
+unfolding witnessDag recordsOf early late firstOf vertexOf lastUpTo committed voter leader has count strongOf chain walk path any
 chain-first = refl
 
 chain-second : chain 4 (witnessDag false .vertex) 0 (last 4 (witnessDag false)) ≡ 3 ∷ []
-unfolding witnessDag recordsOf early late firstOf vertexOf lastUpTo committed leader has count strongOf chain walk path any
+unfolding witnessDag recordsOf early late firstOf vertexOf lastUpTo committed voter leader has count strongOf chain walk path any
 chain-second = refl
 
 fresh-three : (i : Bool) → fresh 4 (witnessDag i .vertex) [] 3 ≡ 16 ∷ 17 ∷ 18 ∷ 19 ∷ 32 ∷ 34 ∷ 35 ∷ 50 ∷ []
@@ -243,7 +238,7 @@ fresh-four = fresh-masks 4 (witnessDag true .vertex) refl (formed true) (16 ∷ 
 
 -- The witness.
 pub witness : DagWitness
-unfolding witnessDag recordsOf early late firstOf vertexOf lastUpTo committed leader has count legal strongOf noVotesOf chain walk path any extend
+unfolding witnessDag recordsOf early late firstOf vertexOf lastUpTo committed voter leader has count legal strongOf noVotesOf chain walk path any extend
 witness = record {
   premises = record {
     members = refl;
@@ -256,7 +251,9 @@ witness = record {
   two-faced = (refl, refl);
   skipped = (refl, refl, refl);
   by-vertices = refl;
-  by-messages = (refl, refl);
+  no-vertices = refl;
+  no-messages = refl;
+  by-both = refl;
   leaders-first = refl;
   leaders-second = refl;
   journal-first =

@@ -36,15 +36,17 @@ module _ (n : ℕ) where
   abbrev pub votes : ℕ → List ℕ → Bool
   votes r body = has (strongOf body) (leader n r)
 
+  -- member p is a voter for the leader of round r: its vertex or its first message of the next round votes for it
+  unfoldable pub voter : Dag → ℕ → ℕ → Bool
+  voter d r p = votes r (d .vertex (suc r) p) || votes r (d .first (suc r) p)
+
   -- at least 2f + 1 members satisfy s
   abbrev pub enough : (ℕ → Bool) → Bool
   enough s = leb (quorum n) (count n s)
 
-  -- Round r is committed directly: its leader's vertex is there, and a quorum of vertices, or a quorum of first messages, of the next round votes for it.
+  -- round r is committed directly: its leader's vertex is there, and it has a quorum of voters
   unfoldable pub committed : Dag → ℕ → Bool
-  committed d r =
-      held (d .vertex) r (leader n r)
-      && (enough (λ p. votes r (d .vertex (suc r) p)) || enough (λ p. votes r (d .first (suc r) p)))
+  committed d r = held (d .vertex) r (leader n r) && enough (voter d r)
 
   -- the highest directly committed round among 1 .. k, or 0
   unfoldable pub lastUpTo : Dag → ℕ → ℕ

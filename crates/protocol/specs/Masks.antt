@@ -8,7 +8,7 @@ use lib.ListN.{getD, set, take, replicate}
 use Rattle.record.specs.Below.{any}
 use Rattle.record.specs.Members.{legal, has, add, meets, idOf, idRound, idMember, rounds, slots}
 use Rattle.record.specs.Layout.{strongOf, weakCountOf, weakOf, weakCountPlace}
-use Rattle.protocol.specs.Dag.{Records, held, votes, enough}
+use Rattle.protocol.specs.Dag.{Records, Dag, held, votes, voter, enough}
 use Rattle.protocol.specs.Paths.{path, history}
 use Rattle.protocol.specs.Premises.{ValidVertices}
 
@@ -44,10 +44,10 @@ abbrev pub joinRoundParents : Records → List ℕ → ℕ → ℕ → List ℕ
 joinRoundParents v h r k = joinRound v h r (getD h (r - 1) 0) k
 
 module _ (n : ℕ) where
-  -- the members below k whose vertices of round r + 1 vote for the leader of round r
-  unfoldable pub voters : Records → ℕ → ℕ → ℕ
-  voters v r zero = 0
-  voters v r (suc k) = cond (votes n r (v (suc r) k)) (add (voters v r k) k) (voters v r k)
+  -- the mask m with the members below k added whose vertices of round r + 1 vote for the leader of round r
+  unfoldable pub voters : Records → ℕ → ℕ → ℕ → ℕ
+  voters v r m zero = m
+  voters v r m (suc k) = cond (votes n r (v (suc r) k)) (add (voters v r m k) k) (voters v r m k)
 
   -- for the rounds k + 1, k, .. 2 the parents of the vertices that the masks have are joined
   unfoldable pub fill : Records → List ℕ → ℕ → List ℕ
@@ -62,9 +62,10 @@ module _ (n : ℕ) where
   abbrev pub historyMasks : Records → ℕ → ℕ → List ℕ
   historyMasks v r p = reachMasks v r (2 ^ p)
 
-  -- the mask of the voters meets the quorum exactly if enough members vote
+  -- From the mask m of the members whose first messages vote, the mask of the voters: it meets the quorum exactly if enough members are voters.
   abbrev pub VotersClaim : Type 0
-  VotersClaim = (v : Records) (r : ℕ) → meets n (voters v r n) ≡ enough n (λ p. votes n r (v (suc r) p))
+  VotersClaim = (d : Dag) (r m : ℕ) → m < 2 ^ n → ((p : ℕ) → p < n → has m p ≡ votes n r (d .first (suc r) p))
+      → meets n (voters (d .vertex) r m n) ≡ enough n (voter n d r)
 
   -- the members that paths from the vertex of round r and member p reach in round t, from those that they reach in round t + 1
   abbrev pub ParentsClaim : Type 0

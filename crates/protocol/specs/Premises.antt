@@ -1,13 +1,12 @@
 -- Well-formed vertices, and the premises of agreement over a family of DAGs: one for each i : I.
 use mathlib.Core.Path.{_≡_}
 use mathlib.Core.Bool.{Bool, true, not}
-use mathlib.Core.Logic.{_⊎_}
 use Prim.Native.Nat.{ℕ, suc, _-_, _≤_, _<_}
 use Rattle.record.specs.Below.{count}
 use Rattle.record.specs.Members.{legal, faulty, has, idRound, idMember}
 use Rattle.record.specs.Layout.{strongOf, noVotesOf, weakCountOf, weakOf}
 use Rattle.record.specs.Admitted.{Admitted}
-use Rattle.protocol.specs.Dag.{Records, Dag, present, held, votes}
+use Rattle.protocol.specs.Dag.{Records, Dag, present, held, voter}
 
 module _ (n : ℕ) where
   -- every vertex is admitted by the record questions, and its strong and weak parents are there
@@ -15,10 +14,6 @@ module _ (n : ℕ) where
     pub admitted : (r p : ℕ) → held v r p ≡ true → Admitted n r p (v r p)
     pub strong-held : (r p m : ℕ) → has (strongOf (v r p)) m ≡ true → held v (r - 1) m ≡ true
     pub weak-held : (r p i : ℕ) → i < weakCountOf (v r p) → held v (idRound (weakOf (v r p) i)) (idMember (weakOf (v r p) i)) ≡ true
-
-  -- member p votes for the leader of round r: by its vertex or by its first message
-  abbrev pub Voter : Dag → ℕ → ℕ → Type 0
-  Voter d r p = (votes n r (d .vertex (suc r) p) ≡ true) ⊎ (votes n r (d .first (suc r) p) ≡ true)
 
   pub record DagPremises {I : Type 0} (dag : I → Dag) (honest : ℕ → Bool) : Type 0 where
     pub members : legal n ≡ true
@@ -31,4 +26,4 @@ module _ (n : ℕ) where
     pub one-record : (i j : I) (r p : ℕ) → honest p ≡ true → present (dag i .first r p) ≡ true → held (dag j .vertex) r p ≡ true
         → dag i .first r p ≡ dag j .vertex r p
     -- an honest member that votes for a leader signs no no-vote against it
-    pub no-both : (i j : I) (r p m : ℕ) → honest p ≡ true → Voter (dag i) r p → has (noVotesOf (dag j .vertex (suc r) m)) p ≡ true → ⊥
+    pub no-both : (i j : I) (r p m : ℕ) → honest p ≡ true → voter n (dag i) r p ≡ true → has (noVotesOf (dag j .vertex (suc r) m)) p ≡ true → ⊥

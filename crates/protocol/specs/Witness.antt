@@ -34,14 +34,15 @@ late =
     ∷ plain 4 0 13 0 0 ∷ plain 4 2 13 0 0 ∷ plain 4 3 15 0 0
     ∷ plain 5 0 13 0 0 ∷ plain 5 2 13 0 0 ∷ plain 5 3 13 0 0 ∷ []
 
+-- What the second holds besides: one vertex of round 4.
+unfoldable pub vertexOf : Bool → List (List ℕ)
+vertexOf true = early ++ late
+vertexOf false = early ++ plain 4 2 13 0 0 ∷ []
+
 -- The first messages of each: member 1 votes for the leader of round 3 to the second alone.
 unfoldable pub firstOf : Bool → List (List ℕ)
 firstOf true = plain 4 1 11 13 0 ∷ []
-firstOf false = plain 4 0 13 0 0 ∷ plain 4 1 13 0 0 ∷ plain 4 2 13 0 0 ∷ []
-
-unfoldable pub vertexOf : Bool → List (List ℕ)
-vertexOf true = early ++ late
-vertexOf false = early
+firstOf false = plain 4 0 13 0 0 ∷ plain 4 1 13 0 0 ∷ []
 
 unfoldable pub witnessDag : Bool → Dag
 witnessDag i = record { vertex = recordsOf (vertexOf i); first = recordsOf (firstOf i) }
@@ -56,9 +57,11 @@ pub record DagWitness : Type 0 where
   -- the vertex of the leader of round 2 is there, the next leader has no edge to it, and a no-vote certificate in its place
   pub skipped : (held (witnessDag true .vertex) 2 1 ≡ true) × (has (strongOf (witnessDag true .vertex 3 2)) 1
       ≡ false) × (noVotesOf (witnessDag true .vertex 3 2) ≡ 13)
-  -- the first DAG commits round 4 by vertices, the second round 3 by first messages alone
+  -- the first DAG commits round 4 by vertices, the second round 3 by two first messages and the vertex of a third member, neither a quorum alone
   pub by-vertices : enough 4 (λ p. votes 4 4 (witnessDag true .vertex 5 p)) ≡ true
-  pub by-messages : (enough 4 (λ p. votes 4 3 (witnessDag false .vertex 4 p)) ≡ false) × (committed 4 (witnessDag false) 3 ≡ true)
+  pub no-vertices : enough 4 (λ p. votes 4 3 (witnessDag false .vertex 4 p)) ≡ false
+  pub no-messages : enough 4 (λ p. votes 4 3 (witnessDag false .first 4 p)) ≡ false
+  pub by-both : committed 4 (witnessDag false) 3 ≡ true
   -- the leader lists: one is longer, and neither has round 1 or 2
   pub leaders-first : leaders 4 (witnessDag true) ≡ 50 ∷ 67 ∷ []
   pub leaders-second : leaders 4 (witnessDag false) ≡ 50 ∷ []

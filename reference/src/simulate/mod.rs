@@ -14,6 +14,7 @@ mod noise;
 mod options;
 mod proposing;
 mod replica;
+pub mod sightings;
 mod transport;
 mod world;
 

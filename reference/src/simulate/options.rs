@@ -28,6 +28,9 @@ pub struct Options {
     /// some over in order too. With 0 nobody does, nor is a vertex with a buffer among the calls that
     /// are to be refused.
     pub buffers: u32,
+    /// That a faulty member sends a replica a first message that names the previous leader exactly if
+    /// its vertex does not. With 0 nobody is drawn for it; of made records alone nobody does it.
+    pub split_votes: u32,
     /// That a replica never gets a vertex, in a thousand; what builds on it is then refused.
     pub lost_vertices: u32,
     /// How far messages are delayed, in hundredths of a round.
@@ -59,6 +62,7 @@ impl Options {
             lost_timeouts: 0,
             bundles: 60,
             buffers: 50,
+            split_votes: 40,
             lost_vertices: 0,
             spread: 80,
             eager: 10,

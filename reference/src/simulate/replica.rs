@@ -102,7 +102,8 @@ fn draw_vertex(
     messages.push((time, Call::Vertex(record.words().to_vec())));
 }
 
-/// An honest member's first message is its vertex; a faulty member may send each replica any.
+/// An honest member's first message is its vertex; a faulty member may send each replica any, also one
+/// that votes where its vertex does not.
 fn draw_first_message(
     rng: &mut Rng,
     world: &World,
@@ -111,11 +112,15 @@ fn draw_first_message(
     messages: &mut Messages,
 ) {
     let vertex = world.vertices.get(&vertex_id(round, member)).copied();
-    let may_differ = has(world.faulty, member) || !options.premises;
-    let record = if may_differ && rng.percent(50) {
-        Some(world.other_record(rng, round, member, world.group.all()))
-    } else {
-        vertex
+    let is_faulty = has(world.faulty, member);
+    let splits = is_faulty && options.split_votes > 0 && rng.percent(options.split_votes);
+    let may_differ = is_faulty || !options.premises;
+    let record = match vertex {
+        Some(vertex) if splits => Some(world.with_other_vote(rng, &vertex)),
+        _ if may_differ && rng.percent(50) => {
+            Some(world.other_record(rng, round, member, world.group.all()))
+        }
+        vertex => vertex,
     };
     if let Some(record) = record.filter(|_| !rng.percent(options.lost_messages)) {
         let time = ROUND_TIME * round + rng.below(options.spread) - ROUND_TIME / 2;

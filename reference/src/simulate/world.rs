@@ -154,6 +154,18 @@ impl World {
         self.complete(rng, round, source, strong)
     }
 
+    /// A record of the vertex's round and source that names the previous leader exactly if the vertex
+    /// does not; a leader without a no-vote certificate names it all the same.
+    pub fn with_other_vote(&self, rng: &mut Rng, vertex: &Record) -> Record {
+        if vertex.round < 2 {
+            return *vertex;
+        }
+        let leader = bit(self.group.leader(vertex.round - 1));
+        let others = self.group.all() & !leader;
+        let strong = rng.top_up(vertex.strong ^ leader, others, self.group.quorum());
+        self.complete(rng, vertex.round, vertex.source, strong)
+    }
+
     /// Adds weak edges to old vertices that the strong parents do not lead to.
     fn add_weak_parents(&self, rng: &mut Rng, record: &mut Record) {
         let reached = self.reached(record);

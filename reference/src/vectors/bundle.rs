@@ -28,6 +28,7 @@ pub fn replicas() -> Vec<Vec<Call>> {
         early_stop: 0,
         bundles: 100,
         buffers: 0,
+        split_votes: 0,
         ..Options::typical()
     };
     let [drawn, mut proposing] = [

@@ -7,6 +7,7 @@ mod carried;
 pub mod damage;
 mod pending;
 mod row;
+mod sightings;
 mod states;
 mod worked;
 
@@ -75,6 +76,8 @@ pub fn commands() -> Vec<Command> {
     list.buffer_lengths();
     list.rows(&pending::rows());
     list.replicas(pending::replicas());
+    list.rows(&sightings::rows());
+    list.replicas(sightings::replicas());
     list.list.push(Command::End);
     list.list.commands
 }

@@ -30,6 +30,7 @@ pub fn replicas() -> Vec<Vec<Call>> {
         rounds,
         early_stop: 0,
         buffers: 100,
+        split_votes: 0,
         ..options
     };
     let drawn = [

@@ -32,12 +32,14 @@ pub fn reached(n: u32) -> Vec<Reached> {
 }
 
 /// All calls of one replica that gets timeouts one by one, and vertices without a pending buffer.
+/// No faulty member splits its vote on purpose.
 pub fn simulated(seed: u64, n: u32, rounds: u32, options: Options) -> Vec<Call> {
     let options = Options {
         rounds,
         early_stop: 0,
         bundles: 0,
         buffers: 0,
+        split_votes: 0,
         ..options
     };
     let run = simulate_replicas(seed, n, &options, 1);

@@ -1,4 +1,4 @@
--- The loop's invariant: the members below p that vote are in the mask. The measure is how many members are left.
+-- The loop's invariant: the mask has the voters by first messages, and of the members below p those by vertices. The measure is how many members are left.
 use Rattle.commits.proofs.Steps.{Voters, voter-in, voter-out}
 use Rattle.commits.proofs.Laws.{Cell, cell-known}
 use Rattle.protocol.proofs.Voters.{voters-none}
@@ -8,8 +8,8 @@ use mathlib.Core.Logic.{⊎-elim}
 use Prim.Native.Nat.{_+_, _≤_, _<_, _-_}
 use native.Mathlib.Omega.{arith}
 use borrow.Author.Needs.{needs}
-use Rattle.commits.proofs.commit.vertex_voters.Statement.{statement}
-use Rattle.commits.proofs.commit.vertex_voters.Tie as tie
+use Rattle.commits.proofs.commit.voters_for.Statement.{statement}
+use Rattle.commits.proofs.commit.voters_for.Tie as tie
 
 abbrev Inv-loop : tie.InvT-loop
 Inv-loop state n q voted voters₀ p₀ mask p = (p ≤ n) × Voters state n q p mask
@@ -47,13 +47,15 @@ returns c =
     let e : a .loop .p ≡ s .args .n = omega arith in
     rw e at (a .loop .inv .1)
 
-pub vertex-voters-spec : {M : Type 1} → statement M
-vertex-voters-spec =
+pub voters-for-spec : {M : Type 1} → statement M
+voters-for-spec =
     tie.close
     (tie.spec
     Inv-loop
     μ-loop
-    (λ c. (omega arith, sym (voters-none _ _ _)))
+    (λ c. search needs)
+    (λ c κs. let s : tie.Start Inv-loop μ-loop = search in let size = s .pre .0 .size in search needs)
+    (λ c. (omega arith, c .mask-of .ensures ∙ sym (voters-none _ _ _ _)))
     (λ c. search needs)
     (λ c κs. let s : tie.Start Inv-loop μ-loop = search in search needs)
     (λ c. search needs)

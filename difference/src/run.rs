@@ -44,8 +44,9 @@ impl Kind {
     }
 }
 
-const KINDS: [Kind; 6] = [
+const KINDS: [Kind; 7] = [
     Kind::world("calm", Options::calm),
+    Kind::world("split votes", Options::split),
     Kind::proposing("made records, typical", Options::typical),
     Kind::world("typical", Options::typical),
     Kind::world("rough", Options::rough),
@@ -267,6 +268,7 @@ impl<'a> Replica<'a> {
                 session.tally.admitted(call, reply[2], rounds);
             }
             if reply[2] > 0 {
+                session.tally.committed(self.pair.words());
                 self.lists(session)?;
             }
             if proposes {

@@ -3,8 +3,10 @@
 use std::fmt::{self, Display, Formatter};
 
 use crate::op::{record_of, Op, Reply, NAMES};
-use reference::layout::{mask_place, COMMITTED_ROUND, HELD, LAST_ROUND, LEADER_COUNT, N};
+use reference::group::Group;
+use reference::layout::{mask_place, COMMITTED_ROUND, HEARD, HELD, LAST_ROUND, LEADER_COUNT, N};
 use reference::record::Record;
+use reference::simulate::sightings::in_state;
 use reference::Call;
 
 const NUMBERS: usize = 21;
@@ -41,6 +43,10 @@ pub struct Tally {
     /// Calls that committed, and those of them that added several leaders.
     pub commits: u64,
     pub several_leaders: u64,
+    /// Those for whose last round neither first messages nor vertices alone are a quorum, and those
+    /// that have none without members seen both ways that vote only once.
+    pub by_both: u64,
+    pub by_split: u64,
     /// Admitted vertices with a timeout certificate, with a no-vote certificate, and with weak ids.
     pub timeout_certificates: u64,
     pub no_vote_certificates: u64,
@@ -100,6 +106,18 @@ impl Tally {
         }
     }
 
+    /// Notes by which sightings the last round of a state that just committed has its quorum.
+    pub fn committed(&mut self, state: &[u32]) {
+        let (Some(group), round) = (Group::new(state[N]), state[COMMITTED_ROUND]) else {
+            return;
+        };
+        let [heard, held] = in_state(state, round);
+        let [messages, vertices] = [HEARD, HELD].map(|which| state[mask_place(round + 1, which)]);
+        let split = messages & vertices & (heard ^ held);
+        self.by_both += u64::from(!group.is_quorum(heard) && !group.is_quorum(held));
+        self.by_split += u64::from(!group.is_quorum((heard | held) & !split));
+    }
+
     /// Without its certificate a vertex ends no round but its own.
     fn admitted_vertex(&mut self, words: &[u32], [before, after]: [u32; 2]) {
         let round = self.admitted_record(words);
@@ -127,8 +145,8 @@ impl Tally {
     }
 
     /// What a long run must have seen and this one has not: calls with a number that they can
-    /// answer, rounds ended by a carried certificate and by a bundle, and records released from a
-    /// pending buffer, also several with a commit.
+    /// answer, rounds ended by a carried certificate and by a bundle, records released from a pending
+    /// buffer, also several with a commit, and rounds committed by either sighting of a vote.
     pub fn unseen(&self) -> Vec<String> {
         let missing = |row: usize| {
             let numbers = POSSIBLE[row].iter().copied();
@@ -148,6 +166,8 @@ impl Tally {
                 "several records released with a commit",
                 self.several_released,
             ),
+            ("a round committed by both sightings", self.by_both),
+            ("a round committed by a split vote", self.by_split),
         ];
         let never = counts.into_iter().filter(|(_, count)| *count == 0);
         numbers
@@ -156,7 +176,7 @@ impl Tally {
     }
 
     /// What the groups did, line by line.
-    fn counts(&self) -> [(&'static str, u64); 23] {
+    fn counts(&self) -> [(&'static str, u64); 25] {
         [
             ("calls compared", self.calls),
             ("groups", self.groups),
@@ -165,6 +185,8 @@ impl Tally {
             ("of these without a leader", self.skipped),
             ("calls that committed", self.commits),
             ("of these with several leaders", self.several_leaders),
+            ("of these by both sightings", self.by_both),
+            ("of these by a split vote", self.by_split),
             (
                 "vertices with a timeout certificate",
                 self.timeout_certificates,

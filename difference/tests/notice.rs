@@ -8,10 +8,11 @@ use difference::proved::Proved;
 use difference::report::report;
 use difference::run::{run, Plan};
 use difference::shrink::{fewest, shrink};
-use reference::layout::{buffer_end, BUFFER_SLOTS, BUFFER_WORDS};
-use reference::layout::{mask_place, CURRENT_ROUND, HEARD, LAST_ROUND, N, NO_VOTES, TIMEOUTS};
+use reference::group::{has, Group};
+use reference::layout::*;
 use reference::pending::{laid_out, records};
 use reference::record::Record;
+use reference::simulate::sightings::in_state;
 use reference::simulate::{simulate, Options};
 use reference::Call;
 
@@ -289,12 +290,14 @@ fn unseen(count: u64) -> Vec<String> {
 }
 
 #[test]
-fn a_run_without_carried_certificates_bundles_or_releases_is_not_enough() {
+fn a_run_without_certificates_bundles_releases_or_sightings_is_not_enough() {
     let events = [
         "a round ended by a carried certificate",
         "a round ended by a bundle",
         "a record released from a buffer",
         "several records released with a commit",
+        "a round committed by both sightings",
+        "a round committed by a split vote",
     ]
     .map(str::to_owned);
     let bundles = [0, 1, 3, 5, 7, 12].map(|number| format!("timeouts with {number}"));
@@ -470,6 +473,100 @@ fn what_follows_bundles_wrongly_is_noticed() {
     for engine in [no_round_rule, round_rule_after_12, commits] {
         assert!(run(&engine, plan(1)).1.is_some());
     }
+}
+
+/// What a state has seen of the votes for a round's leader: by first messages and by vertices, and who
+/// has sent both.
+struct Votes {
+    heard: u32,
+    held: u32,
+    both: u32,
+}
+
+/// The second implementation with another count of the votes for a round's leader.
+struct Voting(fn(Votes) -> u32);
+
+impl Engine for Voting {
+    fn perform_lent(&self, state: &mut [u32], buffer: &mut [u32], op: &Op) -> Reply {
+        let before = state.to_vec();
+        let mut answer = Second.perform_lent(state, buffer, op);
+        let is_record = matches!(op, Op::Change(call) if call.record().is_some());
+        if !is_record || answer[0] != 0 {
+            return answer;
+        }
+        if answer[2] > 0 && !self.is_ready(state, state[COMMITTED_ROUND]) {
+            without_commits(&before, state);
+        }
+        let mut above = state[COMMITTED_ROUND] + 1..LAST_ROUND;
+        if let (0, Some(round)) = (answer[2], above.find(|&round| self.is_ready(state, round))) {
+            let places = [HEARD, VOTES].map(|which| mask_place(round + 1, which));
+            let words = places.map(|at| std::mem::replace(&mut state[at], all(&before)));
+            commit(state);
+            places
+                .into_iter()
+                .zip(words)
+                .for_each(|(at, word)| state[at] = word);
+        }
+        answer[2] = state[LEADER_COUNT] - before[LEADER_COUNT];
+        answer[3] = state[JOURNAL_COUNT] - before[JOURNAL_COUNT];
+        answer
+    }
+}
+
+impl Voting {
+    fn is_ready(&self, state: &[u32], round: u32) -> bool {
+        let group = Group::new(state[N]).expect("the state is well formed");
+        let [heard, held] = in_state(state, round);
+        let [messages, vertices] = [HEARD, HELD].map(|which| state[mask_place(round + 1, which)]);
+        let both = messages & vertices;
+        let is_led = has(state[mask_place(round, HELD)], group.leader(round));
+        is_led && (self.0)(Votes { heard, held, both }) >= group.quorum()
+    }
+}
+
+/// The words that commits write, as they were.
+fn without_commits(before: &[u32], state: &mut [u32]) {
+    let head = [COMMITTED_ROUND, LEADER_COUNT, JOURNAL_COUNT].into_iter();
+    let ordered = (1..=LAST_ROUND).map(|round| mask_place(round, ORDERED));
+    for at in head.chain(ordered).chain(LEADER_LIST).chain(JOURNAL) {
+        state[at] = before[at];
+    }
+}
+
+/// The rule before request A6 waits where three members' sightings commit.
+#[test]
+fn votes_not_taken_together_are_shown_by_few_lines() {
+    let engine = Voting(|votes| votes.heard.count_ones().max(votes.held.count_ones()));
+    let report = reported(&engine);
+    let lines = shown(&report, "lines for sheetlog");
+    assert!([7, 8].contains(&lines.len()), "{report}");
+    assert!(lines[0].starts_with("O 4"), "{report}");
+    let sightings = lines.iter().filter(|line| line[1..].starts_with(" 2 "));
+    let heard = sightings.clone().filter(|line| line.starts_with('F'));
+    assert_eq!(sightings.count(), 3, "{report}");
+    assert!([1, 2].contains(&heard.count()), "{report}");
+}
+
+#[test]
+fn members_counted_otherwise_are_noticed() {
+    let twice = Voting(|votes| votes.heard.count_ones() + votes.held.count_ones());
+    let by_vertex = Voting(|votes| (votes.heard & !votes.both | votes.held).count_ones());
+    let by_message = Voting(|votes| (votes.heard | votes.held & !votes.both).count_ones());
+    let if_both = Voting(|votes| (votes.heard & votes.held).count_ones());
+    let vertices_alone = Voting(|votes| votes.held.count_ones());
+    let messages_alone = Voting(|votes| votes.heard.count_ones());
+    for engine in [
+        twice,
+        by_vertex,
+        by_message,
+        if_both,
+        vertices_alone,
+        messages_alone,
+    ] {
+        assert!(run(&engine, plan(1)).1.is_some());
+    }
+    let right = Voting(|votes| (votes.heard | votes.held).count_ones());
+    assert!(run(&right, plan(1)).1.is_none());
 }
 
 /// The second implementation with a fault in taking vertices with a pending buffer. The fault gets

@@ -13,6 +13,7 @@ use reference::group::{has, Group};
 use reference::layout::*;
 use reference::model::Lists;
 use reference::record::Record;
+use reference::simulate::sightings::in_state;
 use reference::simulate::{simulate, Options, Run};
 use reference::*;
 
@@ -158,7 +159,7 @@ fn check_voters(call: &Call, before: &State, after: &State, seen: &mut Seen) {
     }
     let group = Group::new(after[N]).expect("the size is legal");
     let is_ready = |round: u32| {
-        let [heard, held] = sightings(after, round);
+        let [heard, held] = in_state(after, round);
         holds(after, group.leader_id(round)) && group.is_quorum(heard | held)
     };
     let last = after[COMMITTED_ROUND];
@@ -171,7 +172,7 @@ fn check_voters(call: &Call, before: &State, after: &State, seen: &mut Seen) {
         return;
     }
     assert!(is_ready(last), "{call:?}");
-    let [heard, held] = sightings(after, last);
+    let [heard, held] = in_state(after, last);
     let twice = after[mask_place(last + 1, HEARD)] & after[mask_place(last + 1, HELD)];
     let split = twice & (heard ^ held);
     seen.by_both += usize::from(!group.is_quorum(heard) && !group.is_quorum(held));
@@ -341,12 +342,7 @@ fn check_bundles(seen: &Seen) {
 /// Many first messages are lost and faulty members vote by one record of two.
 #[test]
 fn groups_commit_by_either_sighting() {
-    let options = Options {
-        lost_messages: 50,
-        split_votes: 80,
-        ..Options::typical()
-    };
-    let seen = run_groups(&options, 0..3);
+    let seen = run_groups(&Options::split(), 0..3);
     assert!(seen.by_both > 200, "{}", seen.by_both);
     assert!(seen.by_split > 50, "{}", seen.by_split);
     assert!(seen.committed > 500, "{}", seen.committed);

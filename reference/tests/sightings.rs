@@ -9,7 +9,7 @@ use reference::layout::*;
 use reference::pending::laid_out;
 use reference::record::Record;
 use reference::rng::Rng;
-use reference::simulate::sightings::{calls, first_round, Pair, PAIRS};
+use reference::simulate::sightings::{calls, first_round, in_state, Pair, PAIRS};
 use reference::*;
 
 const SIZES: [u32; 5] = [4, 7, 10, 13, 16];
@@ -133,7 +133,7 @@ fn a_member_seen_both_ways_counts_once() {
             watched.see(source, PAIRS[both], false);
         }
         assert_eq!(watched.state[COMMITTED_ROUND], 0);
-        let [heard, held] = sightings(&watched.state, 1);
+        let [heard, held] = in_state(&watched.state, 1);
         assert_eq!(heard.count_ones() + held.count_ones(), 2 * (quorum - 1));
         for pair in [1, 3, both, once, 7] {
             let mut next = watched.clone();

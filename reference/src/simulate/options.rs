@@ -90,6 +90,16 @@ impl Options {
         }
     }
 
+    /// As typical, with half of the messages lost, and with faulty members that mostly vote by one
+    /// record of two.
+    pub fn split() -> Options {
+        Options {
+            lost_messages: 50,
+            split_votes: 80,
+            ..Options::typical()
+        }
+    }
+
     /// Many skipped leaders, lost messages and lost vertices.
     pub fn rough() -> Options {
         Options {

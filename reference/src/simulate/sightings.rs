@@ -1,9 +1,23 @@
-//! Rounds 1 and 2 of a group whose members are seen, by first message and by vertex, to vote for the
-//! leader of round 1 or not (02, request A6).
+//! Members seen to vote for a leader, by first message and by vertex (02, request A6): in the words of
+//! a state, and as calls of rounds 1 and 2.
 
 use crate::call::Call;
-use crate::group::Group;
+use crate::group::{bit, has, members, Group};
+use crate::layout::{cell_place, mask_place, HELD, N, VOTES};
 use crate::record::Record;
+
+/// The members that a well formed state has seen to vote for the leader of a round from 1 to 31: by
+/// first messages, and by held vertices.
+pub fn in_state(state: &[u32], round: u32) -> [u32; 2] {
+    let leader = (round - 1) % state[N];
+    let held = members(state[mask_place(round + 1, HELD)]);
+    let strong = |member| state[cell_place(round + 1, member).start];
+    let by_vertices = held.filter(|&member| has(strong(member), leader));
+    [
+        state[mask_place(round + 1, VOTES)],
+        by_vertices.map(bit).sum(),
+    ]
+}
 
 /// What is seen of a member's record of round 2.
 #[derive(Clone, Copy, Debug, PartialEq, Eq)]

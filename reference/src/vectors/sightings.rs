@@ -26,10 +26,8 @@ pub fn replicas() -> Vec<Vec<Call>> {
     let options = |rounds: u32| Options {
         rounds,
         early_stop: 0,
-        split_votes: 80,
-        lost_messages: 40,
         lost_vertices: 20,
-        ..Options::typical()
+        ..Options::split()
     };
     let drawn = [
         simulate_replicas(10, 4, &options(24), 1),

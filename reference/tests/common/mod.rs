@@ -4,7 +4,7 @@
 
 use std::collections::BTreeMap;
 
-use reference::group::{bit, has, members, Group};
+use reference::group::{has, members, Group};
 use reference::layout::*;
 use reference::pending::laid_out;
 use reference::record::{first_refusal, Record};
@@ -136,16 +136,6 @@ pub fn lists(state: &[u32]) -> (Vec<u32>, Vec<u32>) {
         hand_leaders(state, 0).1.to_vec(),
         hand_journal(state, 0).1.to_vec(),
     )
-}
-
-/// The members seen to vote for a round's leader: by first messages, and by held vertices.
-pub fn sightings(state: &[u32], round: u32) -> [u32; 2] {
-    let leader = (round - 1) % state[N];
-    let held = members(state[mask_place(round + 1, HELD)]);
-    let strong = |member| state[cell_place(round + 1, member).start];
-    let voting = held.filter(|&member| has(strong(member), leader));
-    let by_vertices = voting.map(bit).sum();
-    [state[mask_place(round + 1, VOTES)], by_vertices]
 }
 
 /// A state with leaders 16 33, journal 16 17 18 33, notes, and a record with a weak id.

@@ -337,6 +337,8 @@ std::vector<Case> cases_of(u32 n, u32 rounds) {
         b.state = state;
         for (u32 p = 0; p + 1 < b.quorum(); ++p) b.must({Kind::first, b.record(next, p, true)});
         add("first message, commits", b.state, {Kind::first, b.record(next, b.quorum() - 1, true)}, 0);
+        // So by first messages and the vertex of another member.
+        add("vertex, commits by both", b.state, {Kind::vertex, b.record(next, b.quorum() - 1, true)}, 0);
 
         // No round is committed until the last, whose leader reaches nearly everything. Without votes before, it is the only leader
         // taken; with 2f a round, the leaders of all rounds are.

@@ -189,10 +189,9 @@ void raise_round(const Group& g, u32* state) {
 bool committable(const Group& g, const u32* state, u32 q) {
     const u32 leader = g.leader(q);
     if (!has(mask(state, q, held), leader)) return false;
-    if (count(mask(state, q + 1, votes)) >= g.quorum) return true;
-    u32 number = 0;
-    for (u32 p = 0; p < g.n; ++p) number += cell(state, q + 1, p)[0] >> leader & 1;
-    return number >= g.quorum;
+    u32 voters = mask(state, q + 1, votes);
+    for (u32 p = 0; p < g.n; ++p) voters |= (cell(state, q + 1, p)[strong_at] >> leader & 1) << p;
+    return count(voters) >= g.quorum;
 }
 
 // Adds to `reached`, masks by round, the histories of those that it has in the round; it has none below.

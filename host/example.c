@@ -1,7 +1,7 @@
-// Runs six groups of four members. A watcher follows the first five and prints for a call its number and the status, and at the
-// end the leader list and the journal: of the first three what sheetlog prints for the same calls; the fourth has bundles of
-// timeouts, and the fifth a buffer for vertices that come too early, for which sheetlog has no lines. The sixth is run by its four
-// members, which propose and sign: it prints what they send, as lines of sheetlog's input, and at the end each member's lists.
+// Runs seven groups of four members. A watcher follows the first six and prints for a call its number and the status, and at the
+// end the leader list and the journal: of the first four what sheetlog prints for the same calls; the fifth has bundles of
+// timeouts, and the sixth a buffer for vertices that come too early, for which sheetlog has no lines. The seventh is run by its
+// four members, which propose and sign: it prints what they send, as lines of sheetlog's input, and at the end each member's lists.
 #include <stdbool.h>
 #include <stdio.h>
 #include <stdlib.h>
@@ -97,6 +97,17 @@ static void watch_two_leaders(void) {
     vertex(record_of(2, 1, 7, 0, 0, 21));
     vertex(record_of(2, 3, 14, 7, 0, 23));
     for (uint32_t source = 0; source < 3; source++) first_message(record_of(3, source, 11, 0, 0, 30 + source));
+    print_lists(state);
+}
+
+// Two first messages, and the vertex of one of the two members, are two voters for round 1's leader: a member counts once. The
+// vertex of a third member commits it.
+static void watch_sightings(void) {
+    open_group(0);
+    first_message(record_of(2, 0, 7, 0, 0, 20));
+    first_message(record_of(2, 1, 7, 0, 0, 21));
+    vertex(record_of(2, 1, 7, 0, 0, 21));
+    vertex(record_of(2, 2, 7, 0, 0, 22));
     print_lists(state);
 }
 
@@ -324,6 +335,7 @@ static void run_members(void) {
 int main(void) {
     watch_sample();
     watch_two_leaders();
+    watch_sightings();
     watch_carried();
     watch_bundle();
     watch_pending();

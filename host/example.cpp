@@ -1,7 +1,7 @@
-// Runs six groups of four members. A watcher follows the first five and prints for a call its number and the status, and at the
-// end the leader list and the journal: of the first three what sheetlog prints for the same calls; the fourth has bundles of
-// timeouts, and the fifth a buffer for vertices that come too early, for which sheetlog has no lines. The sixth is run by its four
-// members, which propose and sign: it prints what they send, as lines of sheetlog's input, and at the end each member's lists.
+// Runs seven groups of four members. A watcher follows the first six and prints for a call its number and the status, and at the
+// end the leader list and the journal: of the first four what sheetlog prints for the same calls; the fifth has bundles of
+// timeouts, and the sixth a buffer for vertices that come too early, for which sheetlog has no lines. The seventh is run by its
+// four members, which propose and sign: it prints what they send, as lines of sheetlog's input, and at the end each member's lists.
 #include <array>
 #include <cstdio>
 #include <cstdlib>
@@ -79,6 +79,15 @@ void watch_two_leaders() {
     group.vertex(record(2, 1, 7, 0, 0, 21));
     group.vertex(record(2, 3, 14, 7, 0, 23));
     for (const std::uint32_t source : {0u, 1u, 2u}) group.first_message(record(3, source, 11, 0, 0, 30 + source));
+    group.print_lists();
+}
+
+// Two first messages, and the vertex of one of the two members, are two voters for round 1's leader: a member counts once. The
+// vertex of a third member commits it.
+void watch_sightings() {
+    Watched group(0);
+    for (const std::uint32_t source : {0u, 1u}) group.first_message(record(2, source, 7, 0, 0, 20 + source));
+    for (const std::uint32_t source : {1u, 2u}) group.vertex(record(2, source, 7, 0, 0, 20 + source));
     group.print_lists();
 }
 
@@ -315,6 +324,7 @@ void run_members() {
 int main() {
     watch_sample();
     watch_two_leaders();
+    watch_sightings();
     watch_carried();
     watch_bundle();
     watch_pending();

@@ -34,7 +34,7 @@
 extern "C" {
 #endif
 
-#define YARDBOOK_VERSION "0.5.0"
+#define YARDBOOK_VERSION "0.6.0"
 
 /* Words of a replica state, of a record, and of a pending buffer. */
 #define YARDBOOK_STATE_WORDS 5864
@@ -128,7 +128,9 @@ yardbook_answer yardbook_open(uint32_t *state, size_t state_words, uint32_t n, u
  * Takes a vertex that reliable broadcast has delivered. Asks 1 and 3 to 14.
  * Writes the vertex to its cell. Its timeout mask joins the timeouts of the round before, and yardbook_take_timeout of such a
  * signer answers 12 from then on. The current round may rise, and is at least the vertex's round afterwards. Every round that has
- * become committable is committed: the leaders taken join the leader list, and their histories the journal.
+ * become committable is committed: the leaders taken join the leader list, and their histories the journal. A round is committable
+ * if its leader's vertex is held and 2f + 1 members of n = 3f + 1 vote for it: a member does if its vertex of the next round, or its
+ * first message of that round, has the leader in its strong mask. One that does so by both counts once.
  */
 yardbook_answer yardbook_take_vertex(uint32_t *state, size_t state_words, const uint32_t *record, size_t record_words);
 

@@ -1,6 +1,6 @@
-//! Runs six groups of four members. A watcher follows the first five and prints for a call its number and the status, and at the
-//! end the leader list and the journal: of the first three what sheetlog prints for the same calls; the fourth has bundles of
-//! timeouts, and the fifth a buffer for vertices that come too early, for which sheetlog has no lines. The sixth is run by its
+//! Runs seven groups of four members. A watcher follows the first six and prints for a call its number and the status, and at the
+//! end the leader list and the journal: of the first four what sheetlog prints for the same calls; the fifth has bundles of
+//! timeouts, and the sixth a buffer for vertices that come too early, for which sheetlog has no lines. The seventh is run by its
 //! four members, which propose and sign: it prints what they send, as lines of sheetlog's input, and at the end each member's
 //! lists.
 
@@ -107,6 +107,19 @@ fn watch_two_leaders() {
     group.vertex(record(2, 3, 14, 7, 0, 23));
     for source in [0, 1, 2] {
         group.first_message(record(3, source, 11, 0, 0, 30 + source));
+    }
+    print_lists(&group.state);
+}
+
+/// Two first messages, and the vertex of one of the two members, are two voters for round 1's leader: a member counts once. The
+/// vertex of a third member commits it.
+fn watch_sightings() {
+    let mut group = Watched::opened(0);
+    for source in [0, 1] {
+        group.first_message(record(2, source, 7, 0, 0, 20 + source));
+    }
+    for source in [1, 2] {
+        group.vertex(record(2, source, 7, 0, 0, 20 + source));
     }
     print_lists(&group.state);
 }
@@ -403,6 +416,7 @@ fn run_members() {
 fn main() {
     watch_sample();
     watch_two_leaders();
+    watch_sightings();
     watch_carried();
     watch_bundle();
     watch_pending();

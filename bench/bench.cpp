@@ -215,8 +215,8 @@ void print_cell(const Timed* t) {
 
 // A row for each n and the calls that differ much, with the emptiest and the fullest state.
 void print_short_table(const std::vector<Timed>& all) {
-    static constexpr std::array<std::string_view, 32> names{
-        "open", "open: 2", "vertex", "vertex: 12", "vertex: 14", "vertex, commits", "vertex, commits all",
+    static constexpr std::array<std::string_view, 33> names{
+        "open", "open: 2", "vertex", "vertex: 12", "vertex: 14", "vertex, commits", "vertex, commits by both", "vertex, commits all",
         "vertex with buffer", "vertex with buffer, 32 stay", "vertex with buffer, releases 32", "vertex with buffer: 12",
         "vertex with buffer: 14", "vertex with buffer: 19", "vertex with buffer: 20",
         "first message", "first message: 12", "timeout", "timeout: 12", "timeouts", "timeouts: 12", "no-vote", "no-vote: 12",

@@ -8,7 +8,7 @@ use native.Mathlib.Omega.{arith}
 use Rattle.record.specs.Members.{leader}
 use Rattle.record.proofs.Masks.{leader-lt}
 use Rattle.protocol.specs.Dag.{held, votes, enough}
-use Rattle.protocol.proofs.Commit.{either-alone}
+use Rattle.protocol.proofs.Commit.{by-either}
 use Rattle.replica.specs.State.{memberCount, vertices, firsts, dag}
 use Rattle.replica.proofs.Formed.{formed}
 use Rattle.commits.specs.Commit.{committable}
@@ -32,7 +32,7 @@ module _ (l : List ℕ) (S : Standing l) (q : ℕ) (w : ReadyAlone l q) where
   quorum-of-one = ⊎-elim (λ e. inl (sym (first-quorum l S n q refl (omega (arith, w .above)) (w .high)) ∙ e)) (λ e. inr e) (w .alone)
 
   ready : committable l q ≡ true
-  ready = sym (committable-at l n q refl (w .above) (w .high)) ∙ either-alone n (dag l) q led quorum-of-one
+  ready = sym (committable-at l n q refl (w .above) (w .high)) ∙ by-either n (dag l) q led quorum-of-one
 
-pub either-alone-claim : EitherAlone
-either-alone-claim l size ok = ready l (standing l (formed l size ok))
+pub either-alone : EitherAlone
+either-alone l size ok = ready l (standing l (formed l size ok))

@@ -1,10 +1,10 @@
 -- The commits' steps, as laws: votes counted, leaders appended, ids entered. Assumes nothing.
 use mathlib.Core.Path.{_≡_, refl, sym, ap, _∙_}
-use mathlib.Core.Bool.{Bool, true, false, not, or-false}
-use mathlib.Core.Logic.{_⊎_, inl, inr}
+use mathlib.Core.Bool.{Bool, true, false, not}
+use mathlib.Core.Logic.{_⊎_, inl, inr, ⊎-elim}
 use mathlib.Core.List.{List, [], _∷_, _++_, append-nil}
-use Prim.Native.Nat.{ℕ, zero, suc, _+_, _-_, _≤_, _<_}
-use native.Mathlib.Nat.{add-zero, add-suc}
+use Prim.Native.Nat.{ℕ, zero, suc, _+_, _-_, _^_, _≤_, _<_}
+use native.Mathlib.Nat.{add-zero, add-suc, eq-or-lt-of-le}
 use native.Mathlib.Numerals.{add-one, sub-one}
 use native.Mathlib.Omega.{arith}
 use lib.Dec.{leb}
@@ -12,17 +12,17 @@ use lib.ListN.{getD, set, take, drop, length, length-append, length-set, length-
 use lib.Seq.{getD-set-same, getD-set-other}
 use borrow.Author.Tests.{lt-ltb, le-ltb, le-leb, eq-eqb}
 use Rattle.record.specs.Below.{count, select}
-use Rattle.record.specs.Members.{quorum, leader, has, add, with, meets, idOf, idMember, isRound, rounds, slots, votedRounds}
+use Rattle.record.specs.Members.{quorum, leader, has, with, meets, idOf, idMember, isRound, rounds, slots, votedRounds}
 use Rattle.record.specs.declared.members.Members.{Members}
 use Rattle.record.specs.Layout.{strongOf, bodySize, strongPlace}
-use Rattle.record.proofs.Booleans.{which, never, and-both, and-fails-left, and-fails-right, or-right, cond-true, cond-false}
+use Rattle.record.proofs.Booleans.{which, never, and-both, and-fails-left, and-fails-right, or-left, cond-true, cond-false}
 use Rattle.record.proofs.Below.{count-cong, count-more, count-same}
 use Rattle.record.proofs.Below as below
-use Rattle.record.proofs.Masks.{has-zero, has-one, meets-count}
-use Rattle.protocol.specs.Dag.{Dag, present, held, votes, enough, committed}
+use Rattle.record.proofs.Masks.{has-zero, has-one, has-add-same, has-add-other, add-lt, mask-ext, meets-count}
+use Rattle.protocol.specs.Dag.{Dag, present, held, votes, voter, enough, committed}
 use Rattle.protocol.specs.Masks.{voters}
 use Rattle.protocol.specs.Chain.{leaderId}
-use Rattle.protocol.proofs.Voters.{voters-in, voters-out, voters-claim}
+use Rattle.protocol.proofs.Voters.{voters-lt, voters-has, voters-claim}
 use Rattle.replica.specs.Layout.{cellAt, stateSize, leadersAt, leadersSize, leaderCountAt, memberCountAt}
 use Rattle.replica.specs.State.{memberCount, committedRound, leaderCount, heldMask, heardMask, votesMask, orderedMask, cell, vertices}
 use Rattle.replica.specs.State.{firsts, dag, orderedId}
@@ -225,15 +225,11 @@ pub not-led : (n : ℕ) (d : Dag) (q : ℕ) → held (d .vertex) q (leader n q) 
 unfolding committed
 not-led n d q e = sym (and-fails-left _ e)
 
--- the mask of the voters of a state meets the quorum exactly if the round of the held leader is committed
-pub by-voters : (l : List ℕ) → Standing l → (n q : ℕ) (m : Members) → n ≡ memberCount l → 1 ≤ q → q ≤ votedRounds
-    → m .bits ≡ voters n (vertices l) q (votesMask l (q + 1)) n → held (vertices l) q (leader n q) ≡ true → meets n (m .bits) ≡ committed n (dag l) q
+-- the mask of the voters meets the quorum exactly if the round of the held leader is committed
+pub by-voters : (n : ℕ) (d : Dag) (q : ℕ) (m : Members) → m .bits ≡ voters n d q n → held (d .vertex) q (leader n q) ≡ true
+    → meets n (m .bits) ≡ committed n d q
 unfolding committed
-by-voters l S n q m e low high d h =
-    ap (meets n) (d ∙ ap (λ (r : ℕ). voters n (vertices l) q (votesMask l r) n) (add-one q))
-    ∙ voters-claim n (dag l) q (votesMask l (suc q)) (rw (sym e) at (S .votes-low (suc q) (omega arith) (omega arith)))
-    (λ p k. sym (first-votes l S n q p e low high))
-    ∙ rw h
+by-voters n d q m e led = rw (e, led) (voters-claim n d q)
 
 -- ---- the lowest committable round
 
@@ -245,23 +241,50 @@ pub committable-low : (l : List ℕ) (q : ℕ) → q ≤ committedRound l → co
 unfolding committable
 committable-low l q h = and-fails-left _ (le-ltb (committedRound l) q h)
 
--- the mask has the voters by first messages, and those below p by vertices of round q + 1
-abbrev pub Voters : List ℕ → ℕ → ℕ → ℕ → Members → Type 0
-Voters l n q p m = m .bits ≡ voters n (vertices l) q (votesMask l (q + 1)) p
+-- of the members below p the mask has the voters, and of the others those whose first messages vote
+pub record Voters (l : List ℕ) (n q p : ℕ) (m : Members) : Type 0 where
+  pub low : m .bits < 2 ^ n
+  pub below : (x : ℕ) → x < p → has (m .bits) x ≡ voter n (dag l) q x
+  pub above : (x : ℕ) → p ≤ x → has (m .bits) x ≡ votes n q (firsts l (suc q) x)
 
-module _ (l : List ℕ) (n q p at : ℕ) (C : Cell l (q + 1) p at) where
-  abbrev first : ℕ
-  first = votesMask l (q + 1)
+-- so does the votes mask at first
+pub voters-first : (l : List ℕ) → Standing l → (n q : ℕ) (m : Members) → n ≡ memberCount l → 1 ≤ q → q ≤ votedRounds → m .bits ≡ votesMask l (q + 1)
+    → Voters l n q 0 m
+voters-first l S n q m e low high is =
+    let d : m .bits ≡ votesMask l (suc q) = is ∙ ap (votesMask l) (add-one q) in
+    record {
+      low = rw d (rw (sym e) at (S .votes-low (suc q) (omega arith) (omega arith)));
+      below = λ x k. absurd (omega arith);
+      above = λ x k. rw d (sym (first-votes l S n q x e low high));
+    }
 
+-- and at the end the mask is that of the voters
+pub voters-all : (l : List ℕ) (n q : ℕ) (m : Members) → Voters l n q n m → m .bits ≡ voters n (dag l) q n
+voters-all l n q m v =
+    mask-ext n (m .bits) (voters n (dag l) q n) (v .low) (voters-lt n (dag l) q n n (omega arith))
+    (λ x k. v .below x k ∙ sym (voters-has n (dag l) q n x k))
+
+module _ (l : List ℕ) (n q p at : ℕ) (C : Cell l (q + 1) p at) (few : p < n) (m o : Members) (v : Voters l n q p m) where
   -- a vertex votes exactly if the strong mask in its cell has the leader
   vertex-vote : has (getD l (at + strongPlace) 0) (leader n q) ≡ votes n q (vertices l (suc q) p)
   vertex-vote = rw (← add-one q) (ap (λ (x : ℕ). has x (leader n q)) (C .strong))
 
-  -- so the mask of the voters below p becomes that of the voters below p + 1
-  pub voter-in : (m o : Members) → Voters l n q p m → has (getD l (at + strongPlace) 0) (leader n q) ≡ true → o ≡ with m p → Voters l n q (p + 1) o
-  voter-in m o w h e =
-      rw e (ap (λ (x : ℕ). add x p) w ∙ sym (voters-in n (vertices l) q first p (sym vertex-vote ∙ h)) ∙ ap (voters n (vertices l) q first) (sym (add-one p)))
+  -- from the voters below p to those below p + 1, with member p, and the others as they were
+  next : o .bits < 2 ^ n → has (o .bits) p ≡ voter n (dag l) q p → ((x : ℕ) → (p ≡ x → ⊥) → has (o .bits) x ≡ has (m .bits) x) → Voters l n q (p + 1) o
+  next low here same = record {
+    low = low;
+    below = λ x k. ⊎-elim (λ (e : x ≡ p). rw e here) (λ k′. same x (λ e. omega arith) ∙ v .below x k′) (eq-or-lt-of-le (omega arith));
+    above = λ x k. same x (λ e. omega arith) ∙ v .above x (omega arith);
+  }
 
-  pub voter-out : (m o : Members) → Voters l n q p m → has (getD l (at + strongPlace) 0) (leader n q) ≡ false → o ≡ m → Voters l n q (p + 1) o
-  voter-out m o w h e =
-      rw e (w ∙ sym (voters-out n (vertices l) q first p (sym vertex-vote ∙ h)) ∙ ap (voters n (vertices l) q first) (sym (add-one p)))
+  -- member p joins if its vertex votes
+  pub voter-in : has (getD l (at + strongPlace) 0) (leader n q) ≡ true → o ≡ with m p → Voters l n q (p + 1) o
+  unfolding voter
+  voter-in h e = next (rw e (add-lt n (m .bits) p (v .low) few))
+      (rw e (has-add-same (m .bits) p) ∙ sym (or-left _ (sym vertex-vote ∙ h)))
+      (λ x d. rw e (has-add-other (m .bits) p x d))
+
+  -- and is in the mask, if it does not, exactly if its first message votes
+  pub voter-out : has (getD l (at + strongPlace) 0) (leader n q) ≡ false → o ≡ m → Voters l n q (p + 1) o
+  unfolding voter
+  voter-out h e = next (rw e (v .low)) (rw (e, sym vertex-vote ∙ h) (v .above p (omega arith))) (λ x d. rw e)

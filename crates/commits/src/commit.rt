@@ -1,7 +1,7 @@
 // The commits: which rounds are committable, and what committing one writes.
 ghost use mathlib.Core.Path.{_≡_};
-ghost use mathlib.Core.Bool.{true, false};
-ghost use Prim.Native.Nat.{_+_, _<_, _≤_};
+ghost use mathlib.Core.Bool.{false};
+ghost use Prim.Native.Nat.{_<_, _≤_};
 ghost use lib.ListN.{length};
 ghost use Rattle.record.specs.Below.{count, select};
 ghost use Rattle.record.specs.Members.{leader, has, rounds, slots, votedRounds, idLimit};
@@ -9,7 +9,7 @@ ghost use Rattle.record.specs.Handed.{QuorumOf};
 ghost use Rattle.protocol.specs.Dag.{committed};
 ghost use Rattle.protocol.specs.Masks.{voters};
 ghost use Rattle.replica.specs.Layout.{stateSize, journalSize};
-ghost use Rattle.replica.specs.State.{memberCount, committedRound, journalCount, votesMask, vertices, dag};
+ghost use Rattle.replica.specs.State.{memberCount, committedRound, journalCount, vertices, dag};
 ghost use Rattle.commits.specs.Commit.{appendLeader, appendLeaders, enter, orderLeader, orderLeaders, commit, lowest, commitAll};
 ghost use Rattle.commits.specs.Standing.{Standing, Room, LeaderRoom, LeaderReady, LeadersReady, Going, Next, orderId, orderRound};
 use super::history::history_of;
@@ -37,8 +37,8 @@ use replica::masks::mask_of;
 
 // The voters for the leader of round q: the members whose first messages of round q + 1 name it, and those whose vertices do.
 fn voters_for(state: &[u32], n: u32, q: u32, voted: u32) -> Members
-    requires { ⌜ Standing (now state) × (n ≡ memberCount (now state)) × (q ≤ votedRounds) × (voted ≡ leader n q) ⌝ }
-    ensures { λ r. ⌜ r .bits ≡ voters n (vertices (now (state .entry))) q (votesMask (now (state .entry)) (q + 1)) n ⌝ }
+    requires { ⌜ Standing (now state) × (n ≡ memberCount (now state)) × (1 ≤ q) × (q ≤ votedRounds) × (voted ≡ leader n q) ⌝ }
+    ensures { λ r. ⌜ r .bits ≡ voters n (dag (now (state .entry))) q n ⌝ }
 {
     let mut voters = Members {
         bits: mask_of(state, VOTES, q + 1),

@@ -73,10 +73,10 @@ enough-more : (n : ℕ) (s t : ℕ → Bool) → ((p : ℕ) → s p ≡ true →
 enough-more n s t h e = le-leb (quorum n) (count n t) (omega (arith, leb-true (quorum n) (count n s) e, count-mono n s t h))
 
 -- a quorum of vertices alone, or of first messages alone, commits a round whose leader's vertex is there
-pub either-alone : (n : ℕ) (d : Dag) (r : ℕ) → held (d .vertex) r (leader n r) ≡ true
+pub by-either : (n : ℕ) (d : Dag) (r : ℕ) → held (d .vertex) r (leader n r) ≡ true
     → (enough n (λ p. votes n r (d .first (suc r) p)) ≡ true) ⊎ (enough n (λ p. votes n r (d .vertex (suc r) p)) ≡ true) → committed n d r ≡ true
 unfolding committed voter
-either-alone n d r h e = and-both h (⊎-elim
+by-either n d r h e = and-both h (⊎-elim
     (λ x. enough-more n _ _ (λ p v. or-right (votes n r (d .vertex (suc r) p)) v) x)
     (λ x. enough-more n _ _ (λ p v. or-left _ v) x)
     e)

@@ -129,7 +129,8 @@ module _ (n : ℕ) {I : Type 0} (dag : I → Dag) (honest : ℕ → Bool) (P : D
       → path n (dag j .vertex) (suc (suc q)) p q (leader n q) ≡ true
   two i j q p l c h =
       let W = P .well-formed j in
-      let w = honest-meet (voter n (dag i) q) (has (strongOf (dag j .vertex (suc (suc q)) p))) (voters i q c) (W .admitted (suc (suc q)) p h .strong-later (omega arith)) in
+      let w = honest-meet (voter n (dag i) q) (has (strongOf (dag j .vertex (suc (suc q)) p))) (voters i q c)
+      (W .admitted (suc (suc q)) p h .strong-later (omega arith)) in
       let e : votes n q (dag j .vertex (suc q) (w .0)) ≡ true = voter-votes i j q (w .0) (w .4) (parent-held n _ W (suc q) p (w .0) (w .3))
       (w .2) in
       path-edge n (dag j .vertex) (suc q) p (w .0) q (leader n q) (omega arith) (w .1) (w .3)

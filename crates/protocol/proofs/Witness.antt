@@ -1,7 +1,7 @@
 -- The witness: its premises by tests over the lists of records, and the rest by computation.
-use mathlib.Core.Path.{_≡_, refl, sym, ap, _∙_}
-use mathlib.Core.Bool.{Bool, true, false, not, _&&_, _||_, false≢true}
-use mathlib.Core.Logic.{_⊎_, inl, inr, ⊎-elim}
+use mathlib.Core.Path.{_≡_, refl, ap, _∙_}
+use mathlib.Core.Bool.{Bool, true, false, not, _&&_, false≢true}
+use mathlib.Core.Logic.{_⊎_, inl, inr}
 use mathlib.Core.List.{List, [], _∷_, _++_}
 use Prim.Native.Nat.{ℕ, zero, suc, _+_, _-_, _≤_, _<_}
 use native.Mathlib.Numerals.{unary-clauses}
@@ -13,7 +13,7 @@ use Rattle.record.specs.Below.{all, any, count, select}
 use Rattle.record.specs.Members.{legal, has, leader, idRound, idMember, rounds}
 use Rattle.record.specs.Layout.{roundOf, sourceOf, bodyOf, strongOf, timeoutsOf, noVotesOf, weakCountOf, weakOf, bodySize}
 use Rattle.record.specs.Admitted.{Admitted}
-use Rattle.record.proofs.Booleans.{which, never, and-left, and-right, and-both, or-left, or-right, imp, imp-elim}
+use Rattle.record.proofs.Booleans.{which, never, and-left, and-right, and-both, imp, imp-elim}
 use Rattle.record.proofs.Below.{all-elim}
 use Rattle.record.proofs.Masks.{has-bound}
 use Rattle.protocol.specs.Dag.{recordsOf, present, held, voter, committed, lastUpTo, last}

@@ -8,7 +8,7 @@ use lib.ListN.{getD, set, take, replicate}
 use Rattle.record.specs.Below.{any}
 use Rattle.record.specs.Members.{legal, has, add, meets, idOf, idRound, idMember, rounds, slots}
 use Rattle.record.specs.Layout.{strongOf, weakCountOf, weakOf, weakCountPlace}
-use Rattle.protocol.specs.Dag.{Records, Dag, held, votes, voter, enough}
+use Rattle.protocol.specs.Dag.{Records, Dag, held, voter, enough}
 use Rattle.protocol.specs.Paths.{path, history}
 use Rattle.protocol.specs.Premises.{ValidVertices}
 
@@ -44,10 +44,10 @@ abbrev pub joinRoundParents : Records → List ℕ → ℕ → ℕ → List ℕ
 joinRoundParents v h r k = joinRound v h r (getD h (r - 1) 0) k
 
 module _ (n : ℕ) where
-  -- the mask m with the members below k added whose vertices of round r + 1 vote for the leader of round r
-  unfoldable pub voters : Records → ℕ → ℕ → ℕ → ℕ
-  voters v r m zero = m
-  voters v r m (suc k) = cond (votes n r (v (suc r) k)) (add (voters v r m k) k) (voters v r m k)
+  -- the members below k that are voters for the leader of round r
+  unfoldable pub voters : Dag → ℕ → ℕ → ℕ
+  voters d r zero = 0
+  voters d r (suc k) = cond (voter n d r k) (add (voters d r k) k) (voters d r k)
 
   -- for the rounds k + 1, k, .. 2 the parents of the vertices that the masks have are joined
   unfoldable pub fill : Records → List ℕ → ℕ → List ℕ
@@ -62,10 +62,9 @@ module _ (n : ℕ) where
   abbrev pub historyMasks : Records → ℕ → ℕ → List ℕ
   historyMasks v r p = reachMasks v r (2 ^ p)
 
-  -- From the mask m of the members whose first messages vote, the mask of the voters: it meets the quorum exactly if enough members are voters.
+  -- the mask of the voters meets the quorum exactly if enough members are voters
   abbrev pub VotersClaim : Type 0
-  VotersClaim = (d : Dag) (r m : ℕ) → m < 2 ^ n → ((p : ℕ) → p < n → has m p ≡ votes n r (d .first (suc r) p))
-      → meets n (voters (d .vertex) r m n) ≡ enough n (voter n d r)
+  VotersClaim = (d : Dag) (r : ℕ) → meets n (voters d r n) ≡ enough n (voter n d r)
 
   -- the members that paths from the vertex of round r and member p reach in round t, from those that they reach in round t + 1
   abbrev pub ParentsClaim : Type 0

@@ -3,7 +3,8 @@
 //! Either a world is drawn first: the vertices that the members of a group make, round by round.
 //! Then each replica gets that world's vertices and messages in an order of its own, with losses,
 //! retries and calls that are to be refused in between; a member's replica also makes records and
-//! signs no-votes, which nobody gets. Or the members' own states make all that is sent. Either way
+//! signs no-votes, which nobody gets. A faulty member's first messages may differ from its vertices,
+//! also in whether they vote. Or the members' own states make all that is sent. Either way
 //! some replicas get timeouts one by one, others in bundles, and some both ways; and some hand
 //! vertices over when their parents are held, others as they come, with a pending buffer.
 

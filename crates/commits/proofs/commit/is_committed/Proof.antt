@@ -35,7 +35,7 @@ returns-2 c =
     let v : tie.After-voters-for = search in
     let s : tie.Start = search in
     meets-handed _ _ _ (s .pre .2) (c .meets-quorum .ensures)
-    ∙ by-voters _ (s .pre .0) _ _ _ (s .pre .1) (s .pre .3) (s .pre .4) (v .voters-for .ensures) (passed (led (search)) (e .if1 .left))
+    ∙ by-voters _ _ _ _ (v .voters-for .ensures) (passed (led (search)) (e .if1 .left))
 
 pub is-committed-spec : {M : Type 1} → statement M
 is-committed-spec =

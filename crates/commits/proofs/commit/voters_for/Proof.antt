@@ -1,7 +1,7 @@
--- The loop's invariant: the mask has the voters by first messages, and of the members below p those by vertices. The measure is how many members are left.
-use Rattle.commits.proofs.Steps.{Voters, voter-in, voter-out}
+-- The loop's invariant: of the members below p the mask has the voters, and of the others those by first messages. The measure is how many members are
+-- left.
+use Rattle.commits.proofs.Steps.{Voters, voters-first, voters-all, voter-in, voter-out}
 use Rattle.commits.proofs.Laws.{Cell, cell-known}
-use Rattle.protocol.proofs.Voters.{voters-none}
 use Rattle.record.proofs.Masks.{leader-small}
 use mathlib.Core.Path.{_≡_, sym, _∙_}
 use mathlib.Core.Logic.{⊎-elim}
@@ -16,6 +16,11 @@ Inv-loop state n q voted voters₀ p₀ mask p = (p ≤ n) × Voters state n q p
 
 abbrev μ-loop : tie.MeasureT-loop
 μ-loop state n q voted voters₀ p₀ mask p = n - p
+
+loop-holds : tie.Need-loop-holds Inv-loop μ-loop
+loop-holds c =
+    let s : tie.Start Inv-loop μ-loop = search in
+    (omega arith, voters-first _ (s .pre .0) _ _ _ (s .pre .1) (s .pre .2) (s .pre .3) (c .mask-of .ensures))
 
 voted-small : (c : tie.Start Inv-loop μ-loop) → c .args .voted < 32
 voted-small c = omega (arith, leader-small (c .args .n) (c .args .q) (omega arith))
@@ -32,11 +37,13 @@ loop-again c =
     let s : tie.Start Inv-loop μ-loop = search in
     let h : tie.After-has-bit Inv-loop μ-loop = search in
     let k = known (search) in
-    let e = sym (rw (s .pre .3) at (h .has-bit .ensures)) in (
+    let t : tie.In-loop Inv-loop μ-loop = search in
+    let i = t .loop-test .taken in
+    let e = sym (rw (s .pre .4) at (h .has-bit .ensures)) in (
       omega arith,
       ⊎-elim
-          (λ w. voter-in _ _ _ _ _ k _ _ (a .loop .inv .1) (e ∙ w .0 .taken) (w .2 ∙ w .1 .ensures))
-          (λ w. voter-out _ _ _ _ _ k _ _ (a .loop .inv .1) (e ∙ w .0 .left) (w .1))
+          (λ w. voter-in _ _ _ _ _ k i _ _ (a .loop .inv .1) (e ∙ w .0 .taken) (w .2 ∙ w .1 .ensures))
+          (λ w. voter-out _ _ _ _ _ k i _ _ (a .loop .inv .1) (e ∙ w .0 .left) (w .1))
           (c .if1 .came),
     )
 
@@ -45,7 +52,7 @@ returns c =
     let s : tie.Start Inv-loop μ-loop = search in
     let a : tie.At-loop Inv-loop μ-loop = search in
     let e : a .loop .p ≡ s .args .n = omega arith in
-    rw e at (a .loop .inv .1)
+    voters-all _ _ _ _ (rw e at (a .loop .inv .1))
 
 pub voters-for-spec : {M : Type 1} → statement M
 voters-for-spec =
@@ -55,7 +62,7 @@ voters-for-spec =
     μ-loop
     (λ c. search needs)
     (λ c κs. let s : tie.Start Inv-loop μ-loop = search in let size = s .pre .0 .size in search needs)
-    (λ c. (omega arith, c .mask-of .ensures ∙ sym (voters-none _ _ _ _)))
+    loop-holds
     (λ c. search needs)
     (λ c κs. let s : tie.Start Inv-loop μ-loop = search in search needs)
     (λ c. search needs)

@@ -9,6 +9,7 @@ use reference::layout::*;
 use reference::pending::laid_out;
 use reference::record::Record;
 use reference::rng::Rng;
+use reference::simulate::sightings::Sighting::{NoVote, Nothing, Vote};
 use reference::simulate::sightings::{calls, first_round, in_state, Pair, PAIRS};
 use reference::*;
 
@@ -125,20 +126,20 @@ fn sightings_of_larger_groups() {
 /// One member short of a quorum, each seen to vote both ways; then any sighting of one more.
 #[test]
 fn a_member_seen_both_ways_counts_once() {
-    let [both, once] = [4, 5];
     for n in SIZES {
         let mut watched = Watched::new(n);
         let quorum = watched.group.quorum();
         for source in 0..quorum - 1 {
-            watched.see(source, PAIRS[both], false);
+            watched.see(source, [Vote, Vote], false);
         }
         assert_eq!(watched.state[COMMITTED_ROUND], 0);
         let [heard, held] = in_state(&watched.state, 1);
         assert_eq!(heard.count_ones() + held.count_ones(), 2 * (quorum - 1));
-        for pair in [1, 3, both, once, 7] {
+        for pair in PAIRS {
             let mut next = watched.clone();
-            next.see(quorum - 1, PAIRS[pair], false);
-            assert_eq!(next.state[COMMITTED_ROUND], 1);
+            next.see(quorum - 1, pair, false);
+            let votes = u32::from(pair.contains(&Vote));
+            assert_eq!(next.state[COMMITTED_ROUND], votes, "{pair:?}");
         }
     }
 }
@@ -147,12 +148,12 @@ fn a_member_seen_both_ways_counts_once() {
 #[test]
 fn either_alone_is_enough() {
     for n in SIZES {
-        for pair in [1, 3] {
+        for pair in [[Vote, Nothing], [Nothing, Vote]] {
             let mut watched = Watched::new(n);
             let quorum = watched.group.quorum();
             for source in 0..quorum {
                 assert_eq!(watched.state[COMMITTED_ROUND], 0);
-                watched.see(n - 1 - source, PAIRS[pair], false);
+                watched.see(n - 1 - source, pair, false);
             }
             assert_eq!(watched.state[COMMITTED_ROUND], 1);
         }
@@ -163,13 +164,33 @@ fn either_alone_is_enough() {
 #[test]
 fn sightings_do_not_raise_the_round() {
     let mut watched = Watched::new(4);
-    for (source, pair) in [(0, 3), (1, 3), (2, 1)] {
-        watched.see(source, PAIRS[pair], false);
-    }
+    watched.see(0, [Vote, Nothing], false);
+    watched.see(1, [Vote, Nothing], false);
+    watched.see(2, [Nothing, Vote], false);
     assert_eq!(watched.state[COMMITTED_ROUND], 1);
     assert_eq!(watched.state[CURRENT_ROUND], 2);
     assert_eq!(watched.state[mask_place(2, HELD)], 4);
     assert_eq!(watched.state[mask_place(2, VOTES)], 3);
+}
+
+/// A faulty member's two records differ: it is a voter if one of them names the leader, whichever.
+#[test]
+fn a_split_vote_counts() {
+    for n in SIZES {
+        for pair in [[Vote, NoVote], [NoVote, Vote]] {
+            for backwards in [false, true] {
+                let mut watched = Watched::new(n);
+                let quorum = watched.group.quorum();
+                for source in 0..quorum {
+                    assert_eq!(watched.state[COMMITTED_ROUND], 0);
+                    watched.see(source, pair, backwards);
+                }
+                assert_eq!(watched.state[COMMITTED_ROUND], 1);
+                let [heard, held] = in_state(&watched.state, 1);
+                assert_eq!(heard & held, 0);
+            }
+        }
+    }
 }
 
 /// Votes are counted only while the leader's vertex is held.

@@ -40,7 +40,7 @@ for input in "$stored"/*.in; do
     compare "$(basename "$input")" "$input" "${input%.in}.out"
 done
 
-for option in calm typical rough wild; do
+for option in calm typical split rough wild; do
     for n in 4 7 10 13 16; do
         for seed in 1 2 3; do
             "$lines" calls "$seed" "$n" "$option" >"$work/input"

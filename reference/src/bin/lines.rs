@@ -1,7 +1,7 @@
 //! `lines`: inputs for `sheetlog`, drawn from a seed.
 //!
 //! - `lines calls SEED N OPTION`: the calls of one watcher's replica of a simulated group of N
-//!   members; OPTION is calm, typical, rough or wild.
+//!   members; OPTION is calm, typical, split, rough or wild.
 //! - `lines near SEED COUNT`: lines that are of the form or miss it by a little.
 //! - `lines bytes SEED COUNT`: that many bytes of any kind.
 
@@ -46,6 +46,7 @@ fn options(name: &str) -> Option<Options> {
     match name {
         "calm" => Some(Options::calm()),
         "typical" => Some(Options::typical()),
+        "split" => Some(Options::split()),
         "rough" => Some(Options::rough()),
         "wild" => Some(Options::wild()),
         _ => None,

@@ -354,10 +354,11 @@ fn groups_with_bundles_go_on_by_them() {
     let options = Options {
         lost_timeouts: 0,
         bundles: 100,
+        split_votes: 0,
         spread: 40,
         ..Options::typical()
     };
-    let seen = run_groups(&options, 0..3);
+    let seen = run_groups(&options, 0..2);
     assert!(seen.by_bundle > 20, "{}", seen.by_bundle);
     assert!(seen.committed > 400, "{}", seen.committed);
     check_bundles(&seen);

@@ -827,8 +827,9 @@ fn a_replica_with_plain_vertices_instead_ends_alike() {
     let mut released = 0;
     for n in LEGAL_SIZES {
         let options = Options {
-            rounds: 24,
+            rounds: 16,
             buffers: 100,
+            split_votes: 0,
             ..Options::rough()
         };
         let runs = [simulate(5, n, &options), simulate_proposing(5, n, &options)];

@@ -4,6 +4,7 @@ use std::collections::BTreeSet;
 
 use crate::op::Op;
 use reference::group::{members, Group};
+use reference::harness::{MOST_RECORD_WORDS, MOST_WORDS};
 use reference::layout::*;
 use reference::pending::laid_out;
 use reference::record::{first_refusal, Record};
@@ -12,9 +13,6 @@ use reference::simulate::buffers;
 use reference::vectors::damage;
 use reference::Call;
 
-/// Records have up to this many words.
-const MOST_RECORD_WORDS: u32 = 20;
-const MOST_STATE_WORDS: u32 = 6_000;
 const EDGES: [u32; 8] = [0, 1, 2, 15, 16, 0xFFFF, 1 << 31, u32::MAX];
 
 /// Where a list of so many entries is asked for: near its ends, and far beyond.
@@ -312,22 +310,31 @@ fn other_word(rng: &mut Rng, word: u32) -> u32 {
 
 /// A record of small numbers drawn at random, most of them within their ranges.
 fn random_record(rng: &mut Rng) -> Call {
-    let mask = (1 << rng.below(17)) - 1;
-    let mut words = vec![rng.below(LAST_ROUND + 2), rng.below(17)];
-    words.extend((0..3).map(|_| {
+    let members = (1 << rng.below(17)) - 1;
+    let (round, source) = (rng.below(LAST_ROUND + 2), rng.below(17));
+    let [strong, timeouts, no_votes] = [(); 3].map(|()| {
         if rng.percent(50) {
-            rng.word() & mask
+            rng.word() & members
         } else {
             0
         }
-    }));
-    words.extend([rng.word(), rng.below(7)]);
-    let mut weak: Vec<u32> = (0..5).map(|_| rng.below(540)).collect();
+    });
+    let (tag, weak_count) = (rng.word(), rng.below(WEAK_SLOTS as u32 + 2));
+    let mut weak = [(); WEAK_SLOTS].map(|()| rng.below(540));
     weak.sort_unstable();
-    let used = words[6] as usize;
+    let used = weak_count as usize;
     weak.iter_mut().skip(used).for_each(|id| *id = 0);
-    words.extend(weak);
-    vertex_or_first(rng, words)
+    let record = Record {
+        round,
+        source,
+        strong,
+        timeouts,
+        no_votes,
+        tag,
+        weak_count,
+        weak,
+    };
+    vertex_or_first(rng, record.words().to_vec())
 }
 
 /// Words of a well formed state changed: one of the drawn damages, any words, or only such as
@@ -413,7 +420,7 @@ pub fn unlikely(rng: &mut Rng, state: &[u32]) -> Vec<(usize, u32)> {
         _ => {
             let held = state[mask_place(round, HELD)];
             let member = rng.member(held);
-            let tag = member.map(|member| cell_place(round, member).start + 3);
+            let tag = member.map(|member| cell_word(round, member, CELL_TAG));
             tag.map(|at| (at, rng.word())).into_iter().collect()
         }
     }
@@ -449,22 +456,22 @@ pub fn other_size(rng: &mut Rng, state: &[u32]) -> Vec<u32> {
     let sizes = [
         0,
         1,
-        5,
-        12,
-        200,
-        744,
-        5_854,
-        5_863,
-        5_865,
-        5_874,
-        MOST_STATE_WORDS,
+        OWN,
+        RECORD_WORDS,
+        MASKS.end,
+        CELLS.start,
+        STATE_WORDS - CELL_WORDS,
+        STATE_WORDS - 1,
+        STATE_WORDS + 1,
+        STATE_WORDS + CELL_WORDS,
+        MOST_WORDS as usize,
     ];
     let size = match rng.below(3) {
-        0 => rng.below(MOST_STATE_WORDS),
+        0 => rng.below(MOST_WORDS) as usize,
         _ => sizes[rng.below(sizes.len() as u32) as usize],
     };
     let mut words = state.to_vec();
-    words.resize(size as usize, rng.below(2));
+    words.resize(size, rng.below(2));
     words
 }
 

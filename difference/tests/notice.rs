@@ -3,7 +3,7 @@
 use difference::agreement::follow;
 use difference::engine::{Engine, Second};
 use difference::failure::Failure;
-use difference::op::{reply, Op, Reply};
+use difference::op::{reply, Op, Reply, ANSWER_NUMBERS};
 use difference::proved::Proved;
 use difference::report::report;
 use difference::run::{run, Plan};
@@ -49,6 +49,11 @@ fn shown<'a>(report: &'a str, title: &str) -> Vec<&'a str> {
     rest.lines().skip(1).collect()
 }
 
+/// The command that lends so many words.
+fn lent(words: usize) -> String {
+    format!("1 {words} 0")
+}
+
 #[test]
 fn a_wrong_number_is_shown_by_three_lines() {
     let engine = Faulty(|_, _, answer| {
@@ -72,7 +77,7 @@ fn a_wrong_number_is_shown_by_three_lines() {
 fn a_wrong_commit_is_shown_by_lines() {
     let engine = Faulty(|state, op, mut reply| {
         if matches!(op, Op::Change(_)) && reply[2] > 0 {
-            state[2] -= 1;
+            state[COMMITTED_ROUND] -= 1;
             reply[2] -= 1;
         }
         reply
@@ -86,14 +91,14 @@ fn a_wrong_commit_is_shown_by_lines() {
 fn a_wrong_word_is_shown_by_commands() {
     let engine = Faulty(|state, op, reply| {
         if matches!(op, Op::Change(Call::NoVote(..))) && reply[0] == 0 {
-            state[8 + 4] = 1;
+            state[mask_place(1, NO_VOTES)] = 1;
         }
         reply
     });
     let report = reported(&engine);
     let commands = shown(&report, "commands for harness");
     assert_eq!(commands.len(), 3, "{report}");
-    assert_eq!(commands[0], "1 5864 0", "{report}");
+    assert_eq!(commands[0], lent(STATE_WORDS), "{report}");
     assert!(
         commands[1].starts_with("3 ") && commands[2].starts_with("12 "),
         "{report}"
@@ -103,12 +108,13 @@ fn a_wrong_word_is_shown_by_commands() {
 #[test]
 fn a_wrong_size_is_shown_by_commands() {
     let engine = Faulty(|state, _, mut reply| {
-        reply[0] = if state.len() == 5_863 { 3 } else { reply[0] };
+        let is_short = state.len() == STATE_WORDS - 1;
+        reply[0] = if is_short { 3 } else { reply[0] };
         reply
     });
     let report = reported(&engine);
     let commands = shown(&report, "commands for harness");
-    assert_eq!(commands[0], "1 5863 0", "{report}");
+    assert_eq!(commands[0], lent(STATE_WORDS - 1), "{report}");
     assert!(commands.len() <= 16, "{report}");
 }
 
@@ -116,7 +122,7 @@ fn a_wrong_size_is_shown_by_commands() {
 fn commands(engine: &dyn Engine) -> Vec<String> {
     let report = reported(engine);
     let commands = shown(&report, "commands for harness");
-    assert_eq!(commands[0], "1 5864 0", "{report}");
+    assert_eq!(commands[0], lent(STATE_WORDS), "{report}");
     commands[1..].iter().map(|line| line.to_string()).collect()
 }
 
@@ -128,7 +134,7 @@ fn is_propose(op: &Op) -> bool {
 fn an_opening_without_word_5_is_shown_by_itself() {
     let engine = Faulty(|state, op, reply| {
         if matches!(op, Op::Change(Call::Open(..))) && reply[0] == 0 {
-            state[5] = 0;
+            state[OWN] = 0;
         }
         reply
     });
@@ -141,7 +147,7 @@ fn an_opening_without_word_5_is_shown_by_itself() {
 fn a_made_record_without_its_mark_is_shown_by_two_commands() {
     let engine = Faulty(|state, op, reply| {
         if is_propose(op) && reply[0] == 0 {
-            state[6] &= state[6] - 1;
+            state[MADE_ROUNDS] &= state[MADE_ROUNDS] - 1;
         }
         reply
     });
@@ -154,10 +160,10 @@ fn a_made_record_without_its_mark_is_shown_by_two_commands() {
 fn a_wrong_word_of_a_made_record_is_noticed() {
     // The strong mask, the timeouts, the no-votes, and the last weak id for f = 1.
     for fault in [
-        Faulty(|_, op, reply| with_record_word(op, reply, 2)),
-        Faulty(|_, op, reply| with_record_word(op, reply, 3)),
-        Faulty(|_, op, reply| with_record_word(op, reply, 4)),
-        Faulty(|_, op, reply| with_record_word(op, reply, 7)),
+        Faulty(|_, op, reply| with_cell_word(op, reply, CELL_STRONG)),
+        Faulty(|_, op, reply| with_cell_word(op, reply, CELL_TIMEOUTS)),
+        Faulty(|_, op, reply| with_cell_word(op, reply, CELL_NO_VOTES)),
+        Faulty(|_, op, reply| with_cell_word(op, reply, CELL_WEAK.start)),
     ] {
         let commands = commands(&fault);
         let last = commands.last().expect("there is a call");
@@ -165,9 +171,9 @@ fn a_wrong_word_of_a_made_record_is_noticed() {
     }
 }
 
-/// The answer with a word of its record changed, where that is not 0.
-fn with_record_word(op: &Op, mut reply: Reply, at: usize) -> Reply {
-    let word = &mut reply[4 + at];
+/// The answer with one of its cell's words changed, where that is not 0.
+fn with_cell_word(op: &Op, mut reply: Reply, place: usize) -> Reply {
+    let word = &mut reply[ANSWER_NUMBERS + record_word(place)];
     *word ^= u32::from(is_propose(op) && *word != 0);
     reply
 }
@@ -176,7 +182,7 @@ fn with_record_word(op: &Op, mut reply: Reply, at: usize) -> Reply {
 fn a_refused_record_that_is_not_empty_is_noticed() {
     let engine = Faulty(|_, op, mut reply| {
         if is_propose(op) && reply[0] == 18 {
-            reply[4] = 2;
+            reply[ANSWER_NUMBERS + RECORD_ROUND] = 2;
         }
         reply
     });
@@ -188,7 +194,7 @@ fn a_refused_record_that_is_not_empty_is_noticed() {
 fn a_signature_without_its_mark_is_noticed() {
     let engine = Faulty(|state, op, reply| {
         if *op == Op::Change(Call::SignNoVote) && reply[0] == 0 {
-            state[7] = 0;
+            state[SIGNED_NO_VOTES] = 0;
         }
         reply
     });
@@ -204,19 +210,20 @@ fn a_wrong_order_of_questions_is_noticed() {
             return answer;
         }
         let mut unmarked = state.to_vec();
-        unmarked[6] = 0;
+        unmarked[MADE_ROUNDS] = 0;
         match Second.perform(&mut unmarked, op)[0] {
             18 => reply(&[18]),
             _ => answer,
         }
     });
     let round_first = Faulty(|state, op, answer| match answer[0] {
-        16 if is_propose(op) && state[1] == 33 => reply(&[5]),
+        16 if is_propose(op) && state[CURRENT_ROUND] == LAST_CURRENT_ROUND => reply(&[5]),
         _ => answer,
     });
     let signed_first = Faulty(|state, op, answer| match answer[0] {
-        17 if *op == Op::Change(Call::SignNoVote) && state[1] > 1 => {
-            let is_signed = state[7] >> (state[1] - 2) & 1 == 1;
+        17 if *op == Op::Change(Call::SignNoVote) && state[CURRENT_ROUND] > 1 => {
+            let before = round_bit(state[CURRENT_ROUND] - 1);
+            let is_signed = state[SIGNED_NO_VOTES] & before != 0;
             reply(&[if is_signed { 12 } else { 17 }])
         }
         _ => answer,
@@ -677,7 +684,7 @@ fn wrong_numbers_with_buffers_are_noticed() {
         _ => answer,
     });
     let full_first = Buffering(|before, _, record, answer| match answer[0] {
-        12 | 13 if before.buffer[0] as usize == BUFFER_SLOTS => {
+        12 | 13 if before.buffer[BUFFER_COUNT] as usize == BUFFER_SLOTS => {
             let mut state = before.state.clone();
             match take_plain(&mut state, record)[0] {
                 14 => reply(&[20]),
@@ -837,7 +844,10 @@ fn lists_other_than_the_model_s_with_a_buffer_are_noticed() {
         .filter(|call| !call.buffer().is_empty())
         .collect();
     assert!(!buffers.is_empty() && calls.len() <= 12, "{calls:?}");
-    let records = buffers.iter().map(|call| call.buffer()[0]).sum::<u32>();
+    let records = buffers
+        .iter()
+        .map(|call| call.buffer()[BUFFER_COUNT])
+        .sum::<u32>();
     assert!((1..=8).contains(&records), "{records}");
 }
 

@@ -8,11 +8,12 @@
 use crate::answer::{Answer, Proposal};
 use crate::call::Call;
 use crate::calls;
+use crate::layout::{BUFFER_WORDS, RECORD_WORDS, STATE_WORDS};
 
 /// The words that the program can lend, and those of the longest record and pending buffer.
-pub const MOST_WORDS: u32 = 6_000;
-pub const MOST_RECORD_WORDS: u32 = 20;
-pub const MOST_BUFFER_WORDS: u32 = 400;
+pub const MOST_WORDS: u32 = STATE_WORDS as u32 + 136;
+pub const MOST_RECORD_WORDS: u32 = RECORD_WORDS as u32 + 8;
+pub const MOST_BUFFER_WORDS: u32 = BUFFER_WORDS as u32 + 15;
 
 #[derive(Clone, Copy, Debug, PartialEq, Eq)]
 pub enum Command {

@@ -1,5 +1,5 @@
 //! Layout of the state, of a record and of a pending buffer, in words of 32 bits. Each number of 01
-//! and 02 is named once.
+//! and 02 is named or worked out here, and nowhere else.
 
 use std::ops::Range;
 
@@ -13,11 +13,26 @@ pub const LAST_COMMITTABLE_ROUND: u32 = LAST_ROUND - 1;
 pub const LAST_CURRENT_ROUND: u32 = LAST_ROUND + 1;
 /// A vertex id (01: ref) is this many times the round, plus the member.
 pub const IDS_PER_ROUND: u32 = 16;
+/// The vertex ids of all rounds.
+const IDS: usize = LAST_ROUND as usize * IDS_PER_ROUND as usize;
 
-/// Words of a record: round, source and the words kept in a cell.
-pub const RECORD_WORDS: usize = 12;
 /// Weak ids that a record has room for.
 pub const WEAK_SLOTS: usize = 5;
+
+/// Places of a cell's words, and how many it has: those of a record without round and source.
+pub const CELL_STRONG: usize = 0;
+pub const CELL_TIMEOUTS: usize = 1;
+pub const CELL_NO_VOTES: usize = 2;
+pub const CELL_TAG: usize = 3;
+pub const CELL_WEAK_COUNT: usize = CELL_TAG + 1;
+pub const CELL_WEAK: Range<usize> = words_from(CELL_WEAK_COUNT + 1, WEAK_SLOTS);
+pub const CELL_WORDS: usize = CELL_WEAK.end;
+
+/// Places of a record's words, and how many it has.
+pub const RECORD_ROUND: usize = 0;
+pub const RECORD_SOURCE: usize = 1;
+pub const RECORD_CELL: Range<usize> = words_from(2, CELL_WORDS);
+pub const RECORD_WORDS: usize = RECORD_CELL.end;
 
 /// A pending buffer (02: shelf): its count of records, and the records, for which it has so many
 /// places.
@@ -26,8 +41,7 @@ pub const BUFFER_RECORDS: usize = 1;
 pub const BUFFER_SLOTS: usize = 32;
 pub const BUFFER_WORDS: usize = buffer_end(BUFFER_SLOTS);
 
-/// Words of a whole state (01: sheet).
-pub const STATE_WORDS: usize = 5_864;
+/// The first words of a state (01: sheet).
 pub const N: usize = 0;
 pub const CURRENT_ROUND: usize = 1;
 pub const COMMITTED_ROUND: usize = 2;
@@ -41,7 +55,7 @@ pub const MADE_ROUNDS: usize = 6;
 pub const SIGNED_NO_VOTES: usize = 7;
 
 /// The masks of all rounds, and how many each round has.
-pub const MASKS: Range<usize> = 8..200;
+pub const MASKS: Range<usize> = words_from(8, MASKS_PER_ROUND * LAST_ROUND as usize);
 pub const MASKS_PER_ROUND: usize = 6;
 /// Places of a round's masks among its six.
 pub const HELD: usize = 0;
@@ -51,12 +65,17 @@ pub const TIMEOUTS: usize = 3;
 pub const NO_VOTES: usize = 4;
 pub const ORDERED: usize = 5;
 
-pub const LEADER_LIST: Range<usize> = 200..232;
-pub const JOURNAL: Range<usize> = 232..744;
+pub const LEADER_LIST: Range<usize> = words_from(MASKS.end, LAST_ROUND as usize);
+pub const JOURNAL: Range<usize> = words_from(LEADER_LIST.end, IDS);
+/// The cells, by rising round and member.
+pub const CELLS: Range<usize> = words_from(JOURNAL.end, CELL_WORDS * IDS);
+/// Words of a whole state.
+pub const STATE_WORDS: usize = CELLS.end;
 
-/// The cells, by rising round and member, and the words of one: a record without round and source.
-pub const CELLS: Range<usize> = 744..STATE_WORDS;
-pub const CELL_WORDS: usize = 10;
+/// So many words from a place on.
+const fn words_from(start: usize, count: usize) -> Range<usize> {
+    start..start + count
+}
 
 /// Place of a mask of a round from 1 to 32.
 pub fn mask_place(round: u32, mask: usize) -> usize {
@@ -71,7 +90,17 @@ pub fn round_bit(round: u32) -> u32 {
 /// Words of the cell of a round from 1 to 32 and a member from 0 to 15.
 pub fn cell_place(round: u32, member: u32) -> Range<usize> {
     let start = CELLS.start + CELL_WORDS * (vertex_id(round - 1, member) as usize);
-    start..start + CELL_WORDS
+    words_from(start, CELL_WORDS)
+}
+
+/// Place of one of a cell's words in the state.
+pub fn cell_word(round: u32, member: u32, place: usize) -> usize {
+    cell_place(round, member).start + place
+}
+
+/// Place of one of a cell's words in a record.
+pub const fn record_word(place: usize) -> usize {
+    RECORD_CELL.start + place
 }
 
 /// Where so many records end in a pending buffer.

@@ -3,13 +3,15 @@
 use crate::call::Call;
 use crate::layout::RECORD_WORDS;
 
+/// The most digits that a word has.
+const MOST_DIGITS: usize = 10;
 /// The longest line that can stand for a call: a letter and the words of a record, each after a
-/// space and of at most ten digits.
-pub const LONGEST_LINE: usize = 1 + RECORD_WORDS * 11;
+/// space.
+pub const LONGEST_LINE: usize = 1 + RECORD_WORDS * (1 + MOST_DIGITS);
 
 impl Call {
     /// The call as a line. A call that no line stands for gives a line of another form: a record
-    /// of other than 12 words, an opening for a member, a vertex with a pending buffer, a bundle of
+    /// of another length, an opening for a member, a vertex with a pending buffer, a bundle of
     /// timeouts, making our vertex and signing our no-vote.
     pub fn line(&self) -> String {
         let (letter, words) = match self {

@@ -2,11 +2,9 @@
 
 use crate::answer;
 use crate::group::{has, members, Group};
-use crate::layout::{
-    member_of, round_of, vertex_id, CELL_WORDS, LAST_ROUND, RECORD_WORDS, WEAK_SLOTS,
-};
+use crate::layout::*;
 
-/// The twelve words of a record, by name.
+/// The words of a record, by name.
 #[derive(Clone, Copy, Debug, Default, PartialEq, Eq)]
 pub struct Record {
     pub round: u32,
@@ -20,53 +18,48 @@ pub struct Record {
 }
 
 impl Record {
-    /// The record of these words, if they are twelve.
+    /// The record of these words, if they are as many as a record has.
     pub fn from_words(words: &[u32]) -> Option<Record> {
-        match words {
-            [round, source, cell @ ..] => Record::from_cell(*round, *source, cell),
-            _ => None,
-        }
+        let words = <&[u32; RECORD_WORDS]>::try_from(words).ok()?;
+        Record::from_cell(
+            words[RECORD_ROUND],
+            words[RECORD_SOURCE],
+            &words[RECORD_CELL],
+        )
     }
 
-    /// The record that a cell's ten words stand for, given the cell's round and member.
+    /// The record that a cell's words stand for, given the cell's round and member.
     pub fn from_cell(round: u32, source: u32, cell: &[u32]) -> Option<Record> {
-        let &[strong, timeouts, no_votes, tag, weak_count, ref weak @ ..] = cell else {
-            return None;
-        };
-        let weak = <[u32; WEAK_SLOTS]>::try_from(weak).ok()?;
+        let cell = <&[u32; CELL_WORDS]>::try_from(cell).ok()?;
         Some(Record {
             round,
             source,
-            strong,
-            timeouts,
-            no_votes,
-            tag,
-            weak_count,
-            weak,
+            strong: cell[CELL_STRONG],
+            timeouts: cell[CELL_TIMEOUTS],
+            no_votes: cell[CELL_NO_VOTES],
+            tag: cell[CELL_TAG],
+            weak_count: cell[CELL_WEAK_COUNT],
+            weak: cell[CELL_WEAK].try_into().ok()?,
         })
     }
 
     pub fn words(&self) -> [u32; RECORD_WORDS] {
-        let [a, b, c, d, e] = self.weak;
-        [
-            self.round,
-            self.source,
-            self.strong,
-            self.timeouts,
-            self.no_votes,
-            self.tag,
-            self.weak_count,
-            a,
-            b,
-            c,
-            d,
-            e,
-        ]
+        let mut words = [0; RECORD_WORDS];
+        words[RECORD_ROUND] = self.round;
+        words[RECORD_SOURCE] = self.source;
+        words[RECORD_CELL].copy_from_slice(&self.cell());
+        words
     }
 
-    /// The last ten words, as kept in a cell.
+    /// The words without round and source, as kept in a cell.
     pub fn cell(&self) -> [u32; CELL_WORDS] {
-        let [_, _, cell @ ..] = self.words();
+        let mut cell = [0; CELL_WORDS];
+        cell[CELL_STRONG] = self.strong;
+        cell[CELL_TIMEOUTS] = self.timeouts;
+        cell[CELL_NO_VOTES] = self.no_votes;
+        cell[CELL_TAG] = self.tag;
+        cell[CELL_WEAK_COUNT] = self.weak_count;
+        cell[CELL_WEAK].copy_from_slice(&self.weak);
         cell
     }
 

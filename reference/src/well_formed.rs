@@ -2,7 +2,7 @@
 //! whose words 5 to 7 are as 02's request A1 has them.
 //!
 //! Readings chosen where the text is open:
-//! - a state of another length than 5,864 words is not well formed;
+//! - a state of another length is not well formed;
 //! - a count above the words of its list is not well formed, since the list cannot have that many;
 //! - "by rising round" of the leader list is strict, since a round has one leader vertex;
 //! - a list entry names a vertex only if it is the vertex id of a held one, so any other word

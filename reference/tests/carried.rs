@@ -68,13 +68,12 @@ fn the_certificate_joins_the_notes_of_the_round_before() {
 #[test]
 fn no_other_word_is_changed_by_it() {
     let state = noted(noted(noted(lacking_leader(0), 1, 8), 2, 9), 3, 6);
-    let cell = cell_place(2, 0).start;
     let expected = vec![
         (CURRENT_ROUND, 2),
         (timeouts(1), 15),
         (held(2), 1),
-        (cell, 14),
-        (cell + 1, 7),
+        (cell_word(2, 0, CELL_STRONG), 14),
+        (cell_word(2, 0, CELL_TIMEOUTS), 7),
     ];
     assert_eq!(changed(&state, record(2, 0, 14, 7, 0)), expected);
 }
@@ -83,14 +82,13 @@ fn no_other_word_is_changed_by_it() {
 fn the_no_votes_are_not_touched() {
     let mut state = lacking_leader(0);
     assert_eq!(take_no_vote(&mut state, 1, 0).number, 0);
-    let cell = cell_place(2, 1).start;
     let expected = vec![
         (CURRENT_ROUND, 2),
         (timeouts(1), 11),
         (held(2), 2),
-        (cell, 14),
-        (cell + 1, 11),
-        (cell + 2, 14),
+        (cell_word(2, 1, CELL_STRONG), 14),
+        (cell_word(2, 1, CELL_TIMEOUTS), 11),
+        (cell_word(2, 1, CELL_NO_VOTES), 14),
     ];
     assert_eq!(changed(&state, record(2, 1, 14, 11, 14)), expected);
     assert_eq!(state[no_votes(1)], 1);
@@ -104,8 +102,8 @@ fn certificates_of_several_vertices_join() {
     vertices(&mut state, &[record(2, 2, 14, 11, 0)]);
     assert_eq!((state[timeouts(1)], state[CURRENT_ROUND]), (15, 2));
     // One that adds nobody leaves the mask as it is.
-    let cell = cell_place(2, 3).start;
-    let expected = vec![(held(2), 13), (cell, 14), (cell + 1, 14)];
+    let masks = [CELL_STRONG, CELL_TIMEOUTS].map(|place| (cell_word(2, 3, place), 14));
+    let expected = vec![(held(2), 13), masks[0], masks[1]];
     assert_eq!(changed(&state, record(2, 3, 14, 14, 0)), expected);
 }
 
@@ -188,8 +186,8 @@ fn round_1_has_no_round_before_it() {
         for notes in [0, 14] {
             let state = noted(opened(n), 1, notes);
             for source in 0..n {
-                let cell = cell_place(1, source).start;
-                let expected = vec![(held(1), bit(source)), (cell + 3, 5)];
+                let tag = cell_word(1, source, CELL_TAG);
+                let expected = vec![(held(1), bit(source)), (tag, 5)];
                 assert_eq!(changed(&state, tagged(source, 5)), expected);
             }
         }
@@ -246,7 +244,11 @@ fn a_member_without_notes_makes_its_record_and_signs() {
     let mut state = lacking_leader(4);
     vertices(&mut state, &[record(2, 0, 14, 11, 0)]);
     let made = propose(&mut state.clone(), 5).record;
-    assert_eq!(made[..6], [2, 3, 14, 11, 0, 5]);
+    let expected = Record {
+        tag: 5,
+        ..record(2, 3, 14, 11, 0)
+    };
+    assert_eq!(made, expected.words());
     assert_eq!(sign_no_vote(&mut state).number, 0);
     assert_eq!((state[timeouts(1)], state[no_votes(1)]), (11, 8));
 }

@@ -105,11 +105,11 @@ fn with_buffer(state: &mut State, buffer: &[u32], words: &[u32], seen: &mut Seen
 
 /// The lists as they stand in a state that is known to be well formed.
 fn leaders_of(state: &State) -> &[u32] {
-    &state[200..][..state[3] as usize]
+    &state[LEADER_LIST][..state[LEADER_COUNT] as usize]
 }
 
 fn journal_of(state: &State) -> &[u32] {
-    &state[232..][..state[4] as usize]
+    &state[JOURNAL][..state[JOURNAL_COUNT] as usize]
 }
 
 /// The lists of an admitted call keep their entries and grow by what it answers.
@@ -125,8 +125,9 @@ fn check_growth(call: &Call, before: &State, after: &State, answer: Answer) {
         journal_of(after).starts_with(journal_of(before)),
         "{call:?}"
     );
-    assert_eq!(after[3] - before[3], answer.leaders, "{call:?}");
-    assert_eq!(after[4] - before[4], answer.journal, "{call:?}");
+    let [leaders, journal] = [LEADER_COUNT, JOURNAL_COUNT].map(|at| after[at] - before[at]);
+    assert_eq!(leaders, answer.leaders, "{call:?}");
+    assert_eq!(journal, answer.journal, "{call:?}");
 }
 
 /// The current round after one, by the round rule over the words.
@@ -210,8 +211,8 @@ fn note_end(state: &State, seen: &mut Seen) {
     let now = status(state);
     seen.committed += now.committed_round;
     seen.skipped += now.committed_round - now.leader_count;
-    let held: u32 = (0..32).map(|round| state[8 + 6 * round].count_ones()).sum();
-    seen.full += usize::from(held == 32 * state[0]);
+    let held = held_records(state).len() as u32;
+    seen.full += usize::from(held == LAST_ROUND * state[N]);
 }
 
 /// Checks that the calls of a run keep the premises of the claim.
@@ -224,7 +225,7 @@ fn check_premises(run: &Run) {
         for call in calls {
             let admitted = call.apply(&mut state).number == 0;
             if let (Call::First(words), true) = (call, admitted) {
-                one_record(&mut firsts, words, !has(run.faulty, words[1]));
+                one_record(&mut firsts, words, !has(run.faulty, words[RECORD_SOURCE]));
             }
         }
         for record in held_records(&state).values() {
@@ -256,7 +257,7 @@ fn check_premises(run: &Run) {
 }
 
 fn one_record(records: &mut BTreeMap<u32, Record>, words: &[u32], single: bool) {
-    let record = Record::from_words(words).expect("an admitted record has 12 words");
+    let record = Record::from_words(words).expect("an admitted record has its size");
     let known = records.insert(record.id(), record);
     assert!(!single || known.is_none_or(|known| known == record));
 }

@@ -27,7 +27,7 @@ fn proposed(state: &State) -> Result<Record, u32> {
     }
     let made = state[MADE_ROUNDS] | round_bit(state[CURRENT_ROUND]);
     assert_eq!(changes(state, &after), [(MADE_ROUNDS, made)]);
-    let record = Record::from_words(&record).expect("a record has 12 words");
+    let record = Record::from_words(&record).expect("a record has its size");
     assert_eq!((record.round, record.tag), (state[CURRENT_ROUND], TAG));
     assert_eq!(record.source + 1, state[OWN]);
     Ok(record)
@@ -75,7 +75,7 @@ fn opening_writes_word_5() {
             let mut state = rich_state();
             assert_eq!(open(&mut state, n, own), Answer::default());
             let mut expected = vec![0; STATE_WORDS];
-            (expected[0], expected[1], expected[5]) = (n, 1, own);
+            (expected[N], expected[CURRENT_ROUND], expected[OWN]) = (n, 1, own);
             assert_eq!(state, expected);
             assert!(is_well_formed(&state));
         }
@@ -121,7 +121,8 @@ fn the_first_round_has_no_parents() {
 fn any_tag_is_taken() {
     for tag in [0, 1, u32::MAX] {
         let proposal = propose(&mut opened_for(4, 1), tag);
-        assert_eq!((proposal.answer.number, proposal.record[5]), (0, tag));
+        let word = proposal.record[record_word(CELL_TAG)];
+        assert_eq!((proposal.answer.number, word), (0, tag));
     }
 }
 
@@ -181,15 +182,13 @@ fn no_made_record_votes_for_a_leader_signed_against() {
     let mut state = lacking(1);
     assert_eq!(sign_no_vote(&mut state).number, 0);
     vertices(&mut state, &[plain(1, 0, 0)]);
-    let record = propose(&mut state, TAG).record;
+    let words = propose(&mut state, TAG).record;
+    let record = Record::from_words(&words).expect("a record");
     assert_eq!(
-        (record[2], state[MADE_ROUNDS], state[SIGNED_NO_VOTES]),
+        (record.strong, state[MADE_ROUNDS], state[SIGNED_NO_VOTES]),
         (14, 2, 1)
     );
-    assert_eq!(
-        vertex(&mut state, Record::from_words(&record).expect("a record")),
-        0
-    );
+    assert_eq!(vertex(&mut state, record), 0);
 }
 
 #[test]
@@ -582,7 +581,7 @@ fn expected_record(state: &State) -> Option<Record> {
     let leads = group.leader(round) + 1 == state[OWN];
     let record = |id: u32| {
         let cell = &state[cell_place(round_of(id), member_of(id))];
-        Record::from_cell(round_of(id), member_of(id), cell).expect("a cell has ten words")
+        Record::from_cell(round_of(id), member_of(id), cell).expect("a cell has its size")
     };
     let mut reached = BTreeSet::new();
     let mut open: Vec<u32> = members(strong).map(|p| vertex_id(round - 1, p)).collect();

@@ -78,14 +78,13 @@ fn before_chain(n: u32) -> (State, Record) {
 
 #[test]
 fn the_layout() {
-    assert_eq!((BUFFER_WORDS, BUFFER_SLOTS, BUFFER_COUNT), (385, 32, 0));
     let [a, b, _] = waiting();
     let buffer = laid_out(&[a, b]);
-    assert_eq!(buffer.len(), 385);
-    assert_eq!(buffer[0], 2);
-    assert_eq!(buffer[1..13], a.words());
-    assert_eq!(buffer[13..25], b.words());
-    assert!(buffer[25..].iter().all(|&word| word == 0));
+    assert_eq!(buffer.len(), BUFFER_WORDS);
+    assert_eq!(buffer[BUFFER_COUNT], 2);
+    assert_eq!(buffer[BUFFER_RECORDS..][..RECORD_WORDS], a.words());
+    assert_eq!(buffer[buffer_end(1)..buffer_end(2)], b.words());
+    assert!(buffer[buffer_end(2)..].iter().all(|&word| word == 0));
     assert_eq!(reference::pending::records(&buffer), [a, b]);
 }
 
@@ -108,7 +107,7 @@ fn records_that_are_held_or_could_be_are_well_formed() {
     let ready = plain(2, 0, 7);
     for records in [vec![held], vec![tag(held, 5)], vec![held, ready]] {
         let (answer, _, after) = taken(&state_s(), &laid_out(&records), plain(1, 3, 0));
-        assert_eq!((answer.number, after[0]), (0, 0));
+        assert_eq!((answer.number, after[BUFFER_COUNT]), (0, 0));
     }
 }
 
@@ -179,7 +178,7 @@ fn each_way_to_damage_a_buffer() {
         1 << 31 | 3,
         u32::MAX,
     ] {
-        refused(with(&buffer, &[(0, count)]));
+        refused(with(&buffer, &[(BUFFER_COUNT, count)]));
     }
     for records in [
         [a, a, c],
@@ -241,7 +240,7 @@ fn the_state_s_n_decides() {
     let of_seven = laid_out(&[plain(1, 6, 0), plain(2, 0, 127)]);
     assert_eq!(number(&state_s(), &of_seven, &plain(1, 3, 0).words()), 19);
     let (answer, _, left) = taken(&opened(7), &of_seven, plain(1, 0, 0));
-    assert_eq!((answer.number, left[0]), (0, 1));
+    assert_eq!((answer.number, left[BUFFER_COUNT]), (0, 1));
 }
 
 #[test]
@@ -259,7 +258,7 @@ fn state_before_buffer_before_record() {
     }
     for (record, expected) in [
         (vec![], 4),
-        (vec![99; 13], 4),
+        (vec![99; RECORD_WORDS + 1], 4),
         (plain(0, 9, 99).words().to_vec(), 5),
         (plain(2, 4, 99).words().to_vec(), 6),
         (plain(2, 0, 23).words().to_vec(), 7),
@@ -291,7 +290,7 @@ fn an_early_vertex_is_put_in_its_place() {
         assert_eq!((after, &left), (state.clone(), &laid_out(&there)));
         buffer = left;
     }
-    assert_eq!(buffer[0], 5);
+    assert_eq!(buffer[BUFFER_COUNT], 5);
 }
 
 #[test]
@@ -332,7 +331,7 @@ fn a_full_buffer_gives_20_but_for_its_own_ids() {
         for another in [lower, higher] {
             assert_eq!(number(&state, &full, &another.words()), 20, "{n}");
             let (answer, _, left) = taken(&state, &laid_out(&chain[1..]), another);
-            assert_eq!((answer.number, left[0]), (14, SLOTS));
+            assert_eq!((answer.number, left[BUFFER_COUNT]), (14, SLOTS));
         }
         for &there in &chain {
             assert_eq!(number(&state, &full, &there.words()), 12);
@@ -396,7 +395,7 @@ fn the_list_as_it_was_before_is_not_counted() {
     let (_, state, _) = taken(&state, &laid_out(&chain[..9]), last);
     assert!(state[LEADER_COUNT] > 0);
     let (answer, after, left) = taken(&state, &laid_out(&chain[10..]), chain[9]);
-    assert_eq!(left[0], 0);
+    assert_eq!(left[BUFFER_COUNT], 0);
     assert_eq!(answer.leaders, after[LEADER_COUNT] - state[LEADER_COUNT]);
     assert_eq!(answer.journal, after[JOURNAL_COUNT] - state[JOURNAL_COUNT]);
     assert!(answer.leaders > 1 && answer.leaders < after[LEADER_COUNT]);
@@ -419,7 +418,7 @@ fn an_admitted_vertex_s_double_leaves() {
     let mut full = chain(4);
     full.insert(0, tag(last, 1));
     let (answer, _, left) = taken(&state, &laid_out(&full), last);
-    assert_eq!((answer.number, left[0]), (0, 0));
+    assert_eq!((answer.number, left[BUFFER_COUNT]), (0, 0));
 }
 
 #[test]
@@ -428,14 +427,14 @@ fn held_ones_leave_with_an_admission_alone() {
     let [a, b, c] = waiting();
     let buffer = laid_out(&[tagged(0, 10), tagged(1, 99), a]);
     let (answer, _, left) = taken(&state, &buffer, b);
-    assert_eq!((answer.number, left[0]), (14, 4));
+    assert_eq!((answer.number, left[BUFFER_COUNT]), (14, 4));
     assert_eq!(number(&state, &buffer, &a.words()), 12);
     assert_eq!(number(&state, &buffer, &tagged(0, 10).words()), 12);
     let (answer, after, left) = taken(&state, &buffer, common::record(2, 3, 7, 0, 0));
     assert_eq!((answer.number, &left), (0, &laid_out(&[a])));
     assert_eq!(held_records(&after)[&17], tagged(1, 11));
     let (answer, after, left) = taken(&state, &laid_out(&[a, b, c]), plain(1, 3, 0));
-    assert_eq!((answer.number, left[0]), (0, 0));
+    assert_eq!((answer.number, left[BUFFER_COUNT]), (0, 0));
     assert_eq!(status(&after).committed_round, 1);
 }
 
@@ -474,7 +473,10 @@ fn a_refused_or_early_vertex_releases_nothing_and_changes_no_state() {
         assert_eq!(after, state);
     }
     let (answer, after, left) = taken(&state, &buffer, plain(2, 3, 15));
-    assert_eq!((answer.number, answer.leaders, left[0]), (0, 1, 0));
+    assert_eq!(
+        (answer.number, answer.leaders, left[BUFFER_COUNT]),
+        (0, 1, 0)
+    );
     assert_eq!(status(&after).current_round, 3);
 }
 
@@ -490,7 +492,10 @@ fn certificates_of_released_vertices_count() {
     let third = [0, 1].map(|source| record(3, source, 13, 11, 0));
     let buffer = laid_out(&[&second[..], &third].concat());
     let (answer, after, left) = taken(&state, &buffer, plain(1, 1, 0));
-    assert_eq!((answer.number, answer.leaders, left[0]), (0, 0, 0));
+    assert_eq!(
+        (answer.number, answer.leaders, left[BUFFER_COUNT]),
+        (0, 0, 0)
+    );
     assert_eq!((after[timeouts(1)], after[timeouts(2)]), (15, 11));
     assert_eq!(status(&after).current_round, 3);
 }
@@ -591,7 +596,7 @@ fn drawn_record(rng: &mut Rng, state: &State, pool: &[Record]) -> Vec<u32> {
             let forms = buffers::refused_forms(group(n), record);
             record = rng.pick(&forms).copied().unwrap_or(record);
         }
-        2 => return vec![0; rng.below(20) as usize],
+        2 => return vec![0; rng.below(RECORD_WORDS as u32 + 8) as usize],
         _ => {}
     }
     record.words().to_vec()

@@ -5,6 +5,8 @@ mod common;
 use std::io::{self, Read, Write};
 use std::process::{Command, Stdio};
 
+use reference::layout::RECORD_WORDS;
+use reference::line::LONGEST_LINE;
 use reference::simulate::{simulate, Options};
 use reference::{sheetlog, status, Call, STATE_WORDS};
 
@@ -181,7 +183,7 @@ fn long_lines() {
     input.extend(b"T 1 0".iter().chain(&[b' '; 300_000]).chain(b"\n"));
     input.extend([b'0'; 200_000].iter().chain(b"\nT 1 0\n"));
     input.extend([0xFF; 500_000]);
-    for size in [133, 134, 4096, usize::MAX] {
+    for size in [LONGEST_LINE, LONGEST_LINE + 1, 4096, usize::MAX] {
         assert_eq!(
             run_in_blocks(&input, size),
             "0 1 0 0 0\n?\n?\n0 1 0 0 0\n?\nL\nJ\n"
@@ -191,7 +193,7 @@ fn long_lines() {
 
 #[test]
 fn lines_cut_at_the_longest_call() {
-    let line = format!("V{}", " 4294967295".repeat(12));
+    let line = format!("V{}", " 4294967295".repeat(RECORD_WORDS));
     assert_eq!(
         answers(format!("{line}\n").as_bytes()),
         ["3 0 0 0 0", "L", "J"]
@@ -217,7 +219,8 @@ fn simulated_runs_as_lines() {
             let mut state = vec![0; STATE_WORDS];
             let mut expected = Vec::new();
             for call in &calls {
-                let bad = matches!(call, Call::Vertex(r) | Call::First(r) if r.len() != 12);
+                let bad =
+                    matches!(call, Call::Vertex(r) | Call::First(r) if r.len() != RECORD_WORDS);
                 if bad {
                     expected.push("?".to_owned());
                     continue;

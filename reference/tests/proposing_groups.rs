@@ -9,10 +9,7 @@ use std::collections::{BTreeMap, BTreeSet};
 
 use common::*;
 use reference::group::Group;
-use reference::layout::{
-    mask_place, round_bit, CURRENT_ROUND, LAST_CURRENT_ROUND, LAST_ROUND, MADE_ROUNDS, NO_VOTES,
-    RECORD_WORDS, SIGNED_NO_VOTES,
-};
+use reference::layout::*;
 use reference::model::Lists;
 use reference::record::{first_refusal, Record};
 use reference::simulate::{simulate, simulate_proposing, Options, Run};
@@ -109,13 +106,13 @@ impl Member<'_> {
             Call::First(_) | Call::Timeout(..) | Call::NoVote(..) => {
                 assert!([0, 12].contains(&number), "{call:?} {number}")
             }
-            Call::Open(..) => assert!(number == 6 || before[0] == 0, "{call:?} {number}"),
+            Call::Open(..) => assert!(number == 6 || before[N] == 0, "{call:?} {number}"),
             _ => {}
         }
         self.model.feed(call, number);
         if number != 0 {
             assert_eq!(self.state, before, "{call:?}");
-        } else if self.state[3] != before[3] {
+        } else if self.state[LEADER_COUNT] != before[LEADER_COUNT] {
             self.lists();
         }
     }
@@ -136,7 +133,7 @@ impl Member<'_> {
             assert_eq!(record, [0; RECORD_WORDS]);
             return answer.number;
         }
-        let made = Record::from_words(&record).expect("a record has 12 words");
+        let made = Record::from_words(&record).expect("a record has its size");
         let round = before[CURRENT_ROUND];
         assert_eq!((made.round, made.source, made.tag), (round, self.own, tag));
         assert_eq!(
@@ -216,7 +213,7 @@ impl Member<'_> {
     /// A vertex is admitted if its parents are held and it is new. The current round is then the
     /// vertex's or above. A vertex that raises it to just that does so by its certificate.
     fn take(&mut self, before: &State, words: &[u32]) -> u32 {
-        let record = Record::from_words(words).expect("a record has 12 words");
+        let record = Record::from_words(words).expect("a record has its size");
         let number = take_vertex(&mut self.state, words).number;
         let is_known = self.vertices.contains_key(&record.id());
         if is_known {
@@ -237,7 +234,7 @@ impl Member<'_> {
 
     /// A vertex with a buffer is checked against plain vertices.
     fn take_with(&mut self, buffer: &[u32], words: &[u32]) -> u32 {
-        let record = Record::from_words(words).expect("a record has 12 words");
+        let record = Record::from_words(words).expect("a record has its size");
         let old = self.state[CURRENT_ROUND];
         let (answer, released) = checked_with(&mut self.state, &mut buffer.to_vec(), words);
         let new = self.state[CURRENT_ROUND];

@@ -4,6 +4,7 @@
 mod common;
 
 use common::*;
+use reference::layout::{JOURNAL, LEADER_LIST, RECORD_WORDS};
 use reference::record::Record;
 use reference::*;
 
@@ -177,7 +178,14 @@ fn state_comes_before_record() {
 
 #[test]
 fn record_length_comes_before_its_words() {
-    for length in [0, 1, 2, 11, 13, 24] {
+    for length in [
+        0,
+        1,
+        2,
+        RECORD_WORDS - 1,
+        RECORD_WORDS + 1,
+        2 * RECORD_WORDS,
+    ] {
         expect(&state_s(), Call::Vertex(vec![99; length]), 4);
         let empty = vec![0; BUFFER_WORDS];
         expect(&state_s(), Call::VertexWith(empty, vec![99; length]), 4);
@@ -291,8 +299,9 @@ fn list_starts() {
 #[test]
 fn handed_lists_are_parts_of_the_state() {
     let state = rich_state();
-    assert_eq!(hand_leaders(&state, 1).1.as_ptr(), state[201..].as_ptr());
-    assert_eq!(hand_journal(&state, 2).1.as_ptr(), state[234..].as_ptr());
+    let [leaders, journal] = [hand_leaders(&state, 1).1, hand_journal(&state, 2).1];
+    assert_eq!(leaders.as_ptr(), state[LEADER_LIST][1..].as_ptr());
+    assert_eq!(journal.as_ptr(), state[JOURNAL][2..].as_ptr());
 }
 
 #[test]

@@ -4,14 +4,18 @@ mod common;
 
 use common::*;
 use reference::harness::MOST_BUFFER_WORDS;
-use reference::layout::buffer_end;
+use reference::layout::*;
 use reference::rng::Rng;
 use reference::*;
 
 fn any_call(rng: &mut Rng) -> Call {
     let small = rng.percent(70);
     let word = |rng: &mut Rng| if small { rng.below(40) } else { rng.word() };
-    let length = if rng.percent(80) { 12 } else { rng.below(30) };
+    let length = if rng.percent(80) {
+        RECORD_WORDS as u32
+    } else {
+        rng.below(RECORD_WORDS as u32 + 18)
+    };
     let words: Vec<u32> = (0..length).map(|_| word(rng)).collect();
     let buffer_length = if rng.percent(80) {
         BUFFER_WORDS as u32
@@ -83,8 +87,13 @@ fn a_well_formed_state_with_changed_words() {
     for round in 0..6_000 {
         let mut state = rich_state();
         for _ in 0..=rng.below(2) {
-            let top = [24, 236, 1_200, STATE_WORDS as u32][round % 4];
-            let at = rng.below(top) as usize;
+            let tops = [
+                mask_place(3, NO_VOTES),
+                JOURNAL.start + 4,
+                cell_place(4, 0).start,
+                STATE_WORDS,
+            ];
+            let at = rng.below(tops[round % 4] as u32) as usize;
             state[at] = if rng.percent(50) {
                 rng.below(40)
             } else {

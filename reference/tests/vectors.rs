@@ -3,10 +3,9 @@
 use std::collections::{BTreeMap, BTreeSet};
 
 use reference::harness::{Command, Harness, Script};
-use reference::layout::{BUFFER_WORDS, RECORD_WORDS};
+use reference::layout::*;
 use reference::simulate::{simulate, simulate_proposing, Options};
 use reference::vectors::commands;
-use reference::STATE_WORDS;
 
 /// The numbers of each operation's answers, in the second place of its lines.
 fn seen() -> BTreeMap<u32, BTreeSet<u32>> {
@@ -99,9 +98,9 @@ fn the_buffer_stays_from_command_to_command() {
         Command::Lend(STATE_WORDS as u32),
         Command::Open(4, 0),
         Command::Record(RECORD_WORDS as u32),
-        Command::SetRecord(0, 2),
-        Command::SetRecord(2, 7),
-        Command::SetBuffer(0, 1),
+        Command::SetRecord(RECORD_ROUND as u32, 2),
+        Command::SetRecord(record_word(CELL_STRONG) as u32, 7),
+        Command::SetBuffer(BUFFER_COUNT as u32, 1),
     ] {
         line(command);
     }
@@ -121,7 +120,10 @@ fn the_buffer_stays_from_command_to_command() {
     assert_eq!(put[5..], again[5..]);
     assert_eq!(put[6], without[6]);
     assert_ne!(put[5], 0);
-    assert_eq!(harness.perform(Command::SetBuffer(0, 2)), None);
+    assert_eq!(
+        harness.perform(Command::SetBuffer(BUFFER_COUNT as u32, 2)),
+        None
+    );
     assert_eq!(harness.perform(Command::SetBuffer(size, 2)), None);
     let line = harness.perform(Command::VertexWith);
     assert_eq!(line.map(|line| line[1]), Some(19));

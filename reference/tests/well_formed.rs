@@ -3,6 +3,7 @@
 mod common;
 
 use common::*;
+use reference::layout::*;
 use reference::*;
 
 /// Changes words, and checks that every call but opening then answers 3 and changes nothing.
@@ -56,14 +57,6 @@ fn keeps(state: &State, changes: &[(usize, u32)]) {
     assert_eq!(status(&changed).number, 0);
 }
 
-fn mask(round: usize, which: usize) -> usize {
-    8 + 6 * (round - 1) + which
-}
-
-fn cell(round: usize, member: usize) -> usize {
-    744 + 10 * (16 * (round - 1) + member)
-}
-
 #[test]
 fn lengths() {
     let state = rich_state();
@@ -78,39 +71,40 @@ fn lengths() {
 fn head_words() {
     let state = rich_state();
     for n in [0, 1, 5, 7, 16, 19, u32::MAX] {
-        breaks(&state, &[(0, n)]);
+        breaks(&state, &[(N, n)]);
     }
     for round in [0, 34, u32::MAX] {
-        breaks(&state, &[(1, round)]);
+        breaks(&state, &[(CURRENT_ROUND, round)]);
     }
     for round in [1, 2, 33] {
-        keeps(&state, &[(1, round)]);
+        keeps(&state, &[(CURRENT_ROUND, round)]);
     }
     for round in [0, 1, 3, 32, u32::MAX] {
-        breaks(&state, &[(2, round)]);
+        breaks(&state, &[(COMMITTED_ROUND, round)]);
     }
 }
 
 #[test]
 fn own_words() {
     let state = rich_state();
+    let words = |own, made, signed| [(OWN, own), (MADE_ROUNDS, made), (SIGNED_NO_VOTES, signed)];
     for own in 0..=4 {
-        keeps(&state, &[(5, own)]);
+        keeps(&state, &words(own, 0, 0));
     }
     for own in [5, 6, 17, 1 << 31, u32::MAX] {
-        breaks(&state, &[(5, own)]);
+        breaks(&state, &words(own, 0, 0));
     }
     for marks in [1, 2, 1 << 31, u32::MAX] {
-        breaks(&state, &[(6, marks)]);
-        breaks(&state, &[(7, marks)]);
-        keeps(&state, &[(5, 1), (6, marks)]);
-        keeps(&state, &[(5, 4), (7, marks)]);
-        keeps(&state, &[(5, 2), (6, marks), (7, u32::MAX)]);
-        breaks(&state, &[(5, 5), (6, marks), (7, marks)]);
+        breaks(&state, &words(0, marks, 0));
+        breaks(&state, &words(0, 0, marks));
+        keeps(&state, &words(1, marks, 0));
+        keeps(&state, &words(4, 0, marks));
+        keeps(&state, &words(2, marks, u32::MAX));
+        breaks(&state, &words(5, marks, marks));
     }
     for n in [4, 7, 10, 13, 16] {
-        keeps(&opened(n), &[(5, n), (6, u32::MAX), (7, u32::MAX)]);
-        breaks(&opened(n), &[(5, n + 1)]);
+        keeps(&opened(n), &words(n, u32::MAX, u32::MAX));
+        breaks(&opened(n), &words(n + 1, 0, 0));
     }
 }
 
@@ -126,15 +120,16 @@ fn the_committed_round_is_at_most_31() {
         }
     }
     assert!(is_well_formed(&state));
-    breaks(&state, &[(2, 32), (3, 32), (231, 16 * 32 + 3)]);
+    let last = (LEADER_LIST.start + 31, vertex_id(32, 3));
+    breaks(&state, &[(COMMITTED_ROUND, 32), (LEADER_COUNT, 32), last]);
 }
 
 #[test]
 fn mask_bits_above_the_group() {
     let state = rich_state();
     for round in 1..=32 {
-        for which in 0..6 {
-            let at = mask(round, which);
+        for which in 0..MASKS_PER_ROUND {
+            let at = mask_place(round, which);
             breaks(&state, &[(at, state[at] | 16)]);
             breaks(&state, &[(at, state[at] | 1 << 31)]);
         }
@@ -144,24 +139,25 @@ fn mask_bits_above_the_group() {
 #[test]
 fn votes_and_heard() {
     let state = rich_state();
-    breaks(&state, &[(mask(4, 2), 1)]);
-    keeps(&state, &[(mask(4, 1), 1)]);
-    keeps(&state, &[(mask(4, 1), 3), (mask(4, 2), 2)]);
-    breaks(&state, &[(mask(1, 1), 1), (mask(1, 2), 1)]);
-    breaks(&state, &[(mask(3, 1), 6)]);
-    keeps(&state, &[(mask(7, 3), 15), (mask(8, 4), 15)]);
+    let [heard, votes] = [HEARD, VOTES].map(|which| move |round| mask_place(round, which));
+    breaks(&state, &[(votes(4), 1)]);
+    keeps(&state, &[(heard(4), 1)]);
+    keeps(&state, &[(heard(4), 3), (votes(4), 2)]);
+    breaks(&state, &[(heard(1), 1), (votes(1), 1)]);
+    breaks(&state, &[(heard(3), 6)]);
+    keeps(&state, &[(timeouts(7), 15), (no_votes(8), 15)]);
 }
 
 /// The timeouts of a round need not have the certificates that held vertices carry for it.
 #[test]
 fn carried_certificates_and_timeouts() {
     let state = rich_state();
-    assert_eq!((state[cell(2, 3) + 1], state[mask(1, 3)]), (7, 7));
-    for timeouts in 0..16 {
-        keeps(&state, &[(mask(1, 3), timeouts)]);
-        keeps(&state, &[(mask(1, 3), timeouts), (1, 1)]);
-        let mut changed = state.clone();
-        changed[mask(1, 3)] = timeouts;
+    let certificate = state[cell_word(2, 3, CELL_TIMEOUTS)];
+    assert_eq!((certificate, state[timeouts(1)]), (7, 7));
+    for mask in 0..16 {
+        keeps(&state, &[(timeouts(1), mask)]);
+        keeps(&state, &[(timeouts(1), mask), (CURRENT_ROUND, 1)]);
+        let mut changed = with(&state, &[(timeouts(1), mask)]);
         for (call, number) in [
             (Call::Vertex(plain(2, 2, 15).words().to_vec()), 0),
             (Call::First(plain(1, 3, 0).words().to_vec()), 0),
@@ -179,125 +175,143 @@ fn carried_certificates_and_timeouts() {
 #[test]
 fn ordered_within_held() {
     let state = rich_state();
-    let id = 16 * 2 + 2;
+    let [held, ordered] = [HELD, ORDERED].map(|which| mask_place(2, which));
+    let entry = (JOURNAL.start + 4, vertex_id(2, 2));
     breaks(
         &state,
-        &[(mask(2, 5), state[mask(2, 5)] | 4), (4, 5), (236, id)],
+        &[(ordered, state[ordered] | 4), (JOURNAL_COUNT, 5), entry],
     );
-    breaks(&state, &[(mask(2, 0), state[mask(2, 0)] & !2)]);
+    breaks(&state, &[(held, state[held] & !2)]);
 }
 
 #[test]
 fn held_records_pass_the_questions() {
     let state = rich_state();
-    let second = cell(2, 0);
-    breaks(&state, &[(second, 7 | 16)]);
-    breaks(&state, &[(second + 1, 1 << 16)]);
-    breaks(&state, &[(cell(1, 0), 1)]);
-    breaks(&state, &[(second, 3)]);
-    breaks(&state, &[(second + 1, 7)]);
-    breaks(&state, &[(cell(2, 3) + 1, 3)]);
-    breaks(&state, &[(second + 2, 7)]);
-    breaks(&state, &[(cell(2, 1), 14), (cell(2, 1) + 1, 7)]);
-    keeps(
+    let second = |place| cell_word(2, 0, place);
+    let third = |place| cell_word(3, 0, place);
+    let of_leader = |place| cell_word(2, 1, place);
+    let [weak, last_weak] = [CELL_WEAK.start, CELL_WEAK.end - 1];
+    breaks(&state, &[(second(CELL_STRONG), 7 | 16)]);
+    breaks(&state, &[(second(CELL_TIMEOUTS), 1 << 16)]);
+    breaks(&state, &[(cell_word(1, 0, CELL_STRONG), 1)]);
+    breaks(&state, &[(second(CELL_STRONG), 3)]);
+    breaks(&state, &[(second(CELL_TIMEOUTS), 7)]);
+    breaks(&state, &[(cell_word(2, 3, CELL_TIMEOUTS), 3)]);
+    breaks(&state, &[(second(CELL_NO_VOTES), 7)]);
+    let lacks = [(of_leader(CELL_STRONG), 14), (of_leader(CELL_TIMEOUTS), 7)];
+    breaks(&state, &lacks);
+    keeps(&with(&state, &lacks), &[(of_leader(CELL_NO_VOTES), 7)]);
+    breaks(&state, &[(second(CELL_WEAK_COUNT), 1)]);
+    breaks(&state, &[(second(weak), 16)]);
+    breaks(&state, &[(third(weak), 32)]);
+    breaks(
         &state,
-        &[(cell(2, 1), 14), (cell(2, 1) + 1, 7), (cell(2, 1) + 2, 7)],
+        &[(third(CELL_WEAK_COUNT), 2), (third(weak + 1), 20)],
     );
-    breaks(&state, &[(second + 4, 1)]);
-    breaks(&state, &[(second + 5, 16)]);
-    breaks(&state, &[(cell(3, 0) + 5, 32)]);
-    breaks(&state, &[(cell(3, 0) + 4, 2), (cell(3, 0) + 6, 20)]);
-    breaks(&state, &[(cell(3, 0) + 9, 1)]);
-    keeps(&state, &[(second + 3, u32::MAX)]);
-    keeps(&state, &[(cell(3, 0) + 4, 0), (cell(3, 0) + 5, 0)]);
+    breaks(&state, &[(third(last_weak), 1)]);
+    keeps(&state, &[(second(CELL_TAG), u32::MAX)]);
+    keeps(&state, &[(third(CELL_WEAK_COUNT), 0), (third(weak), 0)]);
 }
 
 #[test]
 fn held_records_have_their_parents() {
     let state = rich_state();
-    breaks(&state, &[(cell(3, 0), 15)]);
-    breaks(
-        &state,
-        &[(mask(2, 0), 0b0011), (cell(2, 3), 0), (cell(2, 3) + 1, 0)],
-    );
+    breaks(&state, &[(cell_word(3, 0, CELL_STRONG), 15)]);
+    let mut dropped = vec![(mask_place(2, HELD), 0b0011)];
+    dropped.extend(cell_place(2, 3).map(|at| (at, 0)));
+    breaks(&state, &dropped);
     let mut fresh = opened(4);
     vertices(
         &mut fresh,
         &[plain(1, 0, 0), plain(1, 1, 0), plain(1, 2, 0)],
     );
     vertices(&mut fresh, &[plain(2, 0, 7), plain(2, 1, 7)]);
-    keeps(&fresh, &[(mask(1, 0), 15)]);
+    keeps(&fresh, &[(mask_place(1, HELD), 15)]);
     vertices(&mut fresh, &[record(2, 3, 7, 0, 0), plain(3, 0, 11)]);
-    breaks(&fresh, &[(cell(3, 0) + 4, 1), (cell(3, 0) + 5, 19)]);
-    keeps(&fresh, &[(cell(3, 0) + 4, 1), (cell(3, 0) + 5, 18)]);
+    let [count, weak] = [CELL_WEAK_COUNT, CELL_WEAK.start].map(|place| cell_word(3, 0, place));
+    breaks(&fresh, &[(count, 1), (weak, 19)]);
+    keeps(&fresh, &[(count, 1), (weak, 18)]);
 }
 
 #[test]
 fn cells_not_held_are_zero() {
     let state = rich_state();
-    for round in 1..=32 {
-        for member in 0..16 {
-            if member < 4 && state[mask(round, 0)] >> member & 1 == 1 {
+    for round in 1..=LAST_ROUND {
+        for member in 0..IDS_PER_ROUND {
+            if member < 4 && state[mask_place(round, HELD)] >> member & 1 == 1 {
                 continue;
             }
-            let at = cell(round, member) + (round + member) % 10;
+            let at = cell_word(round, member, (round + member) as usize % CELL_WORDS);
             let mut damaged = state.clone();
             damaged[at] = 1;
             assert!(!is_well_formed(&damaged), "{round}/{member}");
         }
     }
-    breaks(&state, &[(cell(32, 15) + 9, 1)]);
-    breaks(&state, &[(cell(1, 4), 1)]);
+    breaks(&state, &[(CELLS.end - 1, 1)]);
+    breaks(&state, &[(cell_place(1, 4).start, 1)]);
 }
 
 #[test]
 fn leader_list() {
     let state = rich_state();
-    assert_eq!(state[200..203], [16, 33, 0]);
-    breaks(&state, &[(200, 17)]);
-    breaks(&state, &[(200, 0)]);
-    breaks(&state, &[(200, 33)]);
-    breaks(&state, &[(200, 33), (201, 16)]);
-    breaks(&state, &[(201, 32)]);
-    breaks(&state, &[(201, u32::MAX)]);
-    breaks(&state, &[(201, 50), (2, 3)]);
-    breaks(&state, &[(3, 1)]);
-    breaks(&state, &[(3, 1), (201, 0)]);
-    keeps(&state, &[(3, 1), (201, 0), (2, 1)]);
-    keeps(&state, &[(3, 1), (201, 0), (200, 33)]);
-    breaks(&state, &[(3, 0)]);
-    breaks(&state, &[(3, 0), (200, 0), (201, 0)]);
-    keeps(&state, &[(3, 0), (200, 0), (201, 0), (2, 0)]);
-    breaks(&state, &[(2, 0)]);
+    assert_eq!(state[LEADER_LIST][..3], [16, 33, 0]);
+    let words = |count, leaders: [u32; 2], committed| {
+        [
+            (LEADER_COUNT, count),
+            (LEADER_LIST.start, leaders[0]),
+            (LEADER_LIST.start + 1, leaders[1]),
+            (COMMITTED_ROUND, committed),
+        ]
+    };
+    keeps(&state, &words(2, [16, 33], 2));
+    breaks(&state, &words(2, [17, 33], 2));
+    breaks(&state, &words(2, [0, 33], 2));
+    breaks(&state, &words(2, [33, 33], 2));
+    breaks(&state, &words(2, [33, 16], 2));
+    breaks(&state, &words(2, [16, 32], 2));
+    breaks(&state, &words(2, [16, u32::MAX], 2));
+    breaks(&state, &words(2, [16, 50], 3));
+    breaks(&state, &words(1, [16, 33], 2));
+    breaks(&state, &words(1, [16, 0], 2));
+    keeps(&state, &words(1, [16, 0], 1));
+    keeps(&state, &words(1, [33, 0], 2));
+    breaks(&state, &words(0, [16, 33], 2));
+    breaks(&state, &words(0, [0, 0], 2));
+    keeps(&state, &words(0, [0, 0], 0));
+    breaks(&state, &words(2, [16, 33], 0));
     for count in [3, 32, 33, 5_000, u32::MAX] {
-        breaks(&state, &[(3, count)]);
+        breaks(&state, &[(LEADER_COUNT, count)]);
     }
 }
 
 #[test]
 fn journal() {
     let state = rich_state();
-    assert_eq!(state[232..237], [16, 17, 18, 33, 0]);
-    keeps(&state, &[(232, 33), (235, 16)]);
-    breaks(&state, &[(232, 17)]);
-    breaks(&state, &[(232, 19)]);
-    breaks(&state, &[(232, 0)]);
-    breaks(&state, &[(232, u32::MAX)]);
-    breaks(&state, &[(4, 3)]);
-    breaks(&state, &[(4, 3), (235, 0)]);
-    keeps(&state, &[(4, 3), (235, 0), (mask(2, 5), 0)]);
-    breaks(&state, &[(4, 5), (236, 16)]);
-    breaks(&state, &[(mask(2, 5), 0)]);
-    breaks(&state, &[(mask(2, 5), 3)]);
+    assert_eq!(state[JOURNAL][..5], [16, 17, 18, 33, 0]);
+    let entry = |at: usize, id: u32| (JOURNAL.start + at, id);
+    let ordered = mask_place(2, ORDERED);
+    keeps(&state, &[entry(0, 33), entry(3, 16)]);
+    breaks(&state, &[entry(0, 17)]);
+    breaks(&state, &[entry(0, 19)]);
+    breaks(&state, &[entry(0, 0)]);
+    breaks(&state, &[entry(0, u32::MAX)]);
+    breaks(&state, &[(JOURNAL_COUNT, 3)]);
+    breaks(&state, &[(JOURNAL_COUNT, 3), entry(3, 0)]);
+    keeps(&state, &[(JOURNAL_COUNT, 3), entry(3, 0), (ordered, 0)]);
+    breaks(&state, &[(JOURNAL_COUNT, 5), entry(4, 16)]);
+    breaks(&state, &[(ordered, 0)]);
+    breaks(&state, &[(ordered, 3)]);
     for count in [0, 5, 512, 513, u32::MAX] {
-        breaks(&state, &[(4, count)]);
+        breaks(&state, &[(JOURNAL_COUNT, count)]);
     }
 }
 
 #[test]
 fn list_words_beyond_the_counts_are_zero() {
     let state = rich_state();
-    for at in (202..232).chain(236..744) {
+    let lists = [(LEADER_LIST, LEADER_COUNT), (JOURNAL, JOURNAL_COUNT)];
+    let unused = lists.map(|(list, count)| list.skip(state[count] as usize));
+    for at in unused.into_iter().flatten() {
         breaks(&state, &[(at, 1)]);
     }
 }

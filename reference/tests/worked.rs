@@ -115,10 +115,13 @@ fn current_round_by_a_carried_certificate() {
     assert_eq!(status(&state).current_round, 1);
     let answer = take_vertex(&mut state, &record(2, 0, 14, 7, 0).words());
     assert_eq!(answer, Answer::default());
-    assert_eq!((status(&state).current_round, state[11]), (2, 7));
-    for (signer, number, timeouts) in [(0, 12, 7), (1, 12, 7), (2, 12, 7), (3, 0, 15)] {
+    assert_eq!((status(&state).current_round, state[timeouts(1)]), (2, 7));
+    for (signer, number, mask) in [(0, 12, 7), (1, 12, 7), (2, 12, 7), (3, 0, 15)] {
         assert_eq!(take_timeout(&mut state, 1, signer).number, number);
-        assert_eq!((status(&state).current_round, state[11]), (2, timeouts));
+        assert_eq!(
+            (status(&state).current_round, state[timeouts(1)]),
+            (2, mask)
+        );
     }
 }
 

@@ -3,7 +3,7 @@
 mod common;
 
 use common::*;
-use reference::layout::CURRENT_ROUND;
+use reference::layout::*;
 use reference::*;
 
 /// Makes an admitted call and returns the words it changed.
@@ -22,14 +22,13 @@ fn a_vertex_writes_its_cell_its_mark_and_its_certificate() {
     );
     let mut record = record(2, 3, 14, 7, 0);
     record.tag = 77;
-    let cell = 744 + 10 * (16 + 3);
     let expected = vec![
-        (1, 3),
-        (11, 7),
-        (14, 0b1011),
-        (cell, 14),
-        (cell + 1, 7),
-        (cell + 3, 77),
+        (CURRENT_ROUND, 3),
+        (timeouts(1), 7),
+        (mask_place(2, HELD), 0b1011),
+        (cell_word(2, 3, CELL_STRONG), 14),
+        (cell_word(2, 3, CELL_TIMEOUTS), 7),
+        (cell_word(2, 3, CELL_TAG), 77),
     ];
     assert_eq!(
         changed_by(&mut state, Call::Vertex(record.words().to_vec())),
@@ -50,23 +49,30 @@ fn weak_ids_are_written() {
         ],
     );
     let words = with_weak(plain(3, 1, 7), &[19]).words().to_vec();
-    let cell = 744 + 10 * (32 + 1);
-    let expected = vec![(20, 0b10), (cell, 7), (cell + 4, 1), (cell + 5, 19)];
+    let expected = vec![
+        (mask_place(3, HELD), 0b10),
+        (cell_word(3, 1, CELL_STRONG), 7),
+        (cell_word(3, 1, CELL_WEAK_COUNT), 1),
+        (cell_word(3, 1, CELL_WEAK.start), 19),
+    ];
     assert_eq!(changed_by(&mut state, Call::Vertex(words)), expected);
 }
 
 #[test]
 fn a_first_message_marks_heard_and_votes() {
     let mut state = state_s();
+    let heard = |round| mask_place(round, HEARD);
     let voting = plain(2, 3, 7).words().to_vec();
     assert_eq!(
         changed_by(&mut state, Call::First(voting)),
-        [(15, 8), (16, 8)]
+        [(heard(2), 8), (mask_place(2, VOTES), 8)]
     );
     let skipping = record(2, 2, 14, 7, 0).words().to_vec();
-    assert_eq!(changed_by(&mut state, Call::First(skipping)), [(15, 12)]);
+    let second = [(heard(2), 12)];
+    assert_eq!(changed_by(&mut state, Call::First(skipping)), second);
     let first_round = plain(1, 3, 0).words().to_vec();
-    assert_eq!(changed_by(&mut state, Call::First(first_round)), [(9, 8)]);
+    let first = [(heard(1), 8)];
+    assert_eq!(changed_by(&mut state, Call::First(first_round)), first);
 }
 
 #[test]
@@ -74,11 +80,11 @@ fn notes_set_their_bit() {
     let mut state = state_s();
     assert_eq!(
         changed_by(&mut state, Call::Timeout(32, 3)),
-        [(8 + 6 * 31 + 3, 8)]
+        [(timeouts(32), 8)]
     );
     assert_eq!(
         changed_by(&mut state, Call::NoVote(32, 1)),
-        [(8 + 6 * 31 + 4, 2)]
+        [(no_votes(32), 2)]
     );
 }
 
@@ -107,18 +113,18 @@ fn carried_timeouts_reach_the_mask_ahead_of_the_round_rule() {
         &mut state,
         &[plain(1, 1, 0), plain(1, 2, 0), plain(1, 3, 0)],
     );
-    assert_eq!((state[11], status(&state).current_round), (0, 1));
+    assert_eq!((state[timeouts(1)], status(&state).current_round), (0, 1));
     vertices(&mut state, &[record(2, 0, 14, 7, 0)]);
-    assert_eq!((state[11], status(&state).current_round), (7, 2));
+    assert_eq!((state[timeouts(1)], status(&state).current_round), (7, 2));
     vertices(&mut state, &[record(2, 2, 14, 13, 0)]);
-    assert_eq!((state[11], status(&state).current_round), (15, 2));
+    assert_eq!((state[timeouts(1)], status(&state).current_round), (15, 2));
 }
 
 #[test]
 fn the_current_round_jumps_and_never_falls() {
     let mut state = state_s();
     assert_eq!(status(&state).current_round, 2);
-    state[1] = 20;
+    state[CURRENT_ROUND] = 20;
     vertices(&mut state, &[plain(1, 3, 0)]);
     assert_eq!(status(&state).current_round, 20);
     for call in [Call::Timeout(9, 0), Call::Timeouts(9, 3)] {
@@ -131,7 +137,7 @@ fn the_current_round_jumps_and_never_falls() {
 #[test]
 fn only_vertices_and_timeouts_move_the_current_round() {
     let mut state = state_s();
-    state[1] = 1;
+    state[CURRENT_ROUND] = 1;
     firsts(&mut state, &[plain(2, 0, 7)]);
     assert_eq!(take_no_vote(&mut state, 1, 0).number, 0);
     assert_eq!(status(&state).current_round, 1);
@@ -142,8 +148,9 @@ fn only_vertices_and_first_messages_commit() {
     let mut state = state_s();
     firsts(&mut state, &[plain(2, 0, 7), plain(2, 1, 7)]);
     // A well formed state may have a committable round that no call has looked at yet.
-    state[15] |= 8;
-    state[16] |= 8;
+    for which in [HEARD, VOTES] {
+        state[mask_place(2, which)] |= 8;
+    }
     assert_eq!(take_timeout(&mut state, 1, 0).number, 0);
     assert_eq!(take_timeouts(&mut state, 1, 15).number, 0);
     assert_eq!(take_no_vote(&mut state, 1, 0).number, 0);

@@ -100,7 +100,7 @@ fn near_line(rng: &mut Rng) -> Vec<u8> {
     let length = if rng.percent(80) {
         wanted
     } else {
-        rng.below(15)
+        rng.below(record + 3)
     };
     let words: Vec<u32> = (0..length).map(|_| near_word(rng)).collect();
     spaced(letter, &words).into_bytes()

@@ -3,7 +3,7 @@
 
 use crate::call::Call;
 use crate::group::{bit, has, members, Group};
-use crate::layout::{cell_place, mask_place, HELD, N, VOTES};
+use crate::layout::{cell_word, mask_place, CELL_STRONG, HELD, N, VOTES};
 use crate::record::Record;
 
 /// The members that a well formed state has seen to vote for the leader of a round from 1 to 31: by
@@ -11,7 +11,7 @@ use crate::record::Record;
 pub fn in_state(state: &[u32], round: u32) -> [u32; 2] {
     let leader = (round - 1) % state[N];
     let held = members(state[mask_place(round + 1, HELD)]);
-    let strong = |member| state[cell_place(round + 1, member).start];
+    let strong = |member| state[cell_word(round + 1, member, CELL_STRONG)];
     let by_vertices = held.filter(|&member| has(strong(member), leader));
     [
         state[mask_place(round + 1, VOTES)],

@@ -144,8 +144,8 @@ fn is_held(state: &[u32], (round, member): Place) -> bool {
     has(state[mask_place(round, HELD)], member)
 }
 
-fn has_weak(state: &[u32], place: Place) -> bool {
-    state[cell(place).start + 4] > 0
+fn has_weak(state: &[u32], (round, member): Place) -> bool {
+    state[cell_word(round, member, CELL_WEAK_COUNT)] > 0
 }
 
 /// Each word of a held cell with a bit less or more, and with other values.

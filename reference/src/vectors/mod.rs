@@ -13,7 +13,7 @@ mod worked;
 
 use crate::call::Call;
 use crate::group::Group;
-use crate::harness::{Command, Script, MOST_BUFFER_WORDS, MOST_RECORD_WORDS};
+use crate::harness::{Command, Script, MOST_BUFFER_WORDS, MOST_RECORD_WORDS, MOST_WORDS};
 use crate::layout::*;
 use crate::rng::Rng;
 use crate::simulate::{simulate_proposing, Options};
@@ -22,14 +22,15 @@ use states::Reached;
 
 const SEED: u64 = 4;
 const SIZE: u32 = STATE_WORDS as u32;
+/// The last one is cut to the most words that the program can lend.
 const WRONG_SIZES: [u32; 7] = [
     0,
     1,
     RECORD_WORDS as u32,
     SIZE - 1,
     SIZE + 1,
-    SIZE + 136,
-    SIZE + 1_136,
+    MOST_WORDS,
+    MOST_WORDS + 1_000,
 ];
 const ILLEGAL_SIZES: [u32; 13] = [0, 1, 2, 3, 5, 6, 8, 15, 17, 19, 65_540, 1 << 31, u32::MAX];
 const BUFFER_SIZE: u32 = BUFFER_WORDS as u32;
@@ -92,7 +93,10 @@ impl Commands {
     /// Record and pending buffer as the program has them at the start: of no words.
     fn at_the_start(&mut self) {
         self.fresh(4, 0);
-        let set = [Command::SetBuffer(0, 1), Command::SetRecord(0, 1)];
+        let set = [
+            Command::SetBuffer(BUFFER_COUNT as u32, 1),
+            Command::SetRecord(RECORD_ROUND as u32, 1),
+        ];
         let calls = [Command::VertexWith, Command::Vertex];
         self.list.extend(calls.into_iter().chain(set).chain(calls));
     }
@@ -102,7 +106,9 @@ impl Commands {
         for size in WRONG_SIZES {
             self.list.push(Command::Lend(size));
             self.all_calls();
-            self.list.extend([Command::Set(0, 4), Command::Set(1, 1)]);
+            let opened = [(N, 4), (CURRENT_ROUND, 1)];
+            self.list
+                .extend(opened.map(|(at, word)| Command::Set(at as u32, word)));
             self.all_calls();
             self.set_random(20, size);
             self.all_calls();
@@ -184,8 +190,9 @@ impl Commands {
     fn record_lengths(&mut self) {
         self.fresh(4, 0);
         self.run(&worked::state_s());
-        let vertex: Vec<u32> = [1, 3].into_iter().chain([0; 18]).collect();
-        for length in 0..=MOST_RECORD_WORDS as usize {
+        let mut vertex = vec![0; MOST_RECORD_WORDS as usize];
+        (vertex[RECORD_ROUND], vertex[RECORD_SOURCE]) = (1, 3);
+        for length in 0..=vertex.len() {
             for record in [&vertex[..length], &vec![0; length]] {
                 self.call(&Call::First(record.to_vec()));
                 self.call(&Call::Vertex(record.to_vec()));
@@ -449,7 +456,7 @@ impl Commands {
             Command::HandJournal(0),
             Command::HandJournal(1),
         ]);
-        let vertex: Vec<u32> = [1].into_iter().chain([0; RECORD_WORDS - 1]).collect();
+        let vertex = worked::record(1, 0, [0; 3]).words().to_vec();
         self.call(&Call::Vertex(vertex.clone()));
         self.call(&Call::VertexWith(vec![0; BUFFER_WORDS], vertex.clone()));
         self.call(&Call::First(vertex));

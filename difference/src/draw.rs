@@ -9,7 +9,7 @@ use reference::layout::*;
 use reference::pending::laid_out;
 use reference::record::{first_refusal, Record};
 use reference::rng::Rng;
-use reference::simulate::buffers;
+use reference::simulate::{buffers, digests};
 use reference::vectors::damage;
 use reference::Call;
 
@@ -76,7 +76,7 @@ fn any_own(rng: &mut Rng, n: u32) -> u32 {
 }
 
 fn propose(rng: &mut Rng) -> Call {
-    Call::Propose(rng.word())
+    Call::Propose(digests::any(rng))
 }
 
 /// A record of our own and a no-vote of our own, in either order.
@@ -232,10 +232,10 @@ pub fn well_formed_records(group: Group, calls: &[Call]) -> Vec<Record> {
         .collect()
 }
 
-/// Records with tags of which some differ.
+/// Records of which some have another digest: in one word.
 fn conflicting(rng: &mut Rng, records: &[Record]) -> Vec<Record> {
     let other = |record: &Record| Record {
-        tag: record.tag ^ rng.below(2),
+        digest: digests::same_or_other(rng, record.digest),
         ..*record
     };
     records.iter().map(other).collect()
@@ -290,7 +290,10 @@ fn other_length(rng: &mut Rng, calls: &[Call]) -> Call {
 fn other_words(rng: &mut Rng, calls: &[Call]) -> Call {
     let mut words = record(rng, calls);
     for _ in 0..1 + rng.below(3) {
-        let at = rng.below(words.len() as u32) as usize;
+        let at = match words.len() {
+            RECORD_WORDS => digests::any_place(rng),
+            length => rng.below(length as u32) as usize,
+        };
         if let Some(word) = words.get_mut(at) {
             *word = other_word(rng, *word);
         }
@@ -319,7 +322,7 @@ fn random_record(rng: &mut Rng) -> Call {
             0
         }
     });
-    let (tag, weak_count) = (rng.word(), rng.below(WEAK_SLOTS as u32 + 2));
+    let (digest, weak_count) = (digests::any(rng), rng.below(WEAK_SLOTS as u32 + 2));
     let mut weak = [(); WEAK_SLOTS].map(|()| rng.below(540));
     weak.sort_unstable();
     let used = weak_count as usize;
@@ -330,7 +333,7 @@ fn random_record(rng: &mut Rng) -> Call {
         strong,
         timeouts,
         no_votes,
-        tag,
+        digest,
         weak_count,
         weak,
     };
@@ -405,8 +408,8 @@ fn any_signers(rng: &mut Rng, n: u32) -> u32 {
     rng.top_up(0, all, count)
 }
 
-/// Words as few calls would leave them: notes, first messages and votes, the current round, a tag,
-/// words 5 to 7.
+/// Words as few calls would leave them: notes, first messages and votes, the current round, a word of a
+/// digest, words 5 to 7.
 pub fn unlikely(rng: &mut Rng, state: &[u32]) -> Vec<(usize, u32)> {
     let all = (1 << state[N]) - 1;
     let round = 2 + rng.below(LAST_ROUND - 1);
@@ -420,8 +423,13 @@ pub fn unlikely(rng: &mut Rng, state: &[u32]) -> Vec<(usize, u32)> {
         _ => {
             let held = state[mask_place(round, HELD)];
             let member = rng.member(held);
-            let tag = member.map(|member| cell_word(round, member, CELL_TAG));
-            tag.map(|at| (at, rng.word())).into_iter().collect()
+            let digest = member.map(|member| cell_word(round, member, CELL_DIGEST.start));
+            let word = |start: usize| {
+                let mut apart = rng.apart();
+                let at = apart.below(DIGEST_WORDS as u32) as usize;
+                (start + at, apart.word())
+            };
+            digest.map(word).into_iter().collect()
         }
     }
 }

@@ -32,8 +32,8 @@ impl Engine for Second {
 
 fn change(state: &mut [u32], buffer: &mut [u32], call: &Call) -> Reply {
     match call {
-        Call::Propose(tag) => {
-            let proposal = reference::propose(state, *tag);
+        Call::Propose(digest) => {
+            let proposal = reference::propose(state, *digest);
             reply(&[&numbers(proposal.answer)[..], &proposal.record].concat())
         }
         call => reply(&numbers(call.apply_lent(state, buffer))),

@@ -3,6 +3,7 @@
 use crate::op::Op;
 use reference::group::members;
 use reference::harness::{Command, Script};
+use reference::layout::{BUFFER_RECORDS, CELL_DIGEST, RECORD_CELL, RECORD_WORDS};
 use reference::Call;
 
 /// One thing done to a state.
@@ -41,12 +42,47 @@ impl Step {
         }
     }
 
+    /// The step with zeros in place of the digest words other than these: of the call's digest, and of
+    /// its records.
+    pub fn with_digest_words(&self, kept: &[usize]) -> Step {
+        let mut step = self.clone();
+        let Step::Perform(Op::Change(call)) = &mut step else {
+            return step;
+        };
+        match call {
+            Call::Propose(digest) => keep_words(digest, kept),
+            Call::Vertex(record) | Call::First(record) => keep_in_records(record, kept),
+            Call::VertexWith(buffer, record) => {
+                keep_in_records(record, kept);
+                let records = buffer.get_mut(BUFFER_RECORDS..);
+                keep_in_records(records.unwrap_or_default(), kept);
+            }
+            _ => {}
+        }
+        step
+    }
+
     /// The call, if it is one that may change the state.
     pub fn as_change(&self) -> Option<&Call> {
         match self {
             Step::Perform(Op::Change(call)) => Some(call),
             _ => None,
         }
+    }
+}
+
+/// Sets the words of a digest to 0, but for these.
+fn keep_words(digest: &mut [u32], kept: &[usize]) {
+    let words = digest.iter_mut().enumerate();
+    words
+        .filter(|(at, _)| !kept.contains(at))
+        .for_each(|(_, word)| *word = 0);
+}
+
+/// The same of each record among words; one that is cut short is left as it is.
+fn keep_in_records(words: &mut [u32], kept: &[usize]) {
+    for record in words.chunks_exact_mut(RECORD_WORDS) {
+        keep_words(&mut record[RECORD_CELL][CELL_DIGEST], kept);
     }
 }
 

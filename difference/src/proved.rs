@@ -47,7 +47,7 @@ extern "C" {
     fn yardbook_take_timeout(state: *mut u32, words: usize, round: u32, signer: u32) -> Answer;
     fn yardbook_take_timeouts(state: *mut u32, words: usize, round: u32, mask: u32) -> Answer;
     fn yardbook_take_no_vote(state: *mut u32, words: usize, round: u32, signer: u32) -> Answer;
-    fn yardbook_propose(state: *mut u32, words: usize, tag: u32) -> Proposal;
+    fn yardbook_propose(state: *mut u32, words: usize, digest: *const u32) -> Proposal;
     fn yardbook_sign_no_vote(state: *mut u32, words: usize) -> Answer;
     fn yardbook_status(state: *const u32, words: usize) -> Status;
     fn yardbook_ask_leaders(state: *const u32, words: usize, k: u32) -> Answer;
@@ -79,10 +79,12 @@ impl Engine for Proved {
 fn change(state: &mut [u32], buffer: &mut [u32], call: &Call) -> Reply {
     let (words, size) = (state.as_mut_ptr(), state.len());
     // SAFETY: `words` has `size` words that nobody else uses during the call, and neither the buffer
-    // nor a record overlaps them or the other.
+    // nor a record overlaps them or the other. A digest has its words.
     answer(unsafe {
         match call {
-            Call::Propose(tag) => return proposal(yardbook_propose(words, size, *tag)),
+            Call::Propose(digest) => {
+                return proposal(yardbook_propose(words, size, digest.as_ptr()))
+            }
             Call::SignNoVote => yardbook_sign_no_vote(words, size),
             Call::Open(n, own) => yardbook_open(words, size, *n, *own),
             Call::Vertex(record) => {

@@ -5,6 +5,7 @@ use crate::engine::{Engine, Second};
 use crate::failure::{Failure, Step};
 use crate::op::Op;
 use crate::pair::{Difference, Pair};
+use reference::layout::DIGEST_WORDS;
 use reference::pending::{laid_out, records};
 use reference::{Call, STATE_WORDS};
 
@@ -97,6 +98,7 @@ fn shrink_steps(engine: &dyn Engine, size: usize, steps: &[Step]) -> Failure {
     let steps = fewest(other.map_or(steps, Vec::as_slice), differs);
     let call = |step: &Step| step.as_change().cloned();
     let steps = smaller_buffers(steps, call, Step::of_call, differs);
+    let steps = smaller_digests(&steps, differs);
     let lines: Option<Vec<Call>> = steps.iter().map(|step| step.as_line().cloned()).collect();
     match lines {
         Some(calls) if size == STATE_WORDS && shows_in_sheetlog(engine, &calls) => {
@@ -130,6 +132,16 @@ fn plainly(size: usize, steps: &[Step]) -> Vec<Step> {
         }
     }
     plain
+}
+
+/// The steps with zeros in as many words of all digests as still fails.
+fn smaller_digests(steps: &[Step], fails: impl Fn(&[Step]) -> bool) -> Vec<Step> {
+    let with = |kept: &[usize]| -> Vec<Step> {
+        let steps = steps.iter();
+        steps.map(|step| step.with_digest_words(kept)).collect()
+    };
+    let all: Vec<usize> = (0..DIGEST_WORDS).collect();
+    with(&fewest(&all, |kept| fails(&with(kept))))
 }
 
 /// A call as an item of a list of calls.

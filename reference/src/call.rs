@@ -2,6 +2,7 @@
 
 use crate::answer::Answer;
 use crate::calls;
+use crate::record::Digest;
 
 /// A call that may change a state, with its arguments other than the state. A record may have any
 /// number of words.
@@ -19,8 +20,7 @@ pub enum Call {
     Timeouts(u32, u32),
     /// Round and signer.
     NoVote(u32, u32),
-    /// Tag.
-    Propose(u32),
+    Propose(Digest),
     SignNoVote,
 }
 
@@ -41,7 +41,7 @@ impl Call {
             Call::Timeout(round, signer) => calls::take_timeout(state, *round, *signer),
             Call::Timeouts(round, mask) => calls::take_timeouts(state, *round, *mask),
             Call::NoVote(round, signer) => calls::take_no_vote(state, *round, *signer),
-            Call::Propose(tag) => calls::propose(state, *tag).answer,
+            Call::Propose(digest) => calls::propose(state, *digest).answer,
             Call::SignNoVote => calls::sign_no_vote(state),
         }
     }

@@ -6,7 +6,7 @@ use crate::answer::{self, Answer, Proposal, Status};
 use crate::group::Group;
 use crate::layout::{JOURNAL, JOURNAL_COUNT, LEADER_COUNT, LEADER_LIST, STATE_WORDS};
 use crate::pending::PendingBuffer;
-use crate::record::{first_refusal, is_round, Record};
+use crate::record::{first_refusal, is_round, Digest, Record};
 use crate::state::{status_words, well_formed_words, ReplicaState, RoundMasks};
 
 /// Opens a state for n members, whatever it held before. `own` is the own member plus 1, 0 for a
@@ -109,10 +109,10 @@ pub fn take_no_vote(state: &mut [u32], round: u32, signer: u32) -> Answer {
 }
 
 /// Makes our own vertex for the current round (02: making). Asks 1, 3, 16, 5, 9, 10, 12 and 18.
-pub fn propose(state: &mut [u32], tag: u32) -> Proposal {
+pub fn propose(state: &mut [u32], digest: Digest) -> Proposal {
     let mut proposal = Proposal::default();
     proposal.answer = change(state, |next| {
-        proposal.record = next.make_record(tag).map_err(Answer::refused)?.words();
+        proposal.record = next.make_record(digest).map_err(Answer::refused)?.words();
         Ok(())
     });
     proposal

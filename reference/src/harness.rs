@@ -9,6 +9,7 @@ use crate::answer::{Answer, Proposal};
 use crate::call::Call;
 use crate::calls;
 use crate::layout::{BUFFER_WORDS, RECORD_WORDS, STATE_WORDS};
+use crate::record::Digest;
 
 /// The words that the program can lend, and those of the longest record and pending buffer.
 pub const MOST_WORDS: u32 = STATE_WORDS as u32 + 136;
@@ -39,8 +40,8 @@ pub enum Command {
     Record(u32),
     /// A word of the record gets a value; no effect beyond them.
     SetRecord(u32, u32),
-    /// Makes our own vertex with this tag.
-    Propose(u32),
+    /// Makes our own vertex with the digest as it stands.
+    Propose,
     SignNoVote,
     /// Round and mask.
     Timeouts(u32, u32),
@@ -50,6 +51,8 @@ pub enum Command {
     Buffer(u32),
     /// A word of the buffer gets a value; no effect beyond them.
     SetBuffer(u32, u32),
+    /// A word of the digest gets a value; no effect beyond them.
+    SetDigest(u32, u32),
 }
 
 impl Command {
@@ -71,16 +74,17 @@ impl Command {
             Command::NoVote(round, signer) => [12, round, signer],
             Command::Record(count) => [13, count, 0],
             Command::SetRecord(at, word) => [14, at, word],
-            Command::Propose(tag) => [15, tag, 0],
+            Command::Propose => [15, 0, 0],
             Command::SignNoVote => [16, 0, 0],
             Command::Timeouts(round, mask) => [17, round, mask],
             Command::VertexWith => [18, 0, 0],
             Command::Buffer(count) => [19, count, 0],
             Command::SetBuffer(at, word) => [20, at, word],
+            Command::SetDigest(at, word) => [21, at, word],
         }
     }
 
-    /// The command that makes a call, with the record and the buffer as they stand.
+    /// The command that makes a call, with the record, the buffer and the digest as they stand.
     fn of_call(call: &Call) -> Command {
         match *call {
             Call::Open(n, own) => Command::Open(n, own),
@@ -90,7 +94,7 @@ impl Command {
             Call::Timeout(round, signer) => Command::Timeout(round, signer),
             Call::Timeouts(round, mask) => Command::Timeouts(round, mask),
             Call::NoVote(round, signer) => Command::NoVote(round, signer),
-            Call::Propose(tag) => Command::Propose(tag),
+            Call::Propose(_) => Command::Propose,
             Call::SignNoVote => Command::SignNoVote,
         }
     }
@@ -113,7 +117,7 @@ impl Script {
         commands.into_iter().for_each(|command| self.push(command));
     }
 
-    /// A call: the words of its buffer and record, and the call itself.
+    /// A call: the words of its buffer, record and digest, and the call itself.
     pub fn call(&mut self, call: &Call) {
         if let Call::VertexWith(buffer, _) = call {
             let there = &self.harness.buffer;
@@ -126,6 +130,10 @@ impl Script {
             self.extend(renewed(there, record, MOST_RECORD_WORDS, Command::Record));
             let there = &self.harness.record;
             self.extend(different(there, record, Command::SetRecord));
+        }
+        if let Call::Propose(digest) = call {
+            let there = &self.harness.digest;
+            self.extend(different(there, digest, Command::SetDigest));
         }
         self.push(Command::of_call(call));
     }
@@ -146,12 +154,14 @@ fn different(there: &[u32], words: &[u32], set: fn(u32, u32) -> Command) -> Vec<
         .collect()
 }
 
-/// What the program keeps between commands: the lent words, the record and the pending buffer.
+/// What the program keeps between commands: the lent words, the record, the pending buffer and the
+/// digest.
 #[derive(Clone, Debug, Default)]
 pub struct Harness {
     lent: Vec<u32>,
     record: Vec<u32>,
     buffer: Vec<u32>,
+    digest: Digest,
 }
 
 impl Harness {
@@ -173,7 +183,8 @@ impl Harness {
             Command::Timeout(round, signer) => numbers(calls::take_timeout(state, round, signer)),
             Command::Timeouts(round, mask) => numbers(calls::take_timeouts(state, round, mask)),
             Command::NoVote(round, signer) => numbers(calls::take_no_vote(state, round, signer)),
-            Command::Propose(tag) => proposal_numbers(calls::propose(state, tag)),
+            Command::SetDigest(at, word) => set(&mut self.digest, at, word),
+            Command::Propose => proposal_numbers(calls::propose(state, self.digest)),
             Command::SignNoVote => numbers(calls::sign_no_vote(state)),
             Command::Status => status_numbers(state),
             Command::AskLeaders(k) => Some(vec![calls::ask_leaders(state, k)]),

@@ -16,6 +16,8 @@ pub const IDS_PER_ROUND: u32 = 16;
 /// The vertex ids of all rounds.
 const IDS: usize = LAST_ROUND as usize * IDS_PER_ROUND as usize;
 
+/// Words of a digest (01: the tag; 02, request A7).
+pub const DIGEST_WORDS: usize = 8;
 /// Weak ids that a record has room for.
 pub const WEAK_SLOTS: usize = 5;
 
@@ -23,8 +25,8 @@ pub const WEAK_SLOTS: usize = 5;
 pub const CELL_STRONG: usize = 0;
 pub const CELL_TIMEOUTS: usize = 1;
 pub const CELL_NO_VOTES: usize = 2;
-pub const CELL_TAG: usize = 3;
-pub const CELL_WEAK_COUNT: usize = CELL_TAG + 1;
+pub const CELL_DIGEST: Range<usize> = words_from(3, DIGEST_WORDS);
+pub const CELL_WEAK_COUNT: usize = CELL_DIGEST.end;
 pub const CELL_WEAK: Range<usize> = words_from(CELL_WEAK_COUNT + 1, WEAK_SLOTS);
 pub const CELL_WORDS: usize = CELL_WEAK.end;
 

@@ -23,7 +23,7 @@ impl Call {
             Call::Timeout(round, signer) => ('T', vec![*round, *signer]),
             Call::Timeouts(round, mask) => ('B', vec![*round, *mask]),
             Call::NoVote(round, signer) => ('N', vec![*round, *signer]),
-            Call::Propose(tag) => ('P', vec![*tag]),
+            Call::Propose(digest) => ('P', digest.to_vec()),
             Call::SignNoVote => ('S', vec![]),
         };
         spaced(letter, &words)

@@ -3,13 +3,13 @@
 use crate::answer;
 use crate::group::bit;
 use crate::layout::round_of;
-use crate::record::{is_round, Record};
+use crate::record::{is_round, Digest, Record};
 use crate::state::ReplicaState;
 
 impl ReplicaState {
     /// Makes our record for the current round: questions 16, 5, 9, 10, 12 and 18, then the mark
     /// that it was made.
-    pub fn make_record(&mut self, tag: u32) -> Result<Record, u32> {
+    pub fn make_record(&mut self, digest: Digest) -> Result<Record, u32> {
         let source = self.own.ok_or(answer::WATCHER)?;
         let round = self.current_round;
         if !is_round(round) {
@@ -19,7 +19,7 @@ impl ReplicaState {
             round,
             source,
             strong: self.named_parents(),
-            tag,
+            digest,
             ..Record::default()
         };
         if record.lacks_previous_leader(self.group) {

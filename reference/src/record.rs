@@ -4,6 +4,16 @@ use crate::answer;
 use crate::group::{has, members, Group};
 use crate::layout::*;
 
+/// What names the host's block: any words.
+pub type Digest = [u32; DIGEST_WORDS];
+
+/// The digest that a tag of 01's cases stands for: its first word, the others 0.
+pub fn digest_of_tag(tag: u32) -> Digest {
+    let mut digest = Digest::default();
+    digest[0] = tag;
+    digest
+}
+
 /// The words of a record, by name.
 #[derive(Clone, Copy, Debug, Default, PartialEq, Eq)]
 pub struct Record {
@@ -12,7 +22,7 @@ pub struct Record {
     pub strong: u32,
     pub timeouts: u32,
     pub no_votes: u32,
-    pub tag: u32,
+    pub digest: Digest,
     pub weak_count: u32,
     pub weak: [u32; WEAK_SLOTS],
 }
@@ -37,7 +47,7 @@ impl Record {
             strong: cell[CELL_STRONG],
             timeouts: cell[CELL_TIMEOUTS],
             no_votes: cell[CELL_NO_VOTES],
-            tag: cell[CELL_TAG],
+            digest: cell[CELL_DIGEST].try_into().ok()?,
             weak_count: cell[CELL_WEAK_COUNT],
             weak: cell[CELL_WEAK].try_into().ok()?,
         })
@@ -57,7 +67,7 @@ impl Record {
         cell[CELL_STRONG] = self.strong;
         cell[CELL_TIMEOUTS] = self.timeouts;
         cell[CELL_NO_VOTES] = self.no_votes;
-        cell[CELL_TAG] = self.tag;
+        cell[CELL_DIGEST].copy_from_slice(&self.digest);
         cell[CELL_WEAK_COUNT] = self.weak_count;
         cell[CELL_WEAK].copy_from_slice(&self.weak);
         cell
@@ -66,6 +76,18 @@ impl Record {
     /// The vertex id; only for records that pass questions 5 and 6.
     pub fn id(&self) -> u32 {
         vertex_id(self.round, self.source)
+    }
+
+    /// The record with a tag of 01's cases.
+    pub fn with_tag(self, tag: u32) -> Record {
+        let digest = digest_of_tag(tag);
+        Record { digest, ..self }
+    }
+
+    /// The record with another word at this place of its digest, counted round and round.
+    pub fn with_other_word(mut self, at: usize) -> Record {
+        self.digest[at % DIGEST_WORDS] ^= 1;
+        self
     }
 
     /// The record with these weak ids; those that it has no room for are left out.

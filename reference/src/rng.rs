@@ -24,6 +24,11 @@ impl Rng {
         (self.long_word() >> 32) as u32
     }
 
+    /// A generator of its own, from one word of this one.
+    pub fn apart(&mut self) -> Rng {
+        Rng::new(u64::from(self.word()))
+    }
+
     /// A number below the bound; 0 if the bound is 0.
     pub fn below(&mut self, bound: u32) -> u32 {
         self.word() % bound.max(1)

@@ -6,7 +6,7 @@ use common::*;
 use reference::answer::Answer;
 use reference::group::{bit, members, Group};
 use reference::layout::*;
-use reference::record::Record;
+use reference::record::digest_of_tag;
 use reference::rng::Rng;
 use reference::simulate::{simulate, simulate_proposing, Options};
 use reference::vectors::damage;
@@ -283,12 +283,9 @@ fn members_of_a_carried_certificate_are_noted() {
 fn our_record_carries_a_bundle_s_members() {
     let mut state = taken(&lacking_leader(4), &[(1, 11)]);
     assert_eq!(sign_no_vote(&mut state.clone()).number, 0);
-    let made = Record::from_words(&propose(&mut state, 5).record).expect("it has its size");
-    let expected = Record {
-        tag: 5,
-        ..record(2, 3, 14, 11, 0)
-    };
-    assert_eq!(made, expected);
+    let made = propose(&mut state, digest_of_tag(5)).record;
+    let expected = record(2, 3, 14, 11, 0).with_tag(5);
+    assert_eq!(made, expected.words());
 }
 
 /// All orders of some items.

@@ -5,7 +5,7 @@ mod common;
 use common::*;
 use reference::group::{bit, members, Group};
 use reference::layout::*;
-use reference::record::Record;
+use reference::record::{digest_of_tag, Record};
 use reference::*;
 
 /// All timeout certificates of four members.
@@ -186,7 +186,7 @@ fn round_1_has_no_round_before_it() {
         for notes in [0, 14] {
             let state = noted(opened(n), 1, notes);
             for source in 0..n {
-                let tag = cell_word(1, source, CELL_TAG);
+                let tag = cell_word(1, source, CELL_DIGEST.start);
                 let expected = vec![(held(1), bit(source)), (tag, 5)];
                 assert_eq!(changed(&state, tagged(source, 5)), expected);
             }
@@ -243,11 +243,8 @@ fn a_member_without_notes_makes_its_record_and_signs() {
     assert_eq!(sign_no_vote(&mut lacking_leader(4)).number, 17);
     let mut state = lacking_leader(4);
     vertices(&mut state, &[record(2, 0, 14, 11, 0)]);
-    let made = propose(&mut state.clone(), 5).record;
-    let expected = Record {
-        tag: 5,
-        ..record(2, 3, 14, 11, 0)
-    };
+    let made = propose(&mut state.clone(), digest_of_tag(5)).record;
+    let expected = record(2, 3, 14, 11, 0).with_tag(5);
     assert_eq!(made, expected.words());
     assert_eq!(sign_no_vote(&mut state).number, 0);
     assert_eq!((state[timeouts(1)], state[no_votes(1)]), (11, 8));

@@ -8,18 +8,18 @@ use common::*;
 use reference::answer::{self, Answer, Proposal};
 use reference::group::{bit, members, Group};
 use reference::layout::*;
-use reference::record::{first_refusal, Record};
+use reference::record::{digest_of_tag, first_refusal, Digest, Record};
 use reference::rng::Rng;
 use reference::simulate::{simulate, simulate_proposing, Options};
 use reference::*;
 
-const TAG: u32 = 77;
+const DIGEST: Digest = [77, 1, 2, 3, 4, 5, 6, u32::MAX];
 
 /// Makes our vertex on a copy; a refusal has an empty record and changes no word, an admission
 /// sets its bit of word 6 alone.
 fn proposed(state: &State) -> Result<Record, u32> {
     let mut after = state.clone();
-    let Proposal { answer, record } = propose(&mut after, TAG);
+    let Proposal { answer, record } = propose(&mut after, DIGEST);
     assert_eq!(answer, Answer::refused(answer.number));
     if answer.number != 0 {
         assert_eq!((record, &after), ([0; RECORD_WORDS], state));
@@ -28,7 +28,10 @@ fn proposed(state: &State) -> Result<Record, u32> {
     let made = state[MADE_ROUNDS] | round_bit(state[CURRENT_ROUND]);
     assert_eq!(changes(state, &after), [(MADE_ROUNDS, made)]);
     let record = Record::from_words(&record).expect("a record has its size");
-    assert_eq!((record.round, record.tag), (state[CURRENT_ROUND], TAG));
+    assert_eq!(
+        (record.round, record.digest),
+        (state[CURRENT_ROUND], DIGEST)
+    );
     assert_eq!(record.source + 1, state[OWN]);
     Ok(record)
 }
@@ -106,7 +109,7 @@ fn the_first_round_has_no_parents() {
         for own in 1..=n {
             let state = opened_for(n, own);
             let expected = Record {
-                tag: TAG,
+                digest: DIGEST,
                 ..plain(1, own - 1, 0)
             };
             assert_eq!(proposed(&state), Ok(expected));
@@ -118,11 +121,16 @@ fn the_first_round_has_no_parents() {
 }
 
 #[test]
-fn any_tag_is_taken() {
-    for tag in [0, 1, u32::MAX] {
-        let proposal = propose(&mut opened_for(4, 1), tag);
-        let word = proposal.record[record_word(CELL_TAG)];
-        assert_eq!((proposal.answer.number, word), (0, tag));
+fn any_digest_is_taken() {
+    for word in [0, 1, u32::MAX] {
+        for at in 0..DIGEST_WORDS {
+            let mut digest = DIGEST;
+            digest[at] = word;
+            let proposal = propose(&mut opened_for(4, 1), digest);
+            assert_eq!(proposal.answer.number, 0);
+            let words = CELL_DIGEST.map(|place| proposal.record[record_word(place)]);
+            assert!(words.eq(digest));
+        }
     }
 }
 
@@ -182,7 +190,7 @@ fn no_made_record_votes_for_a_leader_signed_against() {
     let mut state = lacking(1);
     assert_eq!(sign_no_vote(&mut state).number, 0);
     vertices(&mut state, &[plain(1, 0, 0)]);
-    let words = propose(&mut state, TAG).record;
+    let words = propose(&mut state, DIGEST).record;
     let record = Record::from_words(&words).expect("a record");
     assert_eq!(
         (record.strong, state[MADE_ROUNDS], state[SIGNED_NO_VOTES]),
@@ -254,9 +262,9 @@ fn a_second_record_for_a_round_gives_12_after_9_and_10() {
     assert_eq!(proposed(&with(&state, &[(timeouts(1), 3)])), Err(9));
     assert_eq!(proposed(&with(&state, &[(no_votes(1), 7)])), Err(12));
     let mut state = full(1, 3);
-    assert_eq!(propose(&mut state, 1).answer.number, 0);
-    for tag in [1, 2] {
-        assert_eq!(propose(&mut state, tag).answer.number, 12);
+    assert_eq!(propose(&mut state, DIGEST).answer.number, 0);
+    for digest in [DIGEST, digest_of_tag(2)] {
+        assert_eq!(propose(&mut state, digest).answer.number, 12);
     }
     let others = with(&state, &[(MADE_ROUNDS, !round_bit(4))]);
     assert!(proposed(&others).is_ok());
@@ -286,7 +294,7 @@ fn few_strong_parents_give_18_after_12() {
 #[test]
 fn making_admits_nothing() {
     let mut state = full(1, 2);
-    let proposal = propose(&mut state, TAG);
+    let proposal = propose(&mut state, DIGEST);
     assert_eq!(state[mask_place(3, HELD)] | state[mask_place(3, HEARD)], 0);
     assert_eq!(take_first_message(&mut state, &proposal.record).number, 0);
     assert_eq!(take_vertex(&mut state, &proposal.record).number, 0);
@@ -489,7 +497,7 @@ fn signing_gives_17_where_the_leader_is_held_or_a_record_made() {
     vertices(&mut held, &[plain(1, 0, 0)]);
     assert_eq!(signed(&held), Err(17));
     let mut made = state.clone();
-    assert_eq!(propose(&mut made, TAG).answer.number, 0);
+    assert_eq!(propose(&mut made, DIGEST).answer.number, 0);
     assert_eq!(signed(&made), Err(17));
     // The record of another round does not matter.
     assert!(signed(&with(&state, &[(MADE_ROUNDS, 1)])).is_ok());
@@ -502,7 +510,7 @@ fn signing_gives_17_before_12() {
     vertices(&mut held, &[plain(1, 0, 0)]);
     assert_eq!(signed(&held), Err(17));
     let mut made = state.clone();
-    assert_eq!(propose(&mut made, TAG).answer.number, 0);
+    assert_eq!(propose(&mut made, DIGEST).answer.number, 0);
     assert_eq!(signed(&made), Err(17));
     assert_eq!(signed(&state), Err(12));
 }
@@ -602,7 +610,7 @@ fn expected_record(state: &State) -> Option<Record> {
         } else {
             0
         },
-        tag: TAG,
+        digest: DIGEST,
         ..Record::default()
     };
     Some(made.with_weak(&weak[..weak.len().min(group.f() as usize)]))

@@ -11,7 +11,7 @@ use reference::model::Lists;
 use reference::pending::{is_well_formed as is_well_formed_buffer, laid_out};
 use reference::record::{first_refusal, Record};
 use reference::rng::Rng;
-use reference::simulate::{buffers, simulate, simulate_proposing, Options};
+use reference::simulate::{buffers, digests, simulate, simulate_proposing, Options};
 use reference::vectors::damage;
 use reference::*;
 
@@ -20,10 +20,6 @@ const SLOTS: u32 = BUFFER_SLOTS as u32;
 
 fn group(n: u32) -> Group {
     Group::new(n).expect("the size is legal")
-}
-
-fn tag(record: Record, tag: u32) -> Record {
-    Record { tag, ..record }
 }
 
 /// Takes a vertex with a buffer on copies, checked against plain calls; the answer and what is left.
@@ -105,7 +101,7 @@ fn an_empty_a_half_full_and_a_full_buffer_are_well_formed() {
 fn records_that_are_held_or_could_be_are_well_formed() {
     let held = tagged(1, 11);
     let ready = plain(2, 0, 7);
-    for records in [vec![held], vec![tag(held, 5)], vec![held, ready]] {
+    for records in [vec![held], vec![held.with_tag(5)], vec![held, ready]] {
         let (answer, _, after) = taken(&state_s(), &laid_out(&records), plain(1, 3, 0));
         assert_eq!((answer.number, after[BUFFER_COUNT]), (0, 0));
     }
@@ -182,7 +178,7 @@ fn each_way_to_damage_a_buffer() {
     }
     for records in [
         [a, a, c],
-        [a, tag(a, 9), c],
+        [a, a.with_tag(9), c],
         [b, a, c],
         [a, c, b],
         [a, c, c],
@@ -299,7 +295,7 @@ fn the_same_vertex_again_gives_12_and_another_13() {
     let [a, b, c] = waiting();
     for buffer in [laid_out(&[b]), laid_out(&[a, b, c])] {
         assert_eq!(number(&state, &buffer, &b.words()), 12);
-        assert_eq!(number(&state, &buffer, &tag(b, 1).words()), 13);
+        assert_eq!(number(&state, &buffer, &b.with_tag(1).words()), 13);
         let by_weak = with_weak(plain(3, 0, 7), &[19]);
         let (answer, _, left) = taken(&state, &buffer, by_weak);
         assert_eq!(answer, Answer::missing_parent(19));
@@ -312,11 +308,11 @@ fn the_same_vertex_again_gives_12_and_another_13() {
 #[test]
 fn held_vertices_get_the_cell_s_number() {
     let held = tagged(1, 11);
-    for there in [held, tag(held, 5)] {
+    for there in [held, held.with_tag(5)] {
         let buffer = laid_out(&[there]);
         assert_eq!(number(&state_s(), &buffer, &held.words()), 12);
-        assert_eq!(number(&state_s(), &buffer, &tag(held, 5).words()), 13);
-        assert_eq!(number(&state_s(), &buffer, &tag(held, 6).words()), 13);
+        assert_eq!(number(&state_s(), &buffer, &held.with_tag(5).words()), 13);
+        assert_eq!(number(&state_s(), &buffer, &held.with_tag(6).words()), 13);
     }
 }
 
@@ -335,7 +331,7 @@ fn a_full_buffer_gives_20_but_for_its_own_ids() {
         }
         for &there in &chain {
             assert_eq!(number(&state, &full, &there.words()), 12);
-            assert_eq!(number(&state, &full, &tag(there, 1).words()), 13);
+            assert_eq!(number(&state, &full, &there.with_tag(1).words()), 13);
         }
         // What does not get 14 does not ask for a place.
         assert_eq!(number(&state, &full, &plain(1, 0, 0).words()), 12);
@@ -407,7 +403,7 @@ fn an_admitted_vertex_s_double_leaves() {
     let state = state_s();
     let vertex = plain(2, 0, 7);
     let [_, b, _] = waiting();
-    for there in [vertex, tag(vertex, 1), plain(2, 0, 15)] {
+    for there in [vertex, vertex.with_tag(1), plain(2, 0, 15)] {
         let (answer, after, left) = taken(&state, &laid_out(&[there, b]), vertex);
         assert_eq!(answer.number, 0);
         assert_eq!(left, laid_out(&[b]));
@@ -416,7 +412,7 @@ fn an_admitted_vertex_s_double_leaves() {
     // Also where the buffer is full.
     let (state, last) = before_chain(4);
     let mut full = chain(4);
-    full.insert(0, tag(last, 1));
+    full.insert(0, last.with_tag(1));
     let (answer, _, left) = taken(&state, &laid_out(&full), last);
     assert_eq!((answer.number, left[BUFFER_COUNT]), (0, 0));
 }
@@ -559,7 +555,7 @@ fn the_model_takes_what_the_buffer_releases() {
 fn the_model_keeps_its_own_vertices() {
     let held = tagged(0, 10);
     let second = [0, 1, 2].map(|source| plain(2, source, 15));
-    let there = tag(plain(1, 0, 0), 77);
+    let there = plain(1, 0, 0).with_tag(77);
     let pending = laid_out(&[&[there][..], &second].concat());
     let mut calls = vec![Call::Open(4, 0), Call::Vertex(held.words().to_vec())];
     calls.extend([1, 2].map(|source| Call::Vertex(plain(1, source, 0).words().to_vec())));
@@ -591,7 +587,7 @@ fn drawn_record(rng: &mut Rng, state: &State, pool: &[Record]) -> Vec<u32> {
     let n = Group::new(state[N]).map_or(4, Group::n);
     let mut record = rng.pick(pool).copied().unwrap_or_default();
     match rng.below(12) {
-        0 => record.tag ^= 1,
+        0 => record = record.with_other_word(record.id() as usize),
         1 => {
             let forms = buffers::refused_forms(group(n), record);
             record = rng.pick(&forms).copied().unwrap_or(record);
@@ -607,7 +603,7 @@ fn drawn_buffer(rng: &mut Rng, state: &State, pool: &[Record]) -> Buffer {
     let mut pool = pool.to_vec();
     if rng.percent(20) {
         pool.iter_mut()
-            .for_each(|record| record.tag ^= rng.below(2));
+            .for_each(|record| record.digest = digests::same_or_other(rng, record.digest));
     }
     let chance = [5, 30, 100][rng.below(3) as usize];
     let buffer = buffers::of_some(rng, chance, &pool);

@@ -10,6 +10,7 @@ use reference::line::LONGEST_LINE;
 use reference::simulate::{simulate, Options};
 use reference::{sheetlog, status, Call, STATE_WORDS};
 
+/// 01's input, each record with a tag.
 const SAMPLE: &str = "\
 O 4
 V 1 0 0 0 0 10 0 0 0 0 0 0
@@ -31,6 +32,33 @@ const SAMPLE_ANSWERS: &str = "\
 L 16
 J 16
 ";
+
+/// Lines as 01 has them, each record with the words that 02 gives it: the tag is the first word of the
+/// digest, the others are 0.
+fn in_full(lines: &str) -> String {
+    let line = |line: &str| match line.split_at(1) {
+        (letter @ ("V" | "F"), words) => {
+            let words: Vec<u32> = words.split_whitespace().flat_map(str::parse).collect();
+            let [round, source, strong, timeouts, no_votes, tag, weak_count, ref weak @ ..] =
+                words[..]
+            else {
+                panic!("{line} is not as 01 has it");
+            };
+            let mut record =
+                common::record(round, source, strong, timeouts, no_votes).with_tag(tag);
+            record.weak_count = weak_count;
+            record.weak.copy_from_slice(weak);
+            format!("{letter}{}\n", spaced(&record.words()))
+        }
+        _ => format!("{line}\n"),
+    };
+    lines.lines().map(line).collect()
+}
+
+/// Numbers, each after a space.
+fn spaced(words: &[u32]) -> String {
+    words.iter().map(|word| format!(" {word}")).collect()
+}
 
 /// Runs the built program.
 fn run_program(input: &[u8]) -> String {
@@ -74,10 +102,33 @@ fn answers(input: &[u8]) -> Vec<String> {
 
 #[test]
 fn the_sample() {
-    assert_eq!(run_program(SAMPLE.as_bytes()), SAMPLE_ANSWERS);
+    let sample = in_full(SAMPLE);
+    assert_eq!(run_program(sample.as_bytes()), SAMPLE_ANSWERS);
     for size in [1, 2, 7, 1000] {
-        assert_eq!(run_in_blocks(SAMPLE.as_bytes(), size), SAMPLE_ANSWERS);
+        assert_eq!(run_in_blocks(sample.as_bytes(), size), SAMPLE_ANSWERS);
     }
+}
+
+/// Records of one number more or less, and 01's of a single tag, are of another form.
+#[test]
+fn records_of_other_lengths() {
+    for letter in ["V", "F"] {
+        for length in 0..=RECORD_WORDS + 8 {
+            let words: Vec<u32> = (1..=length as u32).collect();
+            let line = format!("{letter}{}\n", spaced(&words));
+            let expected = if length == RECORD_WORDS {
+                "3 0 0 0 0"
+            } else {
+                "?"
+            };
+            assert_eq!(answers(line.as_bytes()), [expected, "L", "J"], "{line}");
+        }
+    }
+    let line = "V 1 0 0 0 0 10 0 0 0 0 0 0";
+    let in_full = in_full(line);
+    assert_eq!(in_full, "V 1 0 0 0 0 10 0 0 0 0 0 0 0 0 0 0 0 0 0\n");
+    assert_eq!(answers(in_full.as_bytes()), ["3 0 0 0 0", "L", "J"]);
+    assert_eq!(answers(format!("{line}\n").as_bytes()), ["?", "L", "J"]);
 }
 
 #[test]
@@ -87,8 +138,9 @@ fn no_input() {
 
 #[test]
 fn calls_before_an_opening() {
-    let input =
-        b"V 1 0 0 0 0 10 0 0 0 0 0 0\nF 1 0 0 0 0 10 0 0 0 0 0 0\nT 1 0\nN 1 0\nO 5\nO 16\n";
+    let input = in_full(
+        "V 1 0 0 0 0 10 0 0 0 0 0 0\nF 1 0 0 0 0 10 0 0 0 0 0 0\nT 1 0\nN 1 0\nO 5\nO 16\n",
+    );
     let three = "3 0 0 0 0";
     let expected = [
         three,
@@ -100,7 +152,7 @@ fn calls_before_an_opening() {
         "L",
         "J",
     ];
-    assert_eq!(answers(input), expected);
+    assert_eq!(answers(input.as_bytes()), expected);
 }
 
 const OTHER_FORMS: [&[u8]; 38] = [
@@ -160,10 +212,12 @@ fn lines_of_another_form() {
 
 #[test]
 fn numbers_at_their_ends() {
-    let input = b"O 0\nO 4294967295\nO 4\nT 4294967295 0\nT 1 4294967295\nN 0 0\n\
-        V 1 0 0 0 0 4294967295 0 0 0 0 0 0\nV 4294967295 4294967295 4294967295 4294967295 \
-        4294967295 4294967295 4294967295 4294967295 4294967295 4294967295 4294967295 4294967295\n";
-    let numbers: Vec<String> = answers(input)
+    let mut input = in_full(
+        "O 0\nO 4294967295\nO 4\nT 4294967295 0\nT 1 4294967295\nN 0 0\n\
+        V 1 0 0 0 0 4294967295 0 0 0 0 0 0\n",
+    );
+    input += &format!("V{}\n", spaced(&[u32::MAX; RECORD_WORDS]));
+    let numbers: Vec<String> = answers(input.as_bytes())
         .iter()
         .map(|line| line[..1].to_owned())
         .collect();
@@ -193,7 +247,8 @@ fn long_lines() {
 
 #[test]
 fn lines_cut_at_the_longest_call() {
-    let line = format!("V{}", " 4294967295".repeat(RECORD_WORDS));
+    let line = format!("V{}", spaced(&[u32::MAX; RECORD_WORDS]));
+    assert_eq!(line.len(), LONGEST_LINE);
     assert_eq!(
         answers(format!("{line}\n").as_bytes()),
         ["3 0 0 0 0", "L", "J"]

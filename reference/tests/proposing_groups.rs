@@ -11,7 +11,7 @@ use common::*;
 use reference::group::Group;
 use reference::layout::*;
 use reference::model::Lists;
-use reference::record::{first_refusal, Record};
+use reference::record::{first_refusal, Digest, Record};
 use reference::simulate::{simulate, simulate_proposing, Options, Run};
 use reference::*;
 
@@ -95,7 +95,7 @@ impl Member<'_> {
     fn make(&mut self, call: &Call) {
         let before = self.state.clone();
         let number = match call {
-            Call::Propose(tag) => self.propose(&before, *tag),
+            Call::Propose(digest) => self.propose(&before, *digest),
             Call::SignNoVote => self.sign(&before),
             Call::Vertex(words) => self.take(&before, words),
             Call::VertexWith(buffer, words) => self.take_with(buffer, words),
@@ -125,8 +125,8 @@ impl Member<'_> {
         lists
     }
 
-    fn propose(&mut self, before: &State, tag: u32) -> u32 {
-        let Proposal { answer, record } = propose(&mut self.state, tag);
+    fn propose(&mut self, before: &State, digest: Digest) -> u32 {
+        let Proposal { answer, record } = propose(&mut self.state, digest);
         self.seen.propose.insert(answer.number);
         assert_eq!(answer, Answer::refused(answer.number));
         if answer.number != 0 {
@@ -135,7 +135,8 @@ impl Member<'_> {
         }
         let made = Record::from_words(&record).expect("a record has its size");
         let round = before[CURRENT_ROUND];
-        assert_eq!((made.round, made.source, made.tag), (round, self.own, tag));
+        assert_eq!((made.round, made.source), (round, self.own));
+        assert_eq!(made.digest, digest);
         assert_eq!(
             self.made.insert(round, made),
             None,

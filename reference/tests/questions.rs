@@ -4,7 +4,7 @@
 mod common;
 
 use common::*;
-use reference::layout::{JOURNAL, LEADER_LIST, RECORD_WORDS};
+use reference::layout::{DIGEST_WORDS, JOURNAL, LEADER_LIST, RECORD_WORDS};
 use reference::record::Record;
 use reference::*;
 
@@ -137,7 +137,7 @@ fn sizes_come_first() {
             Call::Timeout(0, 9),
             Call::Timeouts(0, 1 << 9),
             Call::NoVote(0, 9),
-            Call::Propose(0),
+            Call::Propose([0; DIGEST_WORDS]),
             Call::SignNoVote,
         ] {
             expect(&state, call, 1);
@@ -167,7 +167,7 @@ fn state_comes_before_record() {
         Call::Timeout(0, 9),
         Call::Timeouts(0, 1 << 9),
         Call::NoVote(0, 9),
-        Call::Propose(0),
+        Call::Propose([0; DIGEST_WORDS]),
         Call::SignNoVote,
     ] {
         expect(&zero, call, 3);

@@ -1,23 +1,24 @@
-//! The numbers of the documents' layout (01, "Records and sheet", and 02, requests A1 and A5): the only
-//! place beside `layout` that writes them out.
+//! The numbers of the documents' layout (01, "Records and sheet", and 02, requests A1, A5 and A7).
 
 use reference::layout::*;
+use reference::line::LONGEST_LINE;
 
 #[test]
 fn a_record() {
-    assert_eq!((RECORD_WORDS, CELL_WORDS), (12, 10));
-    assert_eq!((RECORD_ROUND, RECORD_SOURCE, RECORD_CELL), (0, 1, 2..12));
+    assert_eq!((RECORD_WORDS, CELL_WORDS), (19, 17));
+    assert_eq!((RECORD_ROUND, RECORD_SOURCE, RECORD_CELL), (0, 1, 2..19));
     let masks = [CELL_STRONG, CELL_TIMEOUTS, CELL_NO_VOTES].map(record_word);
     assert_eq!(masks, [2, 3, 4]);
-    assert_eq!(record_word(CELL_TAG), 5);
-    assert_eq!(record_word(CELL_WEAK_COUNT), 6);
+    let digest: Vec<usize> = CELL_DIGEST.map(record_word).collect();
+    assert_eq!(digest, [5, 6, 7, 8, 9, 10, 11, 12]);
+    assert_eq!(record_word(CELL_WEAK_COUNT), 13);
     let weak: Vec<usize> = CELL_WEAK.map(record_word).collect();
-    assert_eq!(weak, [7, 8, 9, 10, 11]);
+    assert_eq!(weak, [14, 15, 16, 17, 18]);
 }
 
 #[test]
 fn a_state() {
-    assert_eq!(STATE_WORDS, 5_864);
+    assert_eq!(STATE_WORDS, 9_448);
     let head = [
         N,
         CURRENT_ROUND,
@@ -37,15 +38,20 @@ fn a_state() {
     );
     assert_eq!(mask_place(32, ORDERED), 199);
     assert_eq!((LEADER_LIST, JOURNAL), (200..232, 232..744));
-    assert_eq!(CELLS, 744..5_864);
-    assert_eq!(cell_place(1, 0), 744..754);
-    assert_eq!(cell_place(2, 3), 934..944);
-    assert_eq!(cell_place(32, 15).end, 5_864);
+    assert_eq!(CELLS, 744..9_448);
+    assert_eq!(cell_place(1, 0), 744..761);
+    assert_eq!(cell_place(2, 3), 1_067..1_084);
+    assert_eq!(cell_place(32, 15).end, 9_448);
 }
 
 #[test]
 fn a_pending_buffer() {
-    assert_eq!((BUFFER_WORDS, BUFFER_SLOTS), (385, 32));
+    assert_eq!((BUFFER_WORDS, BUFFER_SLOTS), (609, 32));
     assert_eq!((BUFFER_COUNT, BUFFER_RECORDS), (0, 1));
-    assert_eq!([1, 2, 32].map(buffer_end), [13, 25, 385]);
+    assert_eq!([1, 2, 32].map(buffer_end), [20, 39, 609]);
+}
+
+#[test]
+fn a_line() {
+    assert_eq!(LONGEST_LINE, 210);
 }

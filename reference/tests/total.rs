@@ -36,7 +36,7 @@ fn any_call(rng: &mut Rng) -> Call {
         2 => Call::First(words),
         3 => Call::Timeout(word(rng), word(rng)),
         4 => Call::NoVote(word(rng), word(rng)),
-        5 => Call::Propose(word(rng)),
+        5 => Call::Propose(simulate::digests::any(rng)),
         6 => Call::Timeouts(word(rng), word(rng)),
         _ => Call::SignNoVote,
     }

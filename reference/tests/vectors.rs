@@ -4,8 +4,10 @@ use std::collections::{BTreeMap, BTreeSet};
 
 use reference::harness::{Command, Harness, Script};
 use reference::layout::*;
+use reference::record::Digest;
 use reference::simulate::{simulate, simulate_proposing, Options};
 use reference::vectors::commands;
+use reference::{propose, Call};
 
 /// The numbers of each operation's answers, in the second place of its lines.
 fn seen() -> BTreeMap<u32, BTreeSet<u32>> {
@@ -79,7 +81,13 @@ fn a_call_s_commands_make_it() {
         .collect();
     assert_eq!(lines.len(), calls.len());
     let mut state = vec![0; STATE_WORDS];
+    let mut digests: BTreeSet<Digest> = BTreeSet::new();
     for (line, call) in lines.iter().zip(&calls) {
+        if let Call::Propose(digest) = call {
+            let made = propose(&mut state.clone(), *digest).record;
+            assert_eq!(line[5..][..RECORD_WORDS], made, "{call:?}");
+            digests.extend((made != [0; RECORD_WORDS]).then_some(*digest));
+        }
         let answer = call.apply(&mut state);
         assert_eq!(
             line[1..5],
@@ -87,6 +95,7 @@ fn a_call_s_commands_make_it() {
             "{call:?}"
         );
     }
+    assert!(digests.len() > 20, "{}", digests.len());
 }
 
 #[test]

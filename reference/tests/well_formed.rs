@@ -20,7 +20,7 @@ fn breaks(state: &State, changes: &[(usize, u32)]) {
         Call::Timeout(1, 0),
         Call::Timeouts(1, 1),
         Call::NoVote(1, 0),
-        Call::Propose(0),
+        Call::Propose([0; DIGEST_WORDS]),
         Call::SignNoVote,
     ] {
         assert_eq!(
@@ -164,7 +164,7 @@ fn carried_certificates_and_timeouts() {
             (Call::Timeout(2, 3), 0),
             (Call::Timeouts(2, 11), 0),
             (Call::NoVote(2, 3), 0),
-            (Call::Propose(0), 16),
+            (Call::Propose([0; DIGEST_WORDS]), 16),
             (Call::SignNoVote, 16),
         ] {
             assert_eq!(call.apply(&mut changed).number, number, "{call:?}");
@@ -209,7 +209,9 @@ fn held_records_pass_the_questions() {
         &[(third(CELL_WEAK_COUNT), 2), (third(weak + 1), 20)],
     );
     breaks(&state, &[(third(last_weak), 1)]);
-    keeps(&state, &[(second(CELL_TAG), u32::MAX)]);
+    for place in CELL_DIGEST {
+        keeps(&state, &[(second(place), u32::MAX)]);
+    }
     keeps(&state, &[(third(CELL_WEAK_COUNT), 0), (third(weak), 0)]);
 }
 

@@ -21,15 +21,16 @@ fn a_vertex_writes_its_cell_its_mark_and_its_certificate() {
         &[plain(1, 3, 0), plain(2, 0, 7), plain(2, 1, 7)],
     );
     let mut record = record(2, 3, 14, 7, 0);
-    record.tag = 77;
-    let expected = vec![
+    record.digest = [77, 1, 2, 3, 4, 5, 6, u32::MAX];
+    let mut expected = vec![
         (CURRENT_ROUND, 3),
         (timeouts(1), 7),
         (mask_place(2, HELD), 0b1011),
         (cell_word(2, 3, CELL_STRONG), 14),
         (cell_word(2, 3, CELL_TIMEOUTS), 7),
-        (cell_word(2, 3, CELL_TAG), 77),
     ];
+    let digest = CELL_DIGEST.map(|place| cell_word(2, 3, place));
+    expected.extend(digest.zip(record.digest));
     assert_eq!(
         changed_by(&mut state, Call::Vertex(record.words().to_vec())),
         expected

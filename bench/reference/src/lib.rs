@@ -3,6 +3,7 @@
 use std::slice::{from_raw_parts, from_raw_parts_mut};
 
 use reference::layout::RECORD_WORDS;
+use reference::record::Digest;
 
 #[repr(C)]
 pub struct Answer([u32; 4]);
@@ -138,8 +139,13 @@ pub unsafe extern "C" fn reference_take_no_vote(
 /// # Safety
 /// As above.
 #[no_mangle]
-pub unsafe extern "C" fn reference_propose(state: *mut u32, words: usize, tag: u32) -> Proposal {
-    let made = reference::propose(words!(mut state, words), tag);
+pub unsafe extern "C" fn reference_propose(
+    state: *mut u32,
+    words: usize,
+    digest: *const u32,
+) -> Proposal {
+    let digest = unsafe { *digest.cast::<Digest>() };
+    let made = reference::propose(words!(mut state, words), digest);
     Proposal {
         answer: answer(made.answer),
         record: made.record,

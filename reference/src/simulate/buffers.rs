@@ -1,5 +1,6 @@
 //! Pending buffers drawn at random: of given records, damaged, and of another size.
 
+use super::digests;
 use crate::group::{bit, Group};
 use crate::harness::MOST_BUFFER_WORDS;
 use crate::layout::*;
@@ -31,9 +32,9 @@ pub fn damaged(rng: &mut Rng, group: Group, buffer: &[u32]) -> Vec<u32> {
 fn with_other_words(rng: &mut Rng, buffer: &[u32]) -> Vec<u32> {
     let mut words = buffer.to_vec();
     for _ in 0..=rng.below(2) {
-        let used = buffer_end(words[BUFFER_COUNT] as usize).min(words.len());
-        let bound = [used, words.len()][rng.below(2) as usize];
-        let at = rng.below(bound as u32) as usize;
+        let used = BUFFER_SLOTS.min(words[BUFFER_COUNT] as usize);
+        let records = [used, BUFFER_SLOTS][rng.below(2) as usize];
+        let at = digests::any_place_after(rng, BUFFER_RECORDS, records);
         words[at] = match rng.below(3) {
             0 => words[at] ^ bit(rng.below(u32::BITS)),
             1 => words[at].wrapping_add(1),
@@ -82,10 +83,7 @@ fn orders(records: &[Record]) -> Vec<Vec<u32>> {
     let mut ways = Vec::new();
     for at in ends(records.len()) {
         let again = records[at];
-        let other = Record {
-            tag: again.tag ^ 1,
-            ..again
-        };
+        let other = again.with_other_word(again.id() as usize);
         for more in [again, other] {
             let mut doubled = records.to_vec();
             doubled.truncate(BUFFER_SLOTS - 1);

@@ -10,6 +10,7 @@
 
 pub mod buffers;
 mod delivery;
+pub mod digests;
 pub(crate) mod host;
 mod noise;
 mod options;

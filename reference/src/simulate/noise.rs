@@ -1,8 +1,8 @@
 //! Calls between the ordinary ones, mostly to be refused: repeated, conflicting, damaged, out of
 //! range.
 
-use super::buffers;
 use super::replica::{own_call, Replica};
+use super::{buffers, digests};
 use crate::call::Call;
 use crate::group::bit;
 use crate::layout::{vertex_id, LAST_ROUND, RECORD_WORDS};
@@ -12,6 +12,8 @@ use crate::rng::Rng;
 
 const ILLEGAL_SIZES: [u32; 9] = [0, 1, 3, 5, 8, 15, 17, 19, u32::MAX];
 const BAD_ROUNDS: [u32; 4] = [0, LAST_ROUND + 1, 1 << 28, u32::MAX];
+/// How many words a record may have too few or too many.
+const MOST_OFF: u32 = 12;
 const EDGE_WORDS: [u32; 7] = [0, 1, 2, 15, 16, 0xFFFF, u32::MAX];
 /// Kinds of calls in every group; groups with bundles and with buffers have one more for each.
 const KINDS: u32 = 11;
@@ -40,10 +42,10 @@ impl Replica<'_> {
         }
     }
 
-    /// A held vertex with another tag: 13.
+    /// A held vertex with another digest: 13.
     fn conflicting(&self, rng: &mut Rng) -> Option<Call> {
         let mut record = self.any_held(rng)?;
-        record.tag ^= 1 + rng.below(u32::MAX);
+        record.digest = digests::other(rng, record.digest);
         Some(vertex(&record))
     }
 
@@ -69,7 +71,7 @@ impl Replica<'_> {
     /// A record of the world with a word changed.
     fn damaged(&self, rng: &mut Rng) -> Option<Call> {
         let mut words = self.any_record(rng)?.words();
-        let at = rng.below(RECORD_WORDS as u32) as usize;
+        let at = digests::any_place(rng);
         words[at] = match rng.below(3) {
             0 => words[at] ^ (1 << rng.below(u32::BITS)),
             1 => *rng.pick(&EDGE_WORDS)?,
@@ -157,10 +159,11 @@ impl Replica<'_> {
         }
     }
 
-    /// A record with words too few or too many: 4, and as a line `?`.
+    /// A record with up to so many words too few or too many: 4, and as a line `?`.
     fn wrong_length(&self, rng: &mut Rng) -> Option<Call> {
         let mut words = self.any_record(rng)?.words().to_vec();
-        words.resize(rng.below(2 * RECORD_WORDS as u32) as usize, 0);
+        let length = RECORD_WORDS as u32 + rng.below(2 * MOST_OFF) - MOST_OFF;
+        words.resize(length as usize, 0);
         Some(if rng.percent(50) {
             Call::Vertex(words)
         } else {

@@ -7,7 +7,7 @@ use std::collections::{BTreeMap, BTreeSet};
 use super::delivery::Delivery;
 use super::host::Host;
 use super::transport::Transport;
-use super::{buffers, Options, Run};
+use super::{buffers, digests, Options, Run};
 use crate::answer;
 use crate::call::Call;
 use crate::calls::propose;
@@ -259,10 +259,10 @@ impl<'a> Network<'a> {
     }
 
     fn try_to_make(&mut self, own: u32) {
-        let tag = self.rng.word();
+        let digest = digests::any(&mut self.rng);
         let member = self.member(own);
-        let proposal = propose(&mut member.host.state, tag);
-        member.host.calls.push(Call::Propose(tag));
+        let proposal = propose(&mut member.host.state, digest);
+        member.host.calls.push(Call::Propose(digest));
         if proposal.answer.number == 0 {
             self.broadcast(proposal.record.to_vec());
         }

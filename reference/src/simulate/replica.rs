@@ -3,6 +3,7 @@
 use std::collections::BTreeSet;
 
 use super::delivery::Delivery;
+use super::digests;
 use super::host::Host;
 use super::transport::Transport;
 use super::world::World;
@@ -185,7 +186,7 @@ fn draw_bundles(
 /// Making our own vertex, or signing our own no-vote.
 pub fn own_call(rng: &mut Rng) -> Call {
     if rng.percent(50) {
-        Call::Propose(rng.word())
+        Call::Propose(digests::any(rng))
     } else {
         Call::SignNoVote
     }

@@ -2,7 +2,7 @@
 
 use std::collections::{BTreeMap, BTreeSet};
 
-use super::Options;
+use super::{digests, Options};
 use crate::group::{bit, has, members, Group};
 use crate::layout::{member_of, round_of, vertex_id, WEAK_SLOTS};
 use crate::record::Record;
@@ -117,15 +117,15 @@ impl World {
         self.group.all() & !(voters & !self.faulty)
     }
 
-    /// A record with this strong mask, any tag, the certificates it needs and no weak parents. If
+    /// A record with this strong mask, any digest, the certificates it needs and no weak parents. If
     /// no no-vote certificate can be had, the previous leader joins the strong mask instead.
     pub fn complete(&self, rng: &mut Rng, round: u32, source: u32, strong: u32) -> Record {
-        let tag = rng.word();
+        let digest = digests::any(rng);
         let mut record = Record {
             round,
             source,
             strong,
-            tag,
+            digest,
             ..Record::default()
         };
         if !record.lacks_previous_leader(self.group) {

@@ -148,17 +148,25 @@ fn has_weak(state: &[u32], (round, member): Place) -> bool {
     state[cell_word(round, member, CELL_WEAK_COUNT)] > 0
 }
 
-/// Each word of a held cell with a bit less or more, and with other values.
+/// Each word of a held cell with a bit less or more, and with other values; of the digest's words each
+/// with one of these.
 fn held_cell(state: &[u32], place: Place) -> Damage {
     let n = state[N];
-    let values = move |at: usize| {
+    let values = |at: usize| {
         let word = state[at];
         let low = word & word.wrapping_sub(1);
         [low, word ^ 1, word ^ 2, word | bit(n), 0, 7, 16, u32::MAX]
     };
-    cell(place)
-        .flat_map(|at| values(at).map(|word| (at, word)))
-        .collect()
+    let mut damages = Damage::new();
+    for (at, which) in cell(place).zip(0..) {
+        let values = values(at);
+        if CELL_DIGEST.contains(&which) {
+            damages.push((at, values[which % values.len()]));
+        } else {
+            damages.extend(values.map(|word| (at, word)));
+        }
+    }
+    damages
 }
 
 /// Any word: a bit flipped, an edge, or a small number.

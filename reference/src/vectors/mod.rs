@@ -16,7 +16,7 @@ use crate::group::Group;
 use crate::harness::{Command, Script, MOST_BUFFER_WORDS, MOST_RECORD_WORDS, MOST_WORDS};
 use crate::layout::*;
 use crate::rng::Rng;
-use crate::simulate::{simulate_proposing, Options};
+use crate::simulate::{digests, simulate_proposing, Options};
 use row::Row;
 use states::Reached;
 
@@ -273,13 +273,10 @@ impl Commands {
 
     /// A no-vote signed before and after a record is made, and the record made twice.
     fn own_calls(&mut self) {
-        let tag = self.rng.word();
-        self.list.extend([
-            Command::SignNoVote,
-            Command::Propose(tag),
-            Command::Propose(tag),
-            Command::SignNoVote,
-        ]);
+        let propose = Call::Propose(digests::any(&mut self.rng));
+        for call in [&Call::SignNoVote, &propose, &propose, &Call::SignNoVote] {
+            self.call(call);
+        }
     }
 
     /// Calls, and what they leave.
@@ -334,7 +331,8 @@ impl Commands {
         }
         let own_words = OWN..=SIGNED_NO_VOTES;
         if damage.iter().any(|(at, _)| own_words.contains(at)) || self.rng.percent(4) {
-            calls.extend([Call::SignNoVote, Call::Propose(self.rng.word())]);
+            let propose = Call::Propose(digests::any(&mut self.rng));
+            calls.extend([Call::SignNoVote, propose]);
         }
         self.make_and_undo(words, &calls, state);
     }
@@ -370,7 +368,7 @@ impl Commands {
         }
         let mut words = state.to_vec();
         self.set_words(&mut words, &damage);
-        let propose = Call::Propose(self.rng.word());
+        let propose = Call::Propose(digests::any(&mut self.rng));
         let calls = if self.rng.percent(50) {
             [Call::SignNoVote, propose]
         } else {

@@ -53,10 +53,6 @@ fn plain(round: u32, source: u32, strong: u32) -> Record {
     record(round, source, [strong, 0, 0])
 }
 
-fn tagged(record: Record, tag: u32) -> Record {
-    Record { tag, ..record }
-}
-
 /// Records handed over one after another with one buffer, empty at first, after other calls.
 fn handed_over(n: u32, before: Vec<Call>, records: impl IntoIterator<Item = Record>) -> Vec<Call> {
     let mut host = Host::open(n, 0);
@@ -71,14 +67,14 @@ fn handed_over(n: u32, before: Vec<Call>, records: impl IntoIterator<Item = Reco
 
 /// Vertices of round 2 on S that need 1/3.
 fn waiting() -> [Record; 3] {
-    [0, 1, 2].map(|source| tagged(plain(2, source, 15), 20 + source))
+    [0, 1, 2].map(|source| plain(2, source, 15).with_tag(20 + source))
 }
 
 /// Every number of the record's questions, and of the cell's, with buffers empty and not.
 fn questions() -> Row {
     let group = Group::new(4).into_iter();
     let forms = group.flat_map(|group| refused_forms(group, plain(2, 3, 7)));
-    let held = [0, 1].map(|tag| tagged(plain(1, 0, 0), 10 + tag));
+    let held = [0, 1].map(|tag| plain(1, 0, 0).with_tag(10 + tag));
     let records: Vec<Record> = forms.chain(held).chain([plain(2, 3, 7)]).collect();
     let empty = records.iter().map(|&record| with(&[], record));
     let [a, b, _] = waiting();
@@ -92,7 +88,7 @@ fn before_the_record() -> Row {
     let falling = laid_out(&[b, a]);
     let mut short = falling.clone();
     short.truncate(BUFFER_WORDS - 1);
-    let held = tagged(plain(1, 0, 0), 10);
+    let held = plain(1, 0, 0).with_tag(10);
     let records = [plain(0, 0, 0), held, plain(2, 3, 7), c, a];
     let lengths = [0, RECORD_WORDS - 1, RECORD_WORDS + 1].map(|length| vec![0; length]);
     let words = records.iter().map(|record| record.words().to_vec());
@@ -142,9 +138,9 @@ fn damaged() -> Vec<Row> {
 fn early() -> Row {
     let third = plain(3, 1, 7);
     let [a, b, c] = waiting();
-    let other = tagged(b, 1);
-    let records = [c, third, a, c, b, other, third, tagged(third, 9), a];
-    let held = [tagged(plain(1, 1, 0), 11), tagged(plain(1, 1, 0), 12)];
+    let other = b.with_tag(1);
+    let records = [c, third, a, c, b, other, third, third.with_tag(9), a];
+    let held = [plain(1, 1, 0).with_tag(11), plain(1, 1, 0).with_tag(12)];
     let refused = [plain(0, 0, 0), plain(2, 3, 3), record(2, 3, [15, 7, 0])];
     let records = records.into_iter().chain(held).chain(refused);
     Row::of_four(handed_over(4, state_s(), records))
@@ -199,8 +195,8 @@ fn full() -> Row {
     let there = chain[BUFFER_SLOTS - 1];
     let another = plain(20, 2, 7);
     let lower = plain(2, 3, 7);
-    let next = [another, lower, there, tagged(there, 1), another];
-    let held_ones = [plain(1, 0, 0), tagged(plain(1, 0, 0), 1), plain(33, 0, 0)];
+    let next = [another, lower, there, there.with_tag(1), another];
+    let held_ones = [plain(1, 0, 0), plain(1, 0, 0).with_tag(1), plain(33, 0, 0)];
     let free = [record(2, 3, [11, 0, 0]), last, another, lower];
     let records = chain.into_iter().chain(next).chain(held_ones).chain(free);
     Row::of_four(handed_over(4, held, records))
@@ -219,8 +215,8 @@ fn released_chain(n: u32) -> Row {
 /// Records of the buffer that are held, equal and not, leave with an admission and stay without.
 fn left_behind() -> Row {
     let [a, b, c] = waiting();
-    let held = [0, 1].map(|source| tagged(plain(1, source, 0), 10 + source));
-    let other = tagged(held[1], 99);
+    let held = [0, 1].map(|source| plain(1, source, 0).with_tag(10 + source));
+    let other = held[1].with_tag(99);
     let buffer = [held[0], other, a, b];
     let records = [c, plain(1, 0, 0), plain(1, 3, 0)];
     let calls = records.map(|record| with(&buffer, record));
@@ -243,7 +239,7 @@ fn partly_released() -> Row {
 /// builds on it.
 fn in_the_buffer_too(tag: u32) -> Row {
     let parent = plain(1, 3, 0);
-    let there = tagged(parent, tag);
+    let there = parent.with_tag(tag);
     let child = record(2, 3, [14, 7, 0]);
     let calls = [with(&[there, child], parent), with(&[there], parent)];
     Row::of_four(state_s().into_iter().chain(calls))

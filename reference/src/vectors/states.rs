@@ -6,7 +6,7 @@ use crate::group::{bit, Group};
 use crate::layout::{vertex_id, STATE_WORDS};
 use crate::record::Record;
 use crate::rng::Rng;
-use crate::simulate::{simulate_replicas, Options};
+use crate::simulate::{digests, simulate_replicas, Options};
 
 /// The rounds of a state with vertices left to weak ids.
 const ROUNDS_APART: u32 = 8;
@@ -61,7 +61,7 @@ pub fn apart(rng: &mut Rng, n: u32) -> Vec<u32> {
                 round,
                 source,
                 strong,
-                tag: rng.word(),
+                digest: digests::any(rng),
                 ..Record::default()
             };
             let old = vertex_id(1 + rng.below(round), rng.below(n));

@@ -25,7 +25,7 @@ fn as_first(call: &Call) -> Call {
     }
 }
 
-/// A record without weak ids, with the tag 0.
+/// A record without weak ids, with the digest 0.
 pub fn record(round: u32, source: u32, [strong, timeouts, no_votes]: [u32; 3]) -> Record {
     Record {
         round,
@@ -39,8 +39,7 @@ pub fn record(round: u32, source: u32, [strong, timeouts, no_votes]: [u32; 3]) -
 
 /// A vertex of round 1.
 fn tagged(source: u32, tag: u32) -> Call {
-    let mut record = record(1, source, [0; 3]);
-    record.tag = tag;
+    let record = record(1, source, [0; 3]).with_tag(tag);
     Call::Vertex(record.words().to_vec())
 }
 

@@ -61,10 +61,7 @@ pub fn first(state: &mut State, record: Record) -> u32 {
 
 /// The vertex 1/source of the paper's state S, with its tag.
 pub fn tagged(source: u32, tag: u32) -> Record {
-    Record {
-        tag,
-        ..plain(1, source, 0)
-    }
+    plain(1, source, 0).with_tag(tag)
 }
 
 /// The paper's state S: opened with 4, then vertices of round 1 from 0, 1, 2.

@@ -202,6 +202,19 @@ impl Harness {
         Some(line)
     }
 
+    /// The lent words.
+    pub fn lent(&self) -> &[u32] {
+        &self.lent
+    }
+
+    pub fn record(&self) -> &[u32] {
+        &self.record
+    }
+
+    pub fn buffer(&self) -> &[u32] {
+        &self.buffer
+    }
+
     /// Carries a command out and returns the numbers of the line that it prints, if it is a call.
     pub fn perform(&mut self, command: Command) -> Option<Vec<u32>> {
         let mut line = vec![command.words()[0]];

@@ -74,6 +74,11 @@ pub const CELLS: Range<usize> = words_from(JOURNAL.end, CELL_WORDS * IDS);
 /// Words of a whole state.
 pub const STATE_WORDS: usize = CELLS.end;
 
+/// Words of a record, a state and a pending buffer in 01 and in 02's requests up to A6: all refused.
+pub const EARLIER_RECORD_WORDS: [usize; 1] = [12];
+pub const EARLIER_STATE_WORDS: [usize; 1] = [5_864];
+pub const EARLIER_BUFFER_WORDS: [usize; 1] = [385];
+
 /// So many words from a place on.
 const fn words_from(start: usize, count: usize) -> Range<usize> {
     start..start + count

@@ -90,6 +90,14 @@ impl Record {
         self
     }
 
+    /// The place in the digest of the only word in which two records differ.
+    pub fn only_other_word(&self, other: &Record) -> Option<usize> {
+        let at = (0..DIGEST_WORDS).find(|&at| self.digest[at] != other.digest[at])?;
+        let mut same = *self;
+        same.digest[at] = other.digest[at];
+        (same == *other).then_some(at)
+    }
+
     /// The record with these weak ids; those that it has no room for are left out.
     pub fn with_weak(mut self, ids: &[u32]) -> Record {
         let ids = &ids[..ids.len().min(WEAK_SLOTS)];

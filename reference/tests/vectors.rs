@@ -4,7 +4,9 @@ use std::collections::{BTreeMap, BTreeSet};
 
 use reference::harness::{Command, Harness, Script};
 use reference::layout::*;
-use reference::record::Digest;
+use reference::record::{Digest, Record};
+use reference::simulate::digests::only_conflict;
+use reference::simulate::digests::Taken::{InBuffer, InCell};
 use reference::simulate::{simulate, simulate_proposing, Options};
 use reference::vectors::commands;
 use reference::{propose, Call};
@@ -54,6 +56,74 @@ fn handed_lists_are_empty_and_not() {
         assert!(lengths.contains(&0));
         assert!(lengths.iter().any(|&length| length > 20));
     }
+}
+
+/// Every call is made on states, and with records and pending buffers, of their own size, of those of
+/// earlier documents, and of a word more or less; records have every length.
+#[test]
+fn sizes_near_the_right_ones_and_the_earlier_ones_are_seen() {
+    let mut harness = Harness::default();
+    let [mut states, mut records, mut buffers] = [(); 3].map(|()| BTreeSet::new());
+    for command in commands() {
+        if let Some(line) = harness.perform(command) {
+            states.insert((line[0], harness.lent().len()));
+            records.insert((line[0], harness.record().len()));
+            buffers.insert((line[0], harness.buffer().len()));
+        }
+    }
+    let near = |sizes: &[usize], right: usize| -> Vec<usize> {
+        let all = sizes.iter().copied().chain([right]);
+        all.flat_map(|size| size - 1..=size + 1).collect()
+    };
+    let calls: Vec<u32> = (3..=12).chain(15..=18).collect();
+    for (operations, sizes, seen) in [
+        (&calls[..], near(&EARLIER_STATE_WORDS, STATE_WORDS), states),
+        (&[9, 10, 18], (0..=RECORD_WORDS + 8).collect(), records),
+        (&[18], near(&EARLIER_BUFFER_WORDS, BUFFER_WORDS), buffers),
+    ] {
+        for &operation in operations {
+            for &size in &sizes {
+                assert!(seen.contains(&(operation, size)), "{operation} {size}");
+            }
+        }
+    }
+}
+
+/// Plain vertices and vertices with a buffer that differ from a held record, and from one in the buffer, in
+/// one word of the digest alone.
+#[test]
+fn conflicts_in_each_word_of_the_digest_are_seen() {
+    let mut harness = Harness::default();
+    let mut seen = BTreeSet::new();
+    for command in commands() {
+        let line = harness.perform(command).unwrap_or_default();
+        if let [operation @ (9 | 18), 13, ..] = line[..] {
+            let [lent, buffer, record] = [harness.lent(), harness.buffer(), harness.record()];
+            let conflict = only_conflict(lent, buffer, record);
+            seen.extend(conflict.map(|(taken, at)| (operation, taken, at)));
+        }
+    }
+    let kinds = [(9, InCell), (18, InCell), (18, InBuffer)];
+    let all =
+        kinds.map(|(operation, taken)| (0..DIGEST_WORDS).map(move |at| (operation, taken, at)));
+    assert_eq!(seen, all.into_iter().flatten().collect());
+}
+
+/// Records made with zeros as digest, before any word of it is set, and with eight different words.
+#[test]
+fn digests_of_zeros_and_of_different_words_are_made() {
+    let mut harness = Harness::default();
+    let lines = commands().into_iter();
+    let lines = lines.filter_map(|command| harness.perform(command));
+    let made = lines.filter(|line| line[..2] == [15, 0]);
+    let digests: Vec<Vec<u32>> = made
+        .filter_map(|line| Record::from_words(&line[5..][..RECORD_WORDS]))
+        .map(|record| record.digest.to_vec())
+        .collect();
+    assert_eq!(digests[..2], [[0; DIGEST_WORDS]; 2]);
+    let are_different = |digest: &&Vec<u32>| BTreeSet::from_iter(*digest).len() == DIGEST_WORDS;
+    let different = digests.iter().filter(are_different).count();
+    assert!(different > 100, "{different}");
 }
 
 #[test]
@@ -136,6 +206,28 @@ fn the_buffer_stays_from_command_to_command() {
     assert_eq!(harness.perform(Command::SetBuffer(size, 2)), None);
     let line = harness.perform(Command::VertexWith);
     assert_eq!(line.map(|line| line[1]), Some(19));
+}
+
+#[test]
+fn the_digest_stays_from_command_to_command() {
+    let mut harness = Harness::default();
+    let mut made = |commands: &[Command]| {
+        let fresh = [Command::Lend(STATE_WORDS as u32), Command::Open(4, 1)];
+        for command in fresh.iter().chain(commands) {
+            harness.perform(*command);
+        }
+        let line = harness.perform(Command::Propose).expect("a line");
+        Record::from_words(&line[5..][..RECORD_WORDS]).map(|record| record.digest)
+    };
+    assert_eq!(made(&[]), Some([0; DIGEST_WORDS]));
+    let set = [Command::SetDigest(7, 9), Command::SetDigest(0, 3)];
+    let digest = Some([3, 0, 0, 0, 0, 0, 0, 9]);
+    assert_eq!(made(&set), digest);
+    assert_eq!(made(&[]), digest);
+    let beyond = [8, 9, 15, 16, u32::MAX].map(|at| Command::SetDigest(at, 1));
+    assert_eq!(made(&beyond), digest);
+    assert_eq!(Command::SetDigest(7, 9).words(), [21, 7, 9]);
+    assert_eq!(Command::Propose.words(), [15, 0, 0]);
 }
 
 #[test]

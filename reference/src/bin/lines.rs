@@ -8,7 +8,7 @@
 use std::io::{stdout, BufWriter, Write};
 use std::process::ExitCode;
 
-use reference::layout::RECORD_WORDS;
+use reference::layout::{EARLIER_RECORD_WORDS, RECORD_WORDS};
 use reference::line::spaced;
 use reference::rng::Rng;
 use reference::simulate::{simulate, Options};
@@ -71,7 +71,8 @@ fn calls(seed: u64, n: u32, options: &Options) -> Option<Vec<u8>> {
     )
 }
 
-/// Lines of every letter and word count, one in two of them changed at some bytes.
+/// Lines of every letter and word count, many near those of a record and of one in earlier documents; one
+/// in two of them changed at some bytes.
 fn near(seed: u64, count: usize) -> Vec<u8> {
     let mut rng = Rng::new(seed);
     let mut output = Vec::new();
@@ -97,10 +98,15 @@ fn near_line(rng: &mut Rng) -> Vec<u8> {
         ('L', 1),
     ];
     let (letter, wanted) = letters[rng.below(6) as usize];
-    let length = if rng.percent(80) {
-        wanted
-    } else {
-        rng.below(record + 3)
+    let records: Vec<usize> = EARLIER_RECORD_WORDS
+        .into_iter()
+        .chain([RECORD_WORDS])
+        .collect();
+    let near = rng.pick(&records).map_or(0, |&words| words as u32);
+    let length = match rng.below(10) {
+        0 => rng.below(record + 3),
+        1 => near - 1 + rng.below(3),
+        _ => wanted,
     };
     let words: Vec<u32> = (0..length).map(|_| near_word(rng)).collect();
     spaced(letter, &words).into_bytes()

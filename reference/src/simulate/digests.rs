@@ -1,12 +1,14 @@
 //! Digests drawn at random. Each takes one word of the generator and is spread from that, so that what
 //! is drawn besides does not depend on how many words a digest has.
 
-use crate::group::bit;
-use crate::layout::{record_word, CELL_DIGEST, DIGEST_WORDS, RECORD_WORDS};
-use crate::record::{digest_of_tag, Digest};
+use crate::group::{bit, has};
+use crate::layout::*;
+use crate::pending;
+use crate::record::{digest_of_tag, Digest, Record};
 use crate::rng::Rng;
 
-/// A digest: of a first word alone, of any one word alone, of small words, or of any words.
+/// A digest: of a first word alone, of any one word alone, of ones with at most one word changed, or of
+/// any words.
 pub fn any(rng: &mut Rng) -> Digest {
     let first = rng.word();
     let mut apart = Rng::new(u64::from(first));
@@ -14,7 +16,7 @@ pub fn any(rng: &mut Rng) -> Digest {
     match apart.below(8) {
         0 | 1 => {}
         2 => digest.rotate_right(apart.below(DIGEST_WORDS as u32) as usize),
-        3 => digest = digest.map(|_| apart.below(3)),
+        3 => digest = same_or_other(&mut apart, [1; DIGEST_WORDS]),
         _ => digest[1..].fill_with(|| apart.word()),
     }
     digest
@@ -67,4 +69,29 @@ pub fn any_place_after(rng: &mut Rng, words: usize, records: usize) -> usize {
             part if part == digest => part + drawn / all % DIGEST_WORDS,
             part => part + DIGEST_WORDS - 1,
         }
+}
+
+/// Where the place of a vertex is taken.
+#[derive(Clone, Copy, Debug, PartialEq, Eq, PartialOrd, Ord)]
+pub enum Taken {
+    InCell,
+    InBuffer,
+}
+
+/// Of a vertex refused with 13: where the other record is, and the word of the digest, if the two differ
+/// in no other word.
+pub fn only_conflict(state: &[u32], buffer: &[u32], words: &[u32]) -> Option<(Taken, usize)> {
+    let record = Record::from_words(words)?;
+    let (round, source) = (record.round, record.source);
+    let (taken, other) = if has(state[mask_place(round, HELD)], source) {
+        let cell = &state[cell_place(round, source)];
+        (Taken::InCell, Record::from_cell(round, source, cell)?)
+    } else {
+        let mut pending = pending::records(buffer).into_iter();
+        (
+            Taken::InBuffer,
+            pending.find(|other| other.id() == record.id())?,
+        )
+    };
+    Some((taken, record.only_other_word(&other)?))
 }

@@ -5,6 +5,7 @@
 mod bundle;
 mod carried;
 pub mod damage;
+mod digests;
 mod pending;
 mod row;
 mod sightings;
@@ -16,7 +17,7 @@ use crate::group::Group;
 use crate::harness::{Command, Script, MOST_BUFFER_WORDS, MOST_RECORD_WORDS, MOST_WORDS};
 use crate::layout::*;
 use crate::rng::Rng;
-use crate::simulate::{digests, simulate_proposing, Options};
+use crate::simulate::{digests as drawn, simulate_proposing, Options};
 use row::Row;
 use states::Reached;
 
@@ -57,7 +58,7 @@ pub fn commands() -> Vec<Command> {
         list: Script::default(),
     };
     list.at_the_start();
-    list.wrong_sizes();
+    list.wrong_sizes(&WRONG_SIZES);
     list.openings();
     list.random_states();
     list.worked();
@@ -74,11 +75,16 @@ pub fn commands() -> Vec<Command> {
     list.proposing_members();
     list.rows(&bundle::rows());
     list.replicas(bundle::replicas());
-    list.buffer_lengths();
+    list.buffer_lengths(&BUFFER_LENGTHS);
     list.rows(&pending::rows());
     list.replicas(pending::replicas());
     list.rows(&sightings::rows());
     list.replicas(sightings::replicas());
+    list.wrong_sizes(&near(&EARLIER_STATE_WORDS));
+    list.record_lengths_with_a_buffer();
+    list.buffer_lengths(&near(&EARLIER_BUFFER_WORDS));
+    list.rows(&digests::rows());
+    list.made_digests();
     list.list.push(Command::End);
     list.list.commands
 }
@@ -90,8 +96,16 @@ struct Commands {
 }
 
 impl Commands {
-    /// Record and pending buffer as the program has them at the start: of no words.
+    /// Digest, record and pending buffer as the program has them at the start: of zeros, and of no words.
+    /// Words that the digest has not are set without effect.
     fn at_the_start(&mut self) {
+        for word in [0, 1] {
+            self.fresh(4, 1);
+            let beyond = [DIGEST_WORDS as u32, u32::MAX];
+            self.list
+                .extend(beyond.map(|at| Command::SetDigest(at, word)));
+            self.list.push(Command::Propose);
+        }
         self.fresh(4, 0);
         let set = [
             Command::SetBuffer(BUFFER_COUNT as u32, 1),
@@ -102,8 +116,8 @@ impl Commands {
     }
 
     /// States that have not their number of words: zero, opened as far as they go, and random.
-    fn wrong_sizes(&mut self) {
-        for size in WRONG_SIZES {
+    fn wrong_sizes(&mut self, sizes: &[u32]) {
+        for &size in sizes {
             self.list.push(Command::Lend(size));
             self.all_calls();
             let opened = [(N, 4), (CURRENT_ROUND, 1)];
@@ -190,13 +204,18 @@ impl Commands {
     fn record_lengths(&mut self) {
         self.fresh(4, 0);
         self.run(&worked::state_s());
-        let mut vertex = vec![0; MOST_RECORD_WORDS as usize];
-        (vertex[RECORD_ROUND], vertex[RECORD_SOURCE]) = (1, 3);
-        for length in 0..=vertex.len() {
-            for record in [&vertex[..length], &vec![0; length]] {
-                self.call(&Call::First(record.to_vec()));
-                self.call(&Call::Vertex(record.to_vec()));
-            }
+        for record in of_every_length() {
+            self.call(&Call::First(record.clone()));
+            self.call(&Call::Vertex(record));
+        }
+    }
+
+    /// The same records with a pending buffer.
+    fn record_lengths_with_a_buffer(&mut self) {
+        self.fresh(4, 0);
+        self.run(&worked::state_s());
+        for record in of_every_length() {
+            self.call(&Call::VertexWith(vec![0; BUFFER_WORDS], record));
         }
     }
 
@@ -253,15 +272,36 @@ impl Commands {
 
     /// Pending buffers of every length near theirs and of some others, of zeros and with a count, on
     /// 01's state S; words that the buffer has not are set without effect.
-    fn buffer_lengths(&mut self) {
+    fn buffer_lengths(&mut self, lengths: &[u32]) {
         self.fresh(4, 0);
         self.run(&worked::state_s());
-        for length in BUFFER_LENGTHS {
+        for &length in lengths {
             self.list.push(Command::Buffer(length));
             self.list.push(Command::SetBuffer(length, 1));
             self.list.push(Command::VertexWith);
             self.list.push(Command::SetBuffer(BUFFER_COUNT as u32, 1));
             self.list.push(Command::VertexWith);
+        }
+    }
+
+    /// Records made with digests of eight different words, each then taken as first message and vertex,
+    /// and as a vertex with a word of its digest changed.
+    fn made_digests(&mut self) {
+        for n in LEGAL_SIZES {
+            for at in 0..DIGEST_WORDS {
+                let mut made = worked::record(1, n - 1, [0; 3]);
+                made.digest = digests::DIGEST;
+                made.digest.rotate_left(at);
+                let [words, other] =
+                    [made, made.with_other_word(at)].map(|record| record.words().to_vec());
+                self.fresh(n, n);
+                self.run(&[
+                    Call::Propose(made.digest),
+                    Call::First(words.clone()),
+                    Call::Vertex(words),
+                    Call::Vertex(other),
+                ]);
+            }
         }
     }
 
@@ -273,7 +313,7 @@ impl Commands {
 
     /// A no-vote signed before and after a record is made, and the record made twice.
     fn own_calls(&mut self) {
-        let propose = Call::Propose(digests::any(&mut self.rng));
+        let propose = Call::Propose(drawn::any(&mut self.rng));
         for call in [&Call::SignNoVote, &propose, &propose, &Call::SignNoVote] {
             self.call(call);
         }
@@ -331,7 +371,7 @@ impl Commands {
         }
         let own_words = OWN..=SIGNED_NO_VOTES;
         if damage.iter().any(|(at, _)| own_words.contains(at)) || self.rng.percent(4) {
-            let propose = Call::Propose(digests::any(&mut self.rng));
+            let propose = Call::Propose(drawn::any(&mut self.rng));
             calls.extend([Call::SignNoVote, propose]);
         }
         self.make_and_undo(words, &calls, state);
@@ -368,7 +408,7 @@ impl Commands {
         }
         let mut words = state.to_vec();
         self.set_words(&mut words, &damage);
-        let propose = Call::Propose(digests::any(&mut self.rng));
+        let propose = Call::Propose(drawn::any(&mut self.rng));
         let calls = if self.rng.percent(50) {
             [Call::SignNoVote, propose]
         } else {
@@ -475,6 +515,20 @@ impl Commands {
             self.list.push(set);
         }
     }
+}
+
+/// These sizes, and each with a word less and a word more.
+fn near(sizes: &[usize]) -> Vec<u32> {
+    let near = |size: &usize| [size - 1, *size, size + 1];
+    let sizes = sizes.iter().flat_map(near);
+    sizes.map(|size| size as u32).collect()
+}
+
+/// Records of every length that the program has room for, with words of a vertex and of zeros.
+fn of_every_length() -> impl Iterator<Item = Vec<u32>> {
+    let mut vertex = vec![0; MOST_RECORD_WORDS as usize];
+    (vertex[RECORD_ROUND], vertex[RECORD_SOURCE]) = (1, 3);
+    (0..=vertex.len()).flat_map(move |length| [vertex[..length].to_vec(), vec![0; length]])
 }
 
 /// Where lists are asked for: the ends of a list of so many entries, and far beyond.

@@ -44,17 +44,21 @@ pub fn replicas() -> Vec<Vec<Call>> {
     drawn.chain([member]).collect()
 }
 
-fn with(buffer: &[Record], record: Record) -> Call {
+pub fn with(buffer: &[Record], record: Record) -> Call {
     Call::VertexWith(laid_out(buffer), record.words().to_vec())
 }
 
 /// A record without certificates and weak ids.
-fn plain(round: u32, source: u32, strong: u32) -> Record {
+pub fn plain(round: u32, source: u32, strong: u32) -> Record {
     record(round, source, [strong, 0, 0])
 }
 
 /// Records handed over one after another with one buffer, empty at first, after other calls.
-fn handed_over(n: u32, before: Vec<Call>, records: impl IntoIterator<Item = Record>) -> Vec<Call> {
+pub fn handed_over(
+    n: u32,
+    before: Vec<Call>,
+    records: impl IntoIterator<Item = Record>,
+) -> Vec<Call> {
     let mut host = Host::open(n, 0);
     before.into_iter().for_each(|call| {
         host.give(call);
@@ -157,7 +161,7 @@ fn by_falling_id() -> Row {
 
 /// The members of a quorum in rounds from 2 on, as many as a buffer has places for: all need the
 /// last of them in round 1.
-fn chain(n: u32) -> Vec<Record> {
+pub fn chain(n: u32) -> Vec<Record> {
     let quorum = Group::new(n).map_or(n, Group::quorum);
     (2..=LAST_ROUND)
         .flat_map(|round| (0..quorum).map(move |source| by_quorum(n, round, source)))
@@ -180,7 +184,7 @@ fn by_quorum(n: u32, round: u32, source: u32) -> Record {
 }
 
 /// Round 1 of all but the last member of that quorum, and that member's vertex.
-fn before_chain(n: u32) -> (Vec<Call>, Record) {
+pub fn before_chain(n: u32) -> (Vec<Call>, Record) {
     let quorum = Group::new(n).map_or(n, Group::quorum);
     let held = (0..quorum - 1).map(|source| vertex(1, source, [0; 3]));
     (held.collect(), plain(1, quorum - 1, 0))

@@ -93,7 +93,7 @@ admit-more (askLeaderList k) number m = inside-self m
 admit-more (askJournalList k) number m = inside-self m
 admit-more (handLeaderList k) number m = inside-self m
 admit-more (handJournalList k) number m = inside-self m
-admit-more (making tag) number m = inside-self m
+admit-more (making digest) number m = inside-self m
 admit-more signing number m = inside-self m
 
 -- by a list of calls
@@ -225,7 +225,7 @@ module _ (n : ℕ) (a b : Model) (honest : ℕ → Bool) (g : legal n ≡ true) 
   step (askJournalList k) l m ok f i j = f
   step (handLeaderList k) l m ok f i j = f
   step (handJournalList k) l m ok f i j = f
-  step (making tag) l m ok f i j = noted _ l _ m f (making-follows l m f)
+  step (making digest) l m ok f i j = noted _ l _ m f (making-follows l m f)
   step signing l m ok f i j = noted _ l _ m f (signing-follows l m f)
 
   -- where the model of all calls lies within a or b, so does every one on the way

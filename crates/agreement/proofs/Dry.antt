@@ -57,7 +57,7 @@ taken n m (askLeaderList k) = true
 taken n m (askJournalList k) = true
 taken n m (handLeaderList k) = true
 taken n m (handJournalList k) = true
-taken n m (making tag) = true
+taken n m (making digest) = true
 taken n m signing = true
 
 -- so for each of a list, after those before it
@@ -143,7 +143,7 @@ module _ (n : ℕ) (l : List ℕ) (m : Model) (h : Holds n l m) where
   admit-taken (askJournalList k) e = refl
   admit-taken (handLeaderList k) e = refl
   admit-taken (handJournalList k) e = refl
-  admit-taken (making tag) e = refl
+  admit-taken (making digest) e = refl
   admit-taken signing e = refl
 
 -- such a call is no opening that succeeds
@@ -161,7 +161,7 @@ taken-allowed n m (askLeaderList k) e = refl
 taken-allowed n m (askJournalList k) e = refl
 taken-allowed n m (handLeaderList k) e = refl
 taken-allowed n m (handJournalList k) e = refl
-taken-allowed n m (making tag) e = refl
+taken-allowed n m (making digest) e = refl
 taken-allowed n m signing e = refl
 
 -- so for a list

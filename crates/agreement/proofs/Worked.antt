@@ -41,7 +41,7 @@ use Rattle.pending.specs.Buffer.{sameRecord, some, putIn, recordsFrom, wordsOf,
 use Rattle.pending.specs.Passes.{pass, passes}
 use Rattle.pending.specs.Early.{inPlace}
 use Rattle.runs.proofs.Short.{shortTake, shortWith, shortTry, shortEnding, shortBundle, shortRun, short-is, given-is, formed-after, run-is}
-use Rattle.agreement.specs.Worked.{Seen, seen, Row, zeros, allAdmitted, ending, Passes, rows, Worked}
+use Rattle.agreement.specs.Worked.{Seen, seen, Row, zeros, allAdmitted, ending, Passes, rows, Sizes, Worked}
 use Rattle.agreement.proofs.Handing.{hand-leaders, hand-journal}
 
 -- ---- what a row's calls end in
@@ -198,6 +198,10 @@ first-row x m = record {
   admitted = same-at (λ (y : Row). allAdmitted zeros (y .calls)) (λ (y : Row). true) (take 4 rows) refl x m;
   end = same-at ending (λ (y : Row). y .end) (take 4 rows) openings x m;
 }
+
+-- The sizes compute.
+pub sizes : Sizes
+sizes = record { of-record = refl; of-cell = refl; of-state = refl; first-cell = refl; of-buffer = refl }
 
 -- All rows of the table.
 pub worked : Worked

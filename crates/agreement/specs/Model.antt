@@ -51,7 +51,7 @@ admit (askLeaderList k) number m = m
 admit (askJournalList k) number m = m
 admit (handLeaderList k) number m = m
 admit (handJournalList k) number m = m
-admit (making tag) number m = m
+admit (making digest) number m = m
 admit signing number m = m
 
 -- the model of the calls on the words l, fed each call's number and arguments

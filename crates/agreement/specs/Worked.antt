@@ -3,10 +3,10 @@
 use mathlib.Core.Path.{_≡_}
 use mathlib.Core.Bool.{Bool, true, _&&_}
 use mathlib.Core.List.{List, [], _∷_, _++_, List·Memᴰ}
-use Prim.Native.Nat.{ℕ, _-_}
+use Prim.Native.Nat.{ℕ, _+_, _-_}
 use lib.Dec.{eqb}
-use lib.ListN.{replicate, take}
-use Rattle.replica.specs.Layout.{stateSize, journalAt, watcher}
+use lib.ListN.{replicate, set, take}
+use Rattle.replica.specs.Layout.{stateSize, journalAt, cellsAt, watcher}
 use Rattle.replica.specs.State.{currentRound, committedRound}
 use Rattle.replica.specs.Outcome.{Outcome}
 use Rattle.replica.specs.Place.{Span}
@@ -15,7 +15,7 @@ use Rattle.pending.specs.Buffer.{bufferOf}
 use Rattle.runs.specs.Call.{Call, opening, vertex, vertexWith, firstMessage, timeout, bundle, askJournalList, handJournalList}
 use Rattle.runs.specs.Call.{outcomeOf, Given, nothing, part, buffered, givenOf, run}
 use Rattle.agreement.specs.Claim.{leadersIn, journalIn}
-use Rattle.record.specs.Layout.{recordWords}
+use Rattle.record.specs.Layout.{bodyPlace, digestPlace, digestSize, bodySize, recordSize, tagged, recordWords}
 
 -- what is seen after a call: its number and id, what it gives beside them, the rounds, and the two lists
 pub record Seen : Type 0 where
@@ -64,7 +64,7 @@ pub record Passes (x : Row) : Type 0 where
 
 -- a record of round r and source p, with its three masks and its tag, and no weak ids
 abbrev pub rec : ℕ → ℕ → ℕ → ℕ → ℕ → ℕ → List ℕ
-rec r p strong timeouts noVotes tag = recordWords r p strong timeouts noVotes tag []
+rec r p strong timeouts noVotes tag = recordWords r p strong timeouts noVotes (tagged tag .words) []
 
 -- a vertex and a first message r/p with this strong mask, the other masks 0
 abbrev pub v : ℕ → ℕ → ℕ → Call
@@ -118,6 +118,10 @@ withoutLeader = opening 4 watcher ∷ v1 1 11 ∷ v1 2 12 ∷ v1 3 13 ∷ []
 -- a record of round 2 that comes before its parent 1/3
 abbrev pub early : ℕ → List ℕ
 early p = rec 2 p 15 0 0 0
+
+-- the record with 1 as the eighth word of its digest
+abbrev pub eighth : List ℕ → List ℕ
+eighth x = set x (bodyPlace + digestPlace + (digestSize - 1)) 1
 
 -- an empty buffer without its last word
 abbrev pub short : List ℕ
@@ -205,7 +209,24 @@ rows =
     -- S, vertex 1/3, first message 2/0, strong 7, vertices 2/0, strong 14, timeouts 7, and 2/2, strong 7: committed 0. Then 2/3, strong 7: committed 1.
     ∷ row (s ++ v1 3 13 ∷ f 2 0 7 ∷ vt 2 0 14 7 ∷ []) (v 2 2 7) 0 0 2 0 [] []
     ∷ row (s ++ v1 3 13 ∷ f 2 0 7 ∷ vt 2 0 14 7 ∷ v 2 2 7 ∷ []) (v 2 3 7) 0 0 2 1 (16 ∷ []) (16 ∷ [])
+    -- Request A7. S, vertex 1/0 with another eighth word of its digest: 13. Vertex 2/0, strong 15, with a buffer where it waits with another one: 13.
+    ∷ row s (vertex (eighth (rec 1 0 0 0 0 10))) 13 0 2 0 [] []
+    ∷ giving s (vertexWith (bufferOf (early 0 ∷ [])) (eighth (early 0))) 13 0 (buffered (bufferOf (early 0 ∷ []))) 2 0 [] []
+    -- S, vertex 1/3 in 01's 12 words, without its last word, or with a word more: 4. With 1 as the second word of its digest, where 01 has the weak
+    -- count: 0.
+    ∷ row s (vertex (1 ∷ 3 ∷ 0 ∷ 0 ∷ 0 ∷ 13 ∷ 0 ∷ 0 ∷ 0 ∷ 0 ∷ 0 ∷ 0 ∷ [])) 4 0 2 0 [] []
+    ∷ row s (vertex (take (recordSize - 1) (rec 1 3 0 0 0 13))) 4 0 2 0 [] []
+    ∷ row s (vertex (rec 1 3 0 0 0 13 ++ 0 ∷ [])) 4 0 2 0 [] []
+    ∷ row s (vertex (set (rec 1 3 0 0 0 13) (bodyPlace + digestPlace + 1) 1)) 0 0 2 0 [] []
     ∷ []
+
+-- the sizes of 02, which the layouts work out
+pub record Sizes : Type 0 where
+  pub of-record : recordSize ≡ 19
+  pub of-cell : bodySize ≡ 17
+  pub of-state : stateSize ≡ 9448
+  pub first-cell : cellsAt ≡ 744
+  pub of-buffer : bufferSize ≡ 609
 
 -- THE CLAIM: every row of the table passes.
 abbrev pub Worked : Type 0

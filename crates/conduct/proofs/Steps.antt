@@ -9,7 +9,7 @@ use lib.Dec.{eqb}
 use borrow.Author.Tests.{eqb-true, eq-eqb, ne-eqb}
 use Rattle.record.specs.Members.{leader, has, add, isRound, rounds}
 use Rattle.record.specs.Refusals.{numberOf}
-use Rattle.record.specs.Layout.{roundOf, bodyOf, strongOf}
+use Rattle.record.specs.Layout.{roundOf, bodyOf, strongOf, Digest}
 use Rattle.record.proofs.Booleans.{which, and-left, cond-true, cond-false}
 use Rattle.record.proofs.Masks.{has-remove-same}
 use Rattle.record.proofs.Rounds.{round-range}
@@ -68,17 +68,17 @@ without-leader l e =
 
 module _ (l : List ℕ) (S : WellFormed l) where
   -- making, with the number 0
-  made-now : (tag : ℕ) → proposeVertex l tag .outcome .number ≡ 0 → MadeNow (making tag) l
-  made-now tag e = record {
-    words = proposeVertex l tag .made;
-    makes = cond-true _ _ (eq-eqb (proposeVertex l tag .outcome .number) 0 e);
+  made-now : (digest : Digest) → proposeVertex l (digest .words) .outcome .number ≡ 0 → MadeNow (making digest) l
+  made-now digest e = record {
+    words = proposeVertex l (digest .words) .made;
+    makes = cond-true _ _ (eq-eqb (proposeVertex l (digest .words) .outcome .number) 0 e);
     signs = refl;
     round = ap roundOf is ∙ unfold madeRecord in refl;
     new = making-passed l why .new;
     marked = ap (λ (x : ℕ). marksRound x (currentRound l)) word
         ∙ marks-here (madeRounds l) (currentRound l) (range .0) (range .1);
     against = λ d. ap (λ (x : List ℕ). votes (memberCount l) (currentRound l - 1) (bodyOf x)) is ∙ strong ∙ without-leader l d;
-    passes = made-passes l tag e;
+    passes = made-passes l digest e;
   }
     where
       -- nothing refused it
@@ -89,14 +89,14 @@ module _ (l : List ℕ) (S : WellFormed l) where
       range = round-range (currentRound l) (making-passed l why .round)
 
       -- the record
-      is : proposeVertex l tag .made ≡ madeRecord l tag
+      is : proposeVertex l (digest .words) .made ≡ madeRecord l (digest .words)
       is = unfold proposeVertex in cond-true _ _ (eq-eqb (numberOf (proposeRefusal l)) 0 why)
 
-      strong : votes (memberCount l) (currentRound l - 1) (bodyOf (madeRecord l tag)) ≡ has (madeStrong l) (leader (memberCount l) (currentRound l - 1))
+      strong : votes (memberCount l) (currentRound l - 1) (bodyOf (madeRecord l (digest .words))) ≡ has (madeStrong l) (leader (memberCount l) (currentRound l - 1))
       strong = unfold madeRecord strongOf in refl
 
       -- word 6
-      word : madeRounds (proposeVertex l tag .outcome .words) ≡ add (madeRounds l) (currentRound l - 1)
+      word : madeRounds (proposeVertex l (digest .words) .outcome .words) ≡ add (madeRounds l) (currentRound l - 1)
       word = unfold proposeVertex in
           ap (λ (k : List ℕ). madeRounds k) (words-yes (proposeRefusal l) l (markRound l madeAt (currentRound l)) why)
           ∙ mark-here l madeAt (currentRound l) (omega (arith, S .size))
@@ -126,10 +126,10 @@ module _ (l : List ℕ) (S : WellFormed l) where
 
   -- what a call did
   pub did : (c : Call) → Did c l
-  did (making tag) = ⊎-elim
-      (λ e. made (made-now tag (eqb-true _ 0 e)))
+  did (making digest) = ⊎-elim
+      (λ e. made (made-now digest (eqb-true _ 0 e)))
       (λ e. neither (cond-false _ _ e) refl)
-      (which (eqb (proposeVertex l tag .outcome .number) 0))
+      (which (eqb (proposeVertex l (digest .words) .outcome .number) 0))
   did signing = ⊎-elim
       (λ e. signed (signed-now (eqb-true _ 0 e)))
       (λ e. neither refl (cond-false _ _ e))

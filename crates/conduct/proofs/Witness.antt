@@ -41,7 +41,7 @@ use Rattle.conduct.specs.Witness.{own, start, first, voting, against, ca
 
 -- the records of one call
 shortRecord : Call → List ℕ → List (List ℕ)
-shortRecord (making tag) l = cond (eqb (shortOf (making tag) l .number) 0) (shortMade l tag ∷ []) []
+shortRecord (making digest) l = cond (eqb (shortOf (making digest) l .number) 0) (shortMade l (digest .words) ∷ []) []
 shortRecord (opening n own) l = []
 shortRecord (vertex rec) l = []
 shortRecord (vertexWith s rec) l = []
@@ -71,7 +71,7 @@ shortRound (askLeaderList k) l = []
 shortRound (askJournalList k) l = []
 shortRound (handLeaderList k) l = []
 shortRound (handJournalList k) l = []
-shortRound (making tag) l = []
+shortRound (making digest) l = []
 
 -- those of a list of calls
 shortRecords : List ℕ → List Call → List (List ℕ)
@@ -86,12 +86,12 @@ module _ (l : List ℕ) (S : WellFormed l) where
   -- what one call made
   record-is : (c : Call) → map (λ (m : Made). m .words) (madeBy c l) ≡ shortRecord c l
   unfolding shortRecord
-  record-is (making tag) =
+  record-is (making digest) =
       ⊎-elim
       (λ e. ap (map (λ (m : Made). m .words)) (cond-true _ _ e) ∙ sym (cond-true _ _ e))
       (λ e. ap (map (λ (m : Made). m .words)) (cond-false _ _ e) ∙ sym (cond-false _ _ e))
-      (which (eqb (proposeVertex l tag .outcome .number) 0))
-      ∙ ap₂ (λ (o : Outcome) (x : List ℕ). cond (eqb (o .number) 0) (x ∷ []) []) (short-is l S (making tag)) (made-is l S tag)
+      (which (eqb (proposeVertex l (digest .words) .outcome .number) 0))
+      ∙ ap₂ (λ (o : Outcome) (x : List ℕ). cond (eqb (o .number) 0) (x ∷ []) []) (short-is l S (making digest)) (made-is l S (digest .words))
   record-is (opening n own) = refl
   record-is (vertex rec) = refl
   record-is (vertexWith s rec) = refl
@@ -122,7 +122,7 @@ module _ (l : List ℕ) (S : WellFormed l) where
   round-is (askJournalList k) = refl
   round-is (handLeaderList k) = refl
   round-is (handJournalList k) = refl
-  round-is (making tag) = refl
+  round-is (making digest) = refl
 
 -- so of a list
 records-are : (calls : List Call) (l : List ℕ) → WellFormed l → madeRecords l calls ≡ shortRecords l calls

@@ -15,7 +15,7 @@ pub record Made : Type 0 where
 
 -- what one call on the words l made
 abbrev pub madeBy : Call → List ℕ → List Made
-madeBy (making tag) l = cond (eqb (proposeVertex l tag .outcome .number) 0) (record { state = l; words = proposeVertex l tag .made } ∷ []) []
+madeBy (making digest) l = cond (eqb (proposeVertex l (digest .words) .outcome .number) 0) (record { state = l; words = proposeVertex l (digest .words) .made } ∷ []) []
 madeBy (opening n own) l = []
 madeBy (vertex rec) l = []
 madeBy (vertexWith s rec) l = []
@@ -45,7 +45,7 @@ signedBy (askLeaderList k) l = []
 signedBy (askJournalList k) l = []
 signedBy (handLeaderList k) l = []
 signedBy (handJournalList k) l = []
-signedBy (making tag) l = []
+signedBy (making digest) l = []
 
 -- what the calls made and signed, in their order; each gets the words as the one before left them
 unfoldable pub allMade : List ℕ → List Call → List Made

@@ -13,6 +13,7 @@ use pending::early::take_vertex_with;
 use proposing::making::Proposal;
 use proposing::making::propose;
 use proposing::signing::sign_no_vote;
+use record::layout::DIGEST_SIZE;
 use record::refusal::missing_id;
 use record::refusal::number;
 use replica::answer::Answer;
@@ -76,14 +77,22 @@ fn read(state: &[u32], op: u32, a: u32) {
 }
 
 // The calls that may change words, and the others.
-fn change(state: &mut [u32], buffer: &mut [u32], rec: &[u32], op: u32, a: u32, b: u32) {
+fn change(
+    state: &mut [u32],
+    buffer: &mut [u32],
+    rec: &[u32],
+    digest: &[u32; DIGEST_SIZE],
+    op: u32,
+    a: u32,
+    b: u32,
+) {
     match op {
         3 => put_answer(open(state, a, b)),
         9 => put_answer(take_vertex(state, rec)),
         10 => put_answer(take_first_message(state, rec)),
         11 => put_answer(take_timeout(state, a, b)),
         12 => put_answer(take_no_vote(state, a, b)),
-        15 => put_proposal(propose(state, a)),
+        15 => put_proposal(propose(state, digest)),
         16 => put_answer(sign_no_vote(state)),
         17 => put_answer(take_timeouts(state, a, b)),
         18 => {
@@ -95,8 +104,16 @@ fn change(state: &mut [u32], buffer: &mut [u32], rec: &[u32], op: u32, a: u32, b
 }
 
 // One line of output.
-pub fn call(state: &mut [u32], buffer: &mut [u32], rec: &[u32], op: u32, a: u32, b: u32) {
+pub fn call(
+    state: &mut [u32],
+    buffer: &mut [u32],
+    rec: &[u32],
+    digest: &[u32; DIGEST_SIZE],
+    op: u32,
+    a: u32,
+    b: u32,
+) {
     put(op);
-    change(state, buffer, rec, op, a, b);
+    change(state, buffer, rec, digest, op, a, b);
     put_last(checksum(state));
 }

@@ -3,7 +3,7 @@
 //
 // The input is words of 32 bits, low byte first. A command is three words: an operation and its two arguments a and b.
 //   0      ends the run, as the end of the input does
-//   1 a    a words are lent from now on, all zero
+//   1 a    a words are lent from now on, all zero, at most 136 more than a state has
 //   2 a b  word a becomes b, if it is lent
 //   3 a b  opens for a members, with the own word b
 //   4      status
@@ -15,14 +15,15 @@
 //   10     takes a first message with the record
 //   11 a b takes a timeout of round a and signer b
 //   12 a b takes a no-vote of round a and signer b
-//   13 a   the record has a words from now on, all zero, at most 20
+//   13 a   the record has a words from now on, all zero, at most eight more than a record has
 //   14 a b word a of the record becomes b, if the record has it
-//   15 a   makes our own vertex with the tag a
+//   15     makes our own vertex with the digest
 //   16     signs our own no-vote
 //   17 a b takes the timeouts of round a by the members of the mask b
 //   18     takes a vertex with the pending buffer and the record
-//   19 a   the pending buffer has a words from now on, all zero, at most 400
+//   19 a   the pending buffer has a words from now on, all zero, at most 15 more than a pending buffer has
 //   20 a b word a of the pending buffer becomes b, if the buffer has it
+//   21 a b word a of the digest, all zero at first, becomes b, if the digest has it
 // A call prints a line: the operation, the numbers of the answer (of asking, the number alone; of making, the words of the record too; of a
 // vertex with the pending buffer, the checksum of the buffer too), and the checksum.
 mod calls;
@@ -34,6 +35,10 @@ use calls::call;
 use input::Command;
 use input::Cursor;
 use input::next_command;
+use pending::layout::BUFFER_SIZE;
+use record::layout::DIGEST_SIZE;
+use record::layout::RECORD_SIZE;
+use replica::layout::STATE_SIZE;
 use replica::opening::clear;
 
 fn least(a: usize, b: usize) -> usize
@@ -60,6 +65,7 @@ fn perform(
     words: &mut [u32],
     buffer: &mut [u32],
     rec: &mut [u32],
+    digest: &mut [u32; DIGEST_SIZE],
     sizes: Sizes,
     command: Command,
 ) -> Sizes {
@@ -87,10 +93,12 @@ fn perform(
             return Sizes { lent, kept, length };
         }
         20 => set(&mut buffer[..kept], at, command.b),
+        21 => set(digest, at, command.b),
         _ => call(
             &mut words[..lent],
             &mut buffer[..kept],
             &rec[..length],
+            digest,
             op,
             command.a,
             command.b,
@@ -101,6 +109,7 @@ fn perform(
 
 // A proved loop has to end, and nothing says that the input does: the loop counts its turns down, from a number that no run uses up.
 fn run(words: &mut [u32], buffer: &mut [u32], rec: &mut [u32], block: &mut [u8]) {
+    let mut digest = [0u32; DIGEST_SIZE];
     let mut cursor = Cursor { at: 0, end: 0 };
     let mut sizes = Sizes {
         lent: 0,
@@ -113,7 +122,7 @@ fn run(words: &mut [u32], buffer: &mut [u32], rec: &mut [u32], block: &mut [u8])
         if next.op == 0 {
             return;
         }
-        sizes = perform(words, buffer, rec, sizes, next);
+        sizes = perform(words, buffer, rec, &mut digest, sizes, next);
         let after = next.cursor;
         cursor = after;
         turns -= 1;
@@ -121,9 +130,9 @@ fn run(words: &mut [u32], buffer: &mut [u32], rec: &mut [u32], block: &mut [u8])
 }
 
 fn main() {
-    let mut words = [0u32; 6000];
-    let mut buffer = [0u32; 400];
-    let mut rec = [0u32; 20];
+    let mut words = [0u32; STATE_SIZE + 136];
+    let mut buffer = [0u32; BUFFER_SIZE + 15];
+    let mut rec = [0u32; RECORD_SIZE + 8];
     let mut block = io::large_buffer();
     run(&mut words, &mut buffer, &mut rec, &mut block);
 }

@@ -1,24 +1,15 @@
--- Ten words copied into a cell, and a cell lent on as a part. Assumes nothing.
+-- A part of some words that was lent and written. Assumes nothing.
 use mathlib.Core.Path.{_≡_, sym, ap, ap₂, _∙_}
-use mathlib.Core.List.{List, [], _∷_, _++_, append-assoc}
+use mathlib.Core.List.{List, _++_, append-assoc}
 use Prim.Native.Nat.{ℕ, _+_, _-_, _≤_, _<_}
-use native.Mathlib.Numerals.{add-one}
 use native.Mathlib.Omega.{arith}
-use lib.ListN.{length, getD, take, drop, set, List·getD-append}
-use lib.Seq.{take-suc, take-suc-set, take-all, take-at, drop-at, drop-drop, drop-append-le, getD-take, getD-drop, length-take-le, paste}
+use lib.ListN.{length, getD, take, drop, List·getD-append}
+use lib.Seq.{take-all, take-at, drop-at, drop-drop, drop-append-le, getD-take, getD-drop, length-take-le, paste}
 use lib.Seq.{length-paste-head, take-paste, drop-paste}
 use Rattle.replica.specs.Layout.{masksAt, cellAt, heldKind}
 use Rattle.ordering.specs.Calls.{putVertex}
 use Rattle.replica.specs.State.{addMember}
 use Rattle.record.specs.Layout.{bodySize}
-
--- a turn of a loop that copies
-pub take-copied : (d s : List ℕ) (i : ℕ) → i < length d → i < length s → take i d ≡ take i s → take (i + 1) (set d i (getD s i 0)) ≡ take (i + 1) s
-take-copied d s i hd hs e =
-    rw (add-one i) (take-suc-set d i (getD s i 0) hd ∙ ap (λ (l : List ℕ). l ++ (getD s i 0 ∷ [])) e ∙ sym (take-suc s i 0 hs))
-
-pub take-whole : (d s : List ℕ) (i : ℕ) → length d ≤ i → length s ≤ i → take i d ≡ take i s → d ≡ s
-take-whole d s i hd hs e = sym (take-all i d hd) ∙ e ∙ take-all i s hs
 
 -- a part that was lent and has come back with other words
 pub put-pasted : (a k : ℕ) (d ys s : List ℕ) → ys ≡ take k s → take a d ++ (ys ++ drop ((a + k) - a) (drop a d)) ≡ paste d a s k

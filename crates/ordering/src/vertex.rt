@@ -28,6 +28,7 @@ use record::members::quorum_of;
 use record::questions::check;
 use record::refusal::Refusal;
 use record::refusal::number;
+use record::words::copy_words;
 use replica::answer::Answer;
 use replica::answer::refuse;
 use replica::layout::HELD;
@@ -56,18 +57,6 @@ fn same_body(state: &[u32], round: u32, member: u32, body: &[u32]) -> bool
     true
 }
 
-// The words of a cell become those of a body.
-fn write_body(cell: &mut [u32], body: &[u32])
-    requires { ⌜ (length (now cell) ≡ bodySize) × (length (now body) ≡ bodySize) ⌝ }
-    ensures { λ _. ⌜ now (cell .exit) ≡ now (body .entry) ⌝ }
-{
-    let mut i: usize = 0;
-    while i < BODY_SIZE {
-        cell[i] = body[i];
-        i += 1;
-    }
-}
-
 // The vertex is written to its cell and marked held.
 fn put_vertex(state: &mut [u32], round: u32, member: u32, body: &[u32])
     requires { ⌜ (length (now state) ≡ stateSize) × (1 ≤ round) × (round ≤ rounds) × (member < slots) × (length (now body) ≡ bodySize) ⌝ }
@@ -77,7 +66,7 @@ fn put_vertex(state: &mut [u32], round: u32, member: u32, body: &[u32])
     add_member(state, mask, member);
     let at = cell_at(round, member);
     let end = at + BODY_SIZE;
-    write_body(&mut state[at..end], body);
+    copy_words(&mut state[at..end], body);
 }
 
 // The timeout mask of a vertex joins the timeouts of the round before; before round 1 there is none.

@@ -1,4 +1,4 @@
--- The loops that write words of a buffer, a turn at a time. Assumes nothing.
+-- Words of a buffer written, a turn at a time or as a part. Assumes nothing.
 use mathlib.Core.Path.{_≡_, sym, ap, ap₂, _∙_}
 use mathlib.Core.List.{List, _++_}
 use mathlib.Core.Logic.{_⊎_, inl, inr, ⊎-elim}
@@ -33,6 +33,12 @@ unwritten l x from to at i a e size h k b =
   where
     side : (slotAt from + i < slotAt to) ⊎ (slotAt to + i ≤ slotAt from + i)
     side = ⊎-elim (λ t. inl (omega (arith, ltb-true from to t))) (λ t. inr (omega (arith, ltb-false from to t))) (which (ltb from to))
+
+-- a slot that was lent and has come back with the words of a record
+pub slot-written : (s rec : List ℕ) (j : ℕ) → length rec ≡ recordSize → (at : ℕ) → at ≡ slotAt j → (ys : List ℕ) → ys ≡ rec
+    → take at s ++ (ys ++ drop ((at + recordSize) - at) (drop at s)) ≡ paste s (slotAt j) rec recordSize
+slot-written s rec j size at e ys f =
+    put-pasted at recordSize s ys rec (f ∙ sym (take-all recordSize rec (omega arith))) ∙ ap (λ (k : ℕ). paste s k rec recordSize) e
 
 -- a part that was lent and has come back with zeros
 pub cleared : (s ys : List ℕ) (from to : ℕ) → from ≤ to → to ≤ length s → ys ≡ replicate (length (take (to - from) (drop from s))) 0

@@ -2,9 +2,6 @@
 use Prim.Native.Nat.{ℕ, _+_, _*_}
 use Rattle.record.specs.Layout.{recordSize}
 
-abbrev pub bufferSize : ℕ
-bufferSize = 385
-
 -- the most records that it holds
 abbrev pub bufferSlots : ℕ
 bufferSlots = 32
@@ -19,3 +16,6 @@ slotsPlace = 1
 -- the first word of slot j
 abbrev pub slotAt : ℕ → ℕ
 slotAt j = slotsPlace + recordSize * j
+
+abbrev pub bufferSize : ℕ
+bufferSize = slotAt bufferSlots

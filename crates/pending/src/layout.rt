@@ -5,8 +5,6 @@ ghost use Rattle.pending.specs.Layout.{bufferSlots, slotAt};
 use record::layout::RECORD_SIZE;
 use record::layout::wide;
 
-pub const BUFFER_SIZE: usize = 385;
-
 // The most records that it holds.
 pub const BUFFER_SLOTS: u32 = 32;
 
@@ -14,6 +12,8 @@ pub const BUFFER_SLOTS: u32 = 32;
 pub const COUNT: usize = 0;
 
 pub const SLOTS_AT: usize = 1;
+
+pub const BUFFER_SIZE: usize = SLOTS_AT + RECORD_SIZE * (BUFFER_SLOTS as usize);
 
 // The first word of slot j, and the word after the last slot.
 pub fn slot_at(j: u32) -> usize

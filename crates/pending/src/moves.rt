@@ -11,6 +11,7 @@ use super::buffer::id_of;
 use super::layout::COUNT;
 use super::layout::slot_at;
 use record::layout::RECORD_SIZE;
+use record::words::copy_words;
 
 // Two records have the same words.
 fn same_record(rec: &[u32], other: &[u32]) -> bool
@@ -77,11 +78,8 @@ fn write_slot(buffer: &mut [u32], j: u32, rec: &[u32])
     ensures { λ _. ⌜ now (buffer .exit) ≡ paste (now (buffer .entry)) (slotAt j) (now (rec .entry)) recordSize ⌝ }
 {
     let at = slot_at(j);
-    let mut i: usize = 0;
-    while i < RECORD_SIZE {
-        buffer[at + i] = rec[i];
-        i += 1;
-    }
+    let end = at + RECORD_SIZE;
+    copy_words(&mut buffer[at..end], rec);
 }
 
 // The words of a slot become those of another slot.

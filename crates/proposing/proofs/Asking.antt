@@ -173,13 +173,13 @@ module _ (l : List ℕ) (why : Refusal) (e : why ≡ firstNo (memberQuestions l)
             next _ _ (round-in (currentRound l) (member-known l why e (sym f ∙ h) .state .front .round-low) k) (unfold makingQuestions in d)
 
 -- the call
-module _ (l : List ℕ) (tag : ℕ) (why : Refusal) (e : why ≡ proposeRefusal l) (x : ℕ) (f : x ≡ numberOf why) where
-  pub propose-refused : (x ≡ 0 → ⊥) → (p : Proposal) → p ≡ noProposal why → toldProposal p l ≡ proposeVertex l tag
+module _ (l digest : List ℕ) (why : Refusal) (e : why ≡ proposeRefusal l) (x : ℕ) (f : x ≡ numberOf why) where
+  pub propose-refused : (x ≡ 0 → ⊥) → (p : Proposal) → p ≡ noProposal why → toldProposal p l ≡ proposeVertex l digest
   unfolding proposeVertex
   propose-refused h p d =
       ap (λ (y : Proposal). toldProposal y l) d
       ∙ ap₂ ended (outcome-refused why (proposeRefusal l) l (markRound l madeAt (currentRound l)) e (λ z. h (f ∙ z)))
-      (sym (cond-false (madeRecord l tag) noRecord (ne-eqb (numberOf (proposeRefusal l)) 0 (λ z. h (f ∙ ap numberOf e ∙ z)))))
+      (sym (cond-false (madeRecord l digest) noRecord (ne-eqb (numberOf (proposeRefusal l)) 0 (λ z. h (f ∙ ap numberOf e ∙ z)))))
 
   module _ (h : x ≡ 0) where
     none : numberOf (proposeRefusal l) ≡ 0
@@ -190,15 +190,15 @@ module _ (l : List ℕ) (tag : ℕ) (why : Refusal) (e : why ≡ proposeRefusal 
         let k = making-passed l none in
         current l (record { state = k .state; member = k .member; own = k .own }) (round-range (currentRound l) (k .round) .1)
 
-    pub propose-done : (rec : List ℕ) → rec ≡ madeRecord l tag → (m : List ℕ) → m ≡ markRound l madeAt (currentRound l)
-        → toldProposal (record { answer = nothingAdded None; words = rec }) m ≡ proposeVertex l tag
+    pub propose-done : (rec : List ℕ) → rec ≡ madeRecord l digest → (m : List ℕ) → m ≡ markRound l madeAt (currentRound l)
+        → toldProposal (record { answer = nothingAdded None; words = rec }) m ≡ proposeVertex l digest
     unfolding proposeVertex
     propose-done rec er m em =
         ap₂ ended
         (ap (told (nothingAdded None)) em
         ∙ still l (markRound l madeAt (currentRound l)) (mark-calm l madeAt (currentRound l) (omega arith) (omega arith))
         ∙ sym (outcome-admitted None None l _ refl refl) ∙ outcome-admitted (proposeRefusal l) (proposeRefusal l) l _ refl none)
-        (er ∙ sym (cond-true (madeRecord l tag) noRecord (eq-eqb (numberOf (proposeRefusal l)) 0 none)))
+        (er ∙ sym (cond-true (madeRecord l digest) noRecord (eq-eqb (numberOf (proposeRefusal l)) 0 none)))
 
 -- ---- signing
 

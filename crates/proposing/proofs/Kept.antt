@@ -244,4 +244,4 @@ formed-signing l e =
 -- Both calls keep a well-formed state well formed.
 pub own-keeps : OwnKeepsWellFormed
 unfolding proposeVertex signNoVote
-own-keeps l size e = let S = formed l size e in (λ tag. leaves _ l _ S (formed-making l), leaves _ l _ S (formed-signing l))
+own-keeps l size e = let S = formed l size e in (λ digest. leaves _ l _ S (formed-making l), leaves _ l _ S (formed-signing l))

@@ -6,13 +6,14 @@ use mathlib.Core.List.{List, [], _∷_, _++_, append-nil, append-assoc}
 use Prim.Native.Nat.{ℕ, zero, suc, _+_, _-_, _*_, _^_, _≤_, _<_}
 use native.Mathlib.Omega.{arith}
 use lib.Dec.{eqb, leb, ltb}
-use lib.ListN.{length, getD, set, take, replicate, length-append}
+use lib.ListN.{length, getD, set, take, replicate, length-append, length-replicate}
 use lib.Pow.{pow-pos}
 use lib.Seq.{set-at, take-all, take-append-le, length-take-le}
 use borrow.Author.Tests.{le-leb, lt-leb, le-ltb, ltb-true, ltb-false, eqb-true, eqb-false}
 use Rattle.record.specs.Below.{select}
 use Rattle.record.specs.Members.{isRound, faulty, has, leader, idOf, idRound, idMember, idLimit, rounds, slots}
-use Rattle.record.specs.Layout.{bodyPlace, weakCountPlace, weakPlace, weakSlots, recordWords}
+use Rattle.record.specs.Layout.{bodyPlace, digestSize, weakCountPlace, weakPlace, weakSlots, recordSize, recordWords}
+use Rattle.record.proofs.Composed.{getD-append-size}
 use Rattle.record.proofs.Booleans.{which, and-both, and-fails-left, and-fails-right, cond-true, cond-false}
 use Rattle.record.proofs.Masks.{remove-lt}
 use Rattle.record.proofs.Rounds.{round-in, id-round, id-member}
@@ -26,7 +27,7 @@ use Rattle.commits.proofs.Ground.{standing}
 use Rattle.commits.proofs.Steps.{select-zero}
 use Rattle.proposing.specs.Own.{wasSigned}
 use Rattle.proposing.specs.Making.{parentsIn, madeStrong, madeTimeouts, madeNoVotes, isReached, isUnreached, madeRecord}
-use Rattle.proposing.specs.Inner.{Current, draftOf, addWeak, offerId, offerRound, offerRounds}
+use Rattle.proposing.specs.Inner.{Current, draftOf, countIn, addWeak, offerId, offerRound, offerRounds}
 use Rattle.proposing.specs.declared.making.Draft.{Draft}
 
 -- ---- the numbers that satisfy a test, and the first f of them
@@ -59,35 +60,55 @@ take-more t f y = go (which (t y)) (which (ltb (length (select y t)) f))
 
 -- ---- a record and its weak ids
 
-module _ (round source strong timeouts noVotes tag : ℕ) where
+module _ (round source strong timeouts noVotes : ℕ) (digest : List ℕ) (size : length digest ≡ digestSize) where
+  -- the words before the weak count, and the record with these weak ids
+  abbrev head : List ℕ
+  head = round ∷ source ∷ strong ∷ timeouts ∷ noVotes ∷ digest
+
   abbrev whole : List ℕ → List ℕ
-  whole weak = recordWords round source strong timeouts noVotes tag weak
+  whole weak = recordWords round source strong timeouts noVotes digest weak
+
+  abbrev countPlace : ℕ
+  countPlace = bodyPlace + weakCountPlace
+
+  head-long : length head ≡ countPlace
+  head-long = omega (arith, size)
+
+  count-is : (weak : List ℕ) → countIn (whole weak) ≡ length weak
+  count-is weak = getD-append-size head (length weak ∷ (weak ++ replicate (weakSlots - length weak) 0)) countPlace 0 head-long
 
   -- one more, where there is room
   add-whole : (weak : List ℕ) (y : ℕ) → length weak < weakSlots → addWeak (whole weak) y ≡ whole (weak ++ y ∷ [])
   unfolding addWeak
   add-whole weak y h =
-      ap (λ (x : List ℕ). set x (bodyPlace + weakCountPlace) (length weak + 1)) (ap (λ (x : List ℕ). set x (slotsPlace + length weak) y) room ∙ written)
-      ∙ ap₂ (λ (k : ℕ) (x : List ℕ). take (bodyPlace + weakCountPlace) (whole weak) ++ k ∷ x) (sym (length-append weak (y ∷ [])))
+      ap (λ (k : ℕ). set (set (whole weak) (bodyPlace + weakPlace + k) y) countPlace (k + 1)) (count-is weak)
+      ∙ ap (λ (x : List ℕ). set x countPlace (length weak + 1)) written
+      ∙ set-at head (length weak) (weak ++ y ∷ tail) (length weak + 1) countPlace head-long
+      ∙ ap₂ (λ (k : ℕ) (x : List ℕ). head ++ k ∷ x) (sym (length-append weak (y ∷ [])))
       (sym (append-assoc weak (y ∷ []) (replicate (weakSlots - length (weak ++ y ∷ [])) 0) ∙ ap (λ (x : List ℕ). weak ++ y ∷ x) rest))
     where
-      slotsPlace : ℕ
-      slotsPlace = bodyPlace + weakPlace
-
-      front : List ℕ
-      front = take slotsPlace (whole weak) ++ weak
-
       tail : List ℕ
       tail = replicate (weakSlots - suc (length weak)) 0
 
-      room : whole weak ≡ front ++ 0 ∷ tail
-      room = let e : weakSlots - length weak ≡ suc (weakSlots - suc (length weak)) = omega arith in ap (λ (k : ℕ). front ++ replicate k 0) e
+      -- the words before the first slot that is free
+      front : List ℕ
+      front = head ++ length weak ∷ weak
 
-      written : set (front ++ 0 ∷ tail) (slotsPlace + length weak) y ≡ front ++ y ∷ tail
-      written = set-at front 0 tail y (slotsPlace + length weak) long
-        where
-          long : length front ≡ slotsPlace + length weak
-          long = length-append (take slotsPlace (whole weak)) weak
+      split : (x : ℕ) → front ++ x ∷ tail ≡ head ++ length weak ∷ (weak ++ x ∷ tail)
+      split x = append-assoc head (length weak ∷ weak) (x ∷ tail)
+
+      room : whole weak ≡ front ++ 0 ∷ tail
+      room =
+          let e : weakSlots - length weak ≡ suc (weakSlots - suc (length weak)) = omega arith in
+          ap (λ (k : ℕ). head ++ length weak ∷ (weak ++ replicate k 0)) e ∙ sym (split 0)
+
+      long : length front ≡ bodyPlace + weakPlace + length weak
+      long = omega (arith, length-append head (length weak ∷ weak), head-long)
+
+      written : set (whole weak) (bodyPlace + weakPlace + length weak) y ≡ head ++ length weak ∷ (weak ++ y ∷ tail)
+      written =
+          ap (λ (x : List ℕ). set x (bodyPlace + weakPlace + length weak) y) room
+          ∙ set-at front 0 tail y (bodyPlace + weakPlace + length weak) long ∙ split y
 
       rest : _≡_ {A = List ℕ} (replicate (weakSlots - length (weak ++ y ∷ [])) 0) tail
       rest =
@@ -104,16 +125,18 @@ module _ (round source strong timeouts noVotes tag : ℕ) where
           ≡ whole (cond (t y && ltb (length (take f (select y t))) f) (take f (select y t) ++ y ∷ []) (take f (select y t)))
       more = ap whole (take-more t f y)
 
-      test : (has held (idMember y) && (not (has reached (idMember y)) && ltb (length (take f (select y t))) f))
+      test : (has held (idMember y) && (not (has reached (idMember y)) && ltb (countIn (whole (take f (select y t)))) f))
           ≡ (t y && ltb (length (take f (select y t))) f)
-      test = sym (and-assoc (has held (idMember y)) (not (has reached (idMember y))) _) ∙ ap (λ (b : Bool). b && ltb (length (take f (select y t))) f) e
+      test =
+          ap (λ (k : ℕ). has held (idMember y) && (not (has reached (idMember y)) && ltb k f)) (count-is (take f (select y t)))
+          ∙ sym (and-assoc (has held (idMember y)) (not (has reached (idMember y))) _) ∙ ap (λ (b : Bool). b && ltb (length (take f (select y t))) f) e
         where
           and-assoc : (a b c : Bool) → ((a && b) && c) ≡ (a && (b && c))
           and-assoc true b c = refl
           and-assoc false b c = refl
 
       go : (t y ≡ true) ⊎ (t y ≡ false) → (ltb (length (take f (select y t))) f ≡ true) ⊎ (ltb (length (take f (select y t))) f ≡ false)
-          → cond (has held (idMember y) && (not (has reached (idMember y)) && ltb (length (take f (select y t))) f))
+          → cond (has held (idMember y) && (not (has reached (idMember y)) && ltb (countIn (whole (take f (select y t)))) f))
           (addWeak (whole (take f (select y t))) y) (whole (take f (select y t)))
           ≡ whole (take f (select (suc y) t))
       go (inl a) (inl b) =
@@ -157,6 +180,12 @@ module _ (round source strong timeouts noVotes tag : ℕ) where
         next = omega arith
 
 -- ---- the made record
+
+-- the size of a record tells that of its digest
+pub digest-size : (round source strong timeouts noVotes : ℕ) (digest rec : List ℕ) → rec ≡ recordWords round source strong timeouts noVotes digest []
+    → length rec ≡ recordSize → length digest ≡ digestSize
+digest-size round source strong timeouts noVotes digest rec e size =
+    omega (arith, ap length e, size, length-append digest (0 ∷ replicate weakSlots 0), length-replicate {A = ℕ} weakSlots 0)
 
 -- the strong mask is of the group
 pub strong-low : (l : List ℕ) → WellFormed l → 1 ≤ currentRound l → currentRound l ≤ rounds → madeStrong l < 2 ^ memberCount l
@@ -223,13 +252,13 @@ module _ (l : List ℕ) (n round : ℕ) (C : Current l n round) where
   few-faulty : faulty n ≤ weakSlots
   few-faulty = omega (arith, C .opened .few)
 
-  module _ (tag : ℕ) (d : Draft) (ed : d ≡ draftOf l) (first : List ℕ)
-      (ef : first ≡ recordWords round (ownWord l - 1) (d .strong) (d .timeouts) (d .«no_votes») tag []) where
+  module _ (digest : List ℕ) (size : length digest ≡ digestSize) (d : Draft) (ed : d ≡ draftOf l) (first : List ℕ)
+      (ef : first ≡ recordWords round (ownWord l - 1) (d .strong) (d .timeouts) (d .«no_votes») digest []) where
     -- the record with these weak ids
     abbrev with-weak : List ℕ → List ℕ
-    with-weak = whole round (ownWord l - 1) (madeStrong l) (madeTimeouts l) (madeNoVotes l) tag
+    with-weak = whole round (ownWord l - 1) (madeStrong l) (madeTimeouts l) (madeNoVotes l) digest size
 
-    made-is : with-weak (take (faulty n) (select (slots * (round - 1)) (isUnreached l))) ≡ madeRecord l tag
+    made-is : with-weak (take (faulty n) (select (slots * (round - 1)) (isUnreached l))) ≡ madeRecord l digest
     unfolding madeRecord
     made-is = rw (← weak-below, C .opened .members, C .opened .current)
 
@@ -241,7 +270,7 @@ module _ (l : List ℕ) (n round : ℕ) (C : Current l n round) where
         take-empty (suc k) = refl
 
     -- below round 3 it has none
-    pub made-early : round < 3 → first ≡ madeRecord l tag
+    pub made-early : round < 3 → first ≡ madeRecord l digest
     made-early h = start ∙ ap (λ (x : List ℕ). with-weak (take (faulty n) x)) early ∙ made-is
       where
         early : select slots (isUnreached l) ≡ select (slots * (round - 1)) (isUnreached l)
@@ -253,11 +282,11 @@ module _ (l : List ℕ) (n round : ℕ) (C : Current l n round) where
 
     -- later it has those that were offered
     pub made-late : 3 ≤ round → (reached : List ℕ) → reached ≡ reachMasks n (vertices l) (round - 1) (d .strong) → (f : ℕ) → f ≡ faulty n
-        → (rec : List ℕ) → rec ≡ offerRounds first f l reached (round - 2) → rec ≡ madeRecord l tag
+        → (rec : List ℕ) → rec ≡ offerRounds first f l reached (round - 2) → rec ≡ madeRecord l digest
     made-late h reached er f eq rec e =
         e
         ∙ rw (er, eq, ed, start)
-        (rounds-step round (ownWord l - 1) (madeStrong l) (madeTimeouts l) (madeNoVotes l) tag (isUnreached l) (faulty n) few-faulty l
+        (rounds-step round (ownWord l - 1) (madeStrong l) (madeTimeouts l) (madeNoVotes l) digest size (isUnreached l) (faulty n) few-faulty l
         (reachMasks n (vertices l) (round - 1) (madeStrong l)) (round - 2) (λ s p a b. offered s p (omega arith) b))
         ∙ ap (λ (k : ℕ). with-weak (take (faulty n) (select k (isUnreached l)))) last
         ∙ made-is

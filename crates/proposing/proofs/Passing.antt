@@ -1,4 +1,4 @@
--- Every made record passes questions 5 to 11, and 14 on the state that made it. Assumes nothing.
+-- Every made record passes questions 5 to 11, and 14 on the state that made it, and has the digest handed over. Assumes nothing.
 use mathlib.Core.Path.{_≡_, sym, ap, _∙_}
 use mathlib.Core.Bool.{Bool, true, false, cond, not, _&&_}
 use mathlib.Core.Logic.{_⊎_, inl, inr, ⊎-elim}
@@ -6,19 +6,19 @@ use mathlib.Core.List.{List, [], _∷_, _++_}
 use Prim.Native.Nat.{ℕ, zero, suc, _+_, _-_, _^_, _≤_, _<_, min}
 use native.Mathlib.Omega.{arith}
 use lib.Dec.{eqb, leb, ltb}
-use lib.ListN.{length, getD, length-take, length-append, List·getD-append}
+use lib.ListN.{length, getD, take, drop, length-take, length-append, List·getD-append}
 use lib.Pow.{pow-pos}
-use lib.Seq.{getD-take, getD-append-seam}
+use lib.Seq.{take-at, getD-take, getD-append-seam}
 use borrow.Author.Tests.{eqb-false, eq-eqb, leb-true, ltb-true, ltb-false}
 use Rattle.record.specs.Below.{select}
 use Rattle.record.specs.Members.{isRound, faulty, leader, has, remove, idRound, idMember, idLimit, rounds}
 use Rattle.record.specs.Refusals.{numberOf}
-use Rattle.record.specs.Layout.{strongOf, weakCountOf, weakOf, bodyOf, recordWords}
+use Rattle.record.specs.Layout.{digestPlace, digestSize, strongOf, digestOf, weakCountOf, weakOf, bodyOf, Digest, recordWords}
 use Rattle.record.specs.Admitted.{Composed}
 use Rattle.record.proofs.Booleans.{which, never, and-left, and-right, and-both, cond-true}
 use Rattle.record.proofs.Masks.{has-bound, has-removed, has-zero}
 use Rattle.record.proofs.Rounds.{round-range, round-in}
-use Rattle.record.proofs.Composed.{composed, weak-slot, lacks-later}
+use Rattle.record.proofs.Composed.{count-is, composed, weak-slot, lacks-later}
 use Rattle.replica.specs.State.{memberCount, currentRound, heldMask, timeoutsMask, noVotesMask, heldId}
 use Rattle.replica.specs.Parents.{parentsHeld}
 use Rattle.replica.proofs.Formed.{WellFormed}
@@ -26,8 +26,8 @@ use Rattle.replica.proofs.ParentLaws.{parents-intro, parent-cases}
 use Rattle.ordering.proofs.Turns.{outcome-zero}
 use Rattle.proposing.specs.Own.{ownMember, wasSigned}
 use Rattle.proposing.specs.Making.{parentsIn, madeStrong, madeTimeouts, madeNoVotes, wantsTimeouts, wantsNoVotes, isReached, isUnreached}
-use Rattle.proposing.specs.Making.{madeWeak, madeRecord, noRecord, proposeRefusal, proposeVertex}
-use Rattle.proposing.specs.Claims.{Passes, MadePasses}
+use Rattle.proposing.specs.Making.{madeWeak, madeRecord, proposeRefusal, proposeVertex}
+use Rattle.proposing.specs.Claims.{Passes, MadePasses, MadeDigest}
 use Rattle.proposing.proofs.Kept.{MakingKnown, making-passed, own-most}
 use Rattle.proposing.proofs.Offering.{strong-low}
 
@@ -183,10 +183,10 @@ module _ (l : List ℕ) (K : MakingKnown l) where
       from (inr a) (inl b) e = has-removed (heldMask l (currentRound l - 1)) (leader (memberCount l) (currentRound l - 1)) p (rw (a, b) at e)
       from (inr a) (inr b) e = rw (a, b) at e
 
-  module _ (tag : ℕ) where
+  module _ (digest : Digest) where
     -- the record
     abbrev rec : List ℕ
-    rec = recordWords (currentRound l) (ownMember l) (madeStrong l) (madeTimeouts l) (madeNoVotes l) tag (madeWeak l)
+    rec = recordWords (currentRound l) (ownMember l) (madeStrong l) (madeTimeouts l) (madeNoVotes l) (digest .words) (madeWeak l)
 
     all-held : parentsHeld l (currentRound l) (bodyOf rec) ≡ true
     all-held = parents-intro l (currentRound l) (bodyOf rec) (λ y k e. ⊎-elim (strong-case y) (weak-case y) (parent-cases (currentRound l) (bodyOf rec) y e))
@@ -206,24 +206,36 @@ module _ (l : List ℕ) (K : MakingKnown l) where
 
         weak-case : (y : ℕ) → (i : ℕ) × (i < weakCountOf (bodyOf rec)) × (weakOf (bodyOf rec) i ≡ y) → heldId l y ≡ true
         weak-case y e =
-            let h : e .0 < length (madeWeak l) = unfold weakCountOf in e .1 in
+            let h : e .0 < length (madeWeak l) = rw (count-is (memberCount l) (currentRound l) (ownMember l) (madeStrong l) (madeTimeouts l)
+            (madeNoVotes l) digest (madeWeak l)) at (e .1) in
             let z : weakOf (bodyOf rec) (e .0) ≡ getD (madeWeak l) (e .0) 0 = slot-is (e .0) h in
             rw (sym z ∙ e .2) at (weak-held (e .0) h)
           where
             slot-is : (i : ℕ) → i < length (madeWeak l) → weakOf (bodyOf rec) i ≡ getD (madeWeak l) i 0
-            slot-is i h = weak-slot (memberCount l) (currentRound l) (ownMember l) (madeStrong l) (madeTimeouts l) (madeNoVotes l) tag (madeWeak l) i h
+            slot-is i h = weak-slot (memberCount l) (currentRound l) (ownMember l) (madeStrong l) (madeTimeouts l) (madeNoVotes l) digest (madeWeak l) i h
 
-    passes : Passes l (madeRecord l tag)
+    passes : Passes l (madeRecord l (digest .words))
     unfolding madeRecord
     passes = record {
-      questions = composed (memberCount l) (currentRound l) (ownMember l) (madeStrong l) (madeTimeouts l) (madeNoVotes l) tag (madeWeak l) parts;
+      questions = composed (memberCount l) (currentRound l) (ownMember l) (madeStrong l) (madeTimeouts l) (madeNoVotes l) digest (madeWeak l) parts;
       parents = all-held;
     }
 
+-- ---- the claims
+
+-- the record that is answered with the number 0
+made-record : (l digest : List ℕ) → proposeVertex l digest .outcome .number ≡ 0
+    → (numberOf (proposeRefusal l) ≡ 0) × (proposeVertex l digest .made ≡ madeRecord l digest)
+unfolding proposeVertex
+made-record l digest e = let z = outcome-zero (proposeRefusal l) l _ e in (z, cond-true _ _ (eq-eqb _ 0 z))
+
 -- Every made record passes.
 pub made-passes : MadePasses
-unfolding proposeVertex
-made-passes l tag e =
-    let z = outcome-zero (proposeRefusal l) l _ e in
-    let same : cond (eqb (numberOf (proposeRefusal l)) 0) (madeRecord l tag) noRecord ≡ madeRecord l tag = cond-true _ _ (eq-eqb _ 0 z) in
-    rw same (passes l (making-passed l z) tag)
+made-passes l digest e = let m = made-record l (digest .words) e in rw (m .1) (passes l (making-passed l (m .0)) digest)
+
+-- It has the digest that was handed over.
+pub made-digest : MadeDigest
+unfolding madeRecord digestOf
+made-digest l digest e =
+    let m = made-record l (digest .words) e in
+    ap (λ (x : List ℕ). take digestSize (drop digestPlace (bodyOf x))) (m .1) ∙ take-at (digest .words) _ digestSize (digest .size)

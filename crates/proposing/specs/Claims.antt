@@ -5,7 +5,7 @@ use mathlib.Core.List.{List}
 use Prim.Native.Nat.{ℕ}
 use lib.ListN.{length}
 use Rattle.record.specs.Refusals.{numberOf}
-use Rattle.record.specs.Layout.{roundOf, bodyOf}
+use Rattle.record.specs.Layout.{roundOf, bodyOf, digestOf, Digest}
 use Rattle.record.specs.Questions.{recordRefusal}
 use Rattle.replica.specs.Layout.{stateSize}
 use Rattle.replica.specs.State.{memberCount}
@@ -22,9 +22,14 @@ pub record Passes (l rec : List ℕ) : Type 0 where
 
 -- every made record passes them on the state that made it
 abbrev pub MadePasses : Type 0
-MadePasses = (l : List ℕ) (tag : ℕ) → proposeVertex l tag .outcome .number ≡ 0 → Passes l (proposeVertex l tag .made)
+MadePasses = (l : List ℕ) (digest : Digest) → proposeVertex l (digest .words) .outcome .number ≡ 0 → Passes l (proposeVertex l (digest .words) .made)
+
+-- and has the digest that was handed over
+abbrev pub MadeDigest : Type 0
+MadeDigest = (l : List ℕ) (digest : Digest) → proposeVertex l (digest .words) .outcome .number ≡ 0
+    → digestOf (bodyOf (proposeVertex l (digest .words) .made)) ≡ digest .words
 
 -- both calls on a well-formed state leave one, admitted or refused
 abbrev pub OwnKeepsWellFormed : Type 0
 OwnKeepsWellFormed = (l : List ℕ) → length l ≡ stateSize → wellFormed l ≡ true
-    → ((tag : ℕ) → LeavesWellFormed (proposeVertex l tag .outcome)) × LeavesWellFormed (signNoVote l)
+    → ((digest : List ℕ) → LeavesWellFormed (proposeVertex l digest .outcome)) × LeavesWellFormed (signNoVote l)

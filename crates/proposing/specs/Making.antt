@@ -60,8 +60,8 @@ madeWeak l = take (faulty (memberCount l)) (select idLimit (isUnreached l))
 
 -- ---- the record
 
-unfoldable pub madeRecord : List ℕ → ℕ → List ℕ
-madeRecord l tag = recordWords (currentRound l) (ownMember l) (madeStrong l) (madeTimeouts l) (madeNoVotes l) tag (madeWeak l)
+unfoldable pub madeRecord : List ℕ → List ℕ → List ℕ
+madeRecord l digest = recordWords (currentRound l) (ownMember l) (madeStrong l) (madeTimeouts l) (madeNoVotes l) digest (madeWeak l)
 
 -- the record that is answered where making is refused
 abbrev pub noRecord : List ℕ
@@ -92,8 +92,8 @@ abbrev pub toldProposal : Proposal → List ℕ → Proposed
 toldProposal p l = record { outcome = told (p .answer) l; made = p .words }
 
 -- the record is answered and its round marked; nothing else changes
-unfoldable pub proposeVertex : List ℕ → ℕ → Proposed
-proposeVertex l tag = record {
+unfoldable pub proposeVertex : List ℕ → List ℕ → Proposed
+proposeVertex l digest = record {
   outcome = outcome (proposeRefusal l) l (markRound l madeAt (currentRound l));
-  made = cond (eqb (numberOf (proposeRefusal l)) 0) (madeRecord l tag) noRecord;
+  made = cond (eqb (numberOf (proposeRefusal l)) 0) (madeRecord l digest) noRecord;
 }

@@ -18,12 +18,13 @@ use super::own::marks_round;
 use super::weak::offer_rounds;
 use commits::history::reach_of;
 use record::layout::BODY;
+use record::layout::DIGEST;
+use record::layout::DIGEST_SIZE;
 use record::layout::NO_VOTES as RECORD_NO_VOTES;
 use record::layout::RECORD_SIZE;
 use record::layout::ROUND;
 use record::layout::SOURCE;
 use record::layout::STRONG;
-use record::layout::TAG;
 use record::layout::TIMEOUTS as RECORD_TIMEOUTS;
 use record::members::Members;
 use record::members::ROUNDS;
@@ -35,6 +36,7 @@ use record::questions::quorum_if;
 use record::questions::terms_of;
 use record::refusal::Refusal;
 use record::refusal::number;
+use record::words::copy_words;
 use replica::answer::Answer;
 use replica::answer::refuse;
 use replica::layout::CURRENT_ROUND;
@@ -158,8 +160,13 @@ fn check_draft(state: &[u32], n: u32, round: u32, draft: Draft) -> Refusal
 }
 
 // A record without weak ids.
-fn plain_record(round: u32, source: u32, draft: Draft, tag: u32) -> [u32; RECORD_SIZE]
-    ensures { λ r. ⌜ r ≡ recordWords round source (draft .strong) (draft .timeouts) (draft .«no_votes») tag [] ⌝ }
+fn plain_record(
+    round: u32,
+    source: u32,
+    draft: Draft,
+    digest: &[u32; DIGEST_SIZE],
+) -> [u32; RECORD_SIZE]
+    ensures { λ r. ⌜ r ≡ recordWords round source (draft .strong) (draft .timeouts) (draft .«no_votes») (now (digest .entry)) [] ⌝ }
 {
     let mut words = [0u32; RECORD_SIZE];
     words[ROUND] = round;
@@ -167,7 +174,9 @@ fn plain_record(round: u32, source: u32, draft: Draft, tag: u32) -> [u32; RECORD
     words[BODY + STRONG] = draft.strong;
     words[BODY + RECORD_TIMEOUTS] = draft.timeouts;
     words[BODY + RECORD_NO_VOTES] = draft.no_votes;
-    words[BODY + TAG] = tag;
+    let start = BODY + DIGEST;
+    let end = start + DIGEST_SIZE;
+    copy_words(&mut words[start..end], digest);
     words
 }
 
@@ -188,12 +197,12 @@ fn check_propose(state: &[u32]) -> Refusal
 }
 
 // The record. Below round 3 there is nothing two rounds down.
-fn record_of(state: &[u32], n: u32, round: u32, tag: u32) -> [u32; RECORD_SIZE]
+fn record_of(state: &[u32], n: u32, round: u32, digest: &[u32; DIGEST_SIZE]) -> [u32; RECORD_SIZE]
     requires { ⌜ Current (now state) n round ⌝ }
-    ensures { λ r. ⌜ r ≡ madeRecord (now (state .entry)) tag ⌝ }
+    ensures { λ r. ⌜ r ≡ madeRecord (now (state .entry)) (now (digest .entry)) ⌝ }
 {
     let draft = draft_of(state, n, round);
-    let mut words = plain_record(round, state[OWN] - 1, draft, tag);
+    let mut words = plain_record(round, state[OWN] - 1, draft, digest);
     if round < 3 {
         return words;
     }
@@ -202,16 +211,16 @@ fn record_of(state: &[u32], n: u32, round: u32, tag: u32) -> [u32; RECORD_SIZE]
     words
 }
 
-// Makes our own vertex of the current round, with the tag.
-pub fn propose(state: &mut [u32], tag: u32) -> Proposal
-    ensures { λ r. ⌜ toldProposal r (now (state .exit)) ≡ proposeVertex (now (state .entry)) tag ⌝ }
+// Makes our own vertex of the current round, with the digest.
+pub fn propose(state: &mut [u32], digest: &[u32; DIGEST_SIZE]) -> Proposal
+    ensures { λ r. ⌜ toldProposal r (now (state .exit)) ≡ proposeVertex (now (state .entry)) (now (digest .entry)) ⌝ }
 {
     let why = check_propose(state);
     if number(why) != 0 {
         return refuse_proposal(why);
     }
     let round = state[CURRENT_ROUND];
-    let words = record_of(state, state[MEMBER_COUNT], round, tag);
+    let words = record_of(state, state[MEMBER_COUNT], round, digest);
     mark_round(state, MADE, round);
     let answer = Answer {
         refusal: Refusal::None,

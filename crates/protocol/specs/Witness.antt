@@ -5,7 +5,7 @@ use mathlib.Core.List.{List, [], _∷_, _++_}
 use Prim.Native.Nat.{ℕ}
 use lib.Dec.{eqb}
 use Rattle.record.specs.Members.{has}
-use Rattle.record.specs.Layout.{strongOf, noVotesOf, recordWords}
+use Rattle.record.specs.Layout.{strongOf, noVotesOf, tagged, recordWords}
 use Rattle.protocol.specs.Dag.{Dag, recordsOf, held, votes, enough, committed}
 use Rattle.protocol.specs.Chain.{leaders}
 use Rattle.protocol.specs.Journal.{journal}
@@ -13,10 +13,10 @@ use Rattle.protocol.specs.Premises.{DagPremises}
 
 -- the record of a round and a source with these masks of strong parents, timeouts and no-votes, and one with a weak id
 abbrev pub plain : ℕ → ℕ → ℕ → ℕ → ℕ → List ℕ
-plain r p strong timeouts noVotes = recordWords r p strong timeouts noVotes 0 []
+plain r p strong timeouts noVotes = recordWords r p strong timeouts noVotes (tagged 0 .words) []
 
 abbrev pub withWeak : ℕ → ℕ → ℕ → ℕ → ℕ → ℕ → List ℕ
-withWeak r p strong timeouts noVotes weak = recordWords r p strong timeouts noVotes 0 (weak ∷ [])
+withWeak r p strong timeouts noVotes weak = recordWords r p strong timeouts noVotes (tagged 0 .words) (weak ∷ [])
 
 -- What both DAGs hold: round 1, and two rounds of members 0, 2 and 3 (mask 13) that vote for neither leader. The leader of round 3 carries no-votes against
 -- that of round 2, and has a weak edge to that of round 1 (id 16).

@@ -2,16 +2,17 @@
 use mathlib.Core.Path.{_≡_, refl, sym, ap, _∙_}
 use mathlib.Core.Bool.{true}
 use mathlib.Core.Logic.{⊎-elim}
-use mathlib.Core.List.{List, _++_}
+use mathlib.Core.List.{List, [], _∷_, _++_, append-assoc}
 use Prim.Native.Nat.{ℕ, zero, suc, _+_, _-_, _≤_, _<_}
 use native.Mathlib.Omega.{arith}
 use lib.Dec.{leb, ltb}
-use lib.ListN.{length, getD, take, replicate, length-append, length-replicate, getD-replicate, List·getD-append}
+use lib.ListN.{length, getD, replicate, length-append, length-replicate, getD-replicate, List·getD-append}
 use lib.Seq.{getD-append-add}
 use borrow.Author.Tests.{leb-true, le-leb, lt-ltb, ltb-true, ltb-false, eq-eqb, ne-eqb}
 use Rattle.record.specs.Members.{faulty, meets}
 use Rattle.record.specs.Refusals.{numberOf}
-use Rattle.record.specs.Layout.{bodySize, weakPlace, weakSlots, bodyOf, strongOf, timeoutsOf, noVotesOf, weakCountOf, weakOf, recordWords}
+use Rattle.record.specs.Layout.{digestSize, weakPlace, weakSlots, bodySize, bodyOf, strongOf, timeoutsOf, noVotesOf, weakCountOf, weakOf}
+use Rattle.record.specs.Layout.{Digest, recordWords}
 use Rattle.record.specs.Questions.{masksOk, strongOk, lacksLeader, timeoutsOk, noVotesOk, weakIdOk, rises, slotOk, weakOk, signerQuestions}
 use Rattle.record.specs.Questions.{recordQuestions}
 use Rattle.record.specs.Admitted.{Composed, ComposedLaw}
@@ -57,10 +58,14 @@ slot-free weak i h k =
 
 -- ---- of its body
 
-module _ (n round source strong timeouts noVotes tag : ℕ) (weak : List ℕ) where
+-- behind so many words stand those appended
+pub getD-append-size : (s t : List ℕ) (k i : ℕ) → length s ≡ k → getD (s ++ t) (k + i) 0 ≡ getD t i 0
+getD-append-size s t k i e = ap (λ (x : ℕ). getD (s ++ t) (x + i) 0) (sym e) ∙ getD-append-add s t i 0
+
+module _ (n round source strong timeouts noVotes : ℕ) (digest : Digest) (weak : List ℕ) where
   -- the record, and its body
   abbrev whole : List ℕ
-  whole = recordWords round source strong timeouts noVotes tag weak
+  whole = recordWords round source strong timeouts noVotes (digest .words) weak
 
   abbrev body : List ℕ
   body = bodyOf whole
@@ -77,13 +82,23 @@ module _ (n round source strong timeouts noVotes tag : ℕ) (weak : List ℕ) wh
   unfolding noVotesOf
   no-votes-is = refl
 
-  count-is : weakCountOf body ≡ length weak
+  pub count-is : weakCountOf body ≡ length weak
   unfolding weakCountOf
-  count-is = refl
+  count-is = getD-append-size (digest .words) (length weak ∷ slotsOf weak) digestSize 0 (digest .size)
+
+  -- the words before the slots, and the slots
+  abbrev front : List ℕ
+  front = strong ∷ timeouts ∷ noVotes ∷ (digest .words ++ length weak ∷ [])
+
+  in-two : body ≡ front ++ slotsOf weak
+  in-two = ap (λ (x : List ℕ). strong ∷ timeouts ∷ noVotes ∷ x) (sym (append-assoc (digest .words) (length weak ∷ []) (slotsOf weak)))
+
+  front-long : length front ≡ weakPlace
+  front-long = omega (arith, length-append (digest .words) (length weak ∷ []), digest .size)
 
   weak-is : (i : ℕ) → weakOf body i ≡ getD (slotsOf weak) i 0
   unfolding weakOf
-  weak-is i = getD-append-add (take weakPlace body) (slotsOf weak) i 0
+  weak-is i = ap (λ (x : List ℕ). getD x (weakPlace + i) 0) in-two ∙ getD-append-size front (slotsOf weak) weakPlace i front-long
 
   -- a slot that is used has its weak id
   pub weak-slot : (i : ℕ) → i < length weak → weakOf body i ≡ getD weak i 0
@@ -91,7 +106,7 @@ module _ (n round source strong timeouts noVotes tag : ℕ) (weak : List ℕ) wh
 
   module _ (c : Composed n round source strong timeouts noVotes weak) where
     long : length body ≡ bodySize
-    long = length-append (take weakPlace body) (slotsOf weak) ∙ ap (λ (k : ℕ). weakPlace + k) (slots-long weak (c .weak-fit))
+    long = omega (arith, ap length in-two, length-append front (slotsOf weak), front-long, slots-long weak (c .weak-fit))
 
     masks : masksOk n body ≡ true
     unfolding masksOk
@@ -137,12 +152,12 @@ module _ (n round source strong timeouts noVotes tag : ℕ) (weak : List ℕ) wh
 -- The law.
 pub composed : ComposedLaw
 unfolding recordQuestions signerQuestions
-composed n round source strong timeouts noVotes tag weak c =
-    let b : List ℕ = body n round source strong timeouts noVotes tag weak in
+composed n round source strong timeouts noVotes digest weak c =
+    let b : List ℕ = body n round source strong timeouts noVotes digest weak in
     ap numberOf (sym (known n round source b _ (c .placed .round-low) (c .placed .round-high) (c .placed .member-low)
-    (long n round source strong timeouts noVotes tag weak c)
-    (next _ _ (masks n round source strong timeouts noVotes tag weak c)
-    (next _ _ (ap (strongOk n round) (strong-is n round source strong timeouts noVotes tag weak) ∙ c .strong-enough)
-    (next _ _ (certificate n round source strong timeouts noVotes tag weak c)
-    (next _ _ (against n round source strong timeouts noVotes tag weak c)
-    (next _ _ (weaks n round source strong timeouts noVotes tag weak c) done)))))))
+    (long n round source strong timeouts noVotes digest weak c)
+    (next _ _ (masks n round source strong timeouts noVotes digest weak c)
+    (next _ _ (ap (strongOk n round) (strong-is n round source strong timeouts noVotes digest weak) ∙ c .strong-enough)
+    (next _ _ (certificate n round source strong timeouts noVotes digest weak c)
+    (next _ _ (against n round source strong timeouts noVotes digest weak c)
+    (next _ _ (weaks n round source strong timeouts noVotes digest weak c) done)))))))

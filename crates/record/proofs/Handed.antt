@@ -11,7 +11,7 @@ use lib.Pow.{pow-pos, pow-mono}
 use borrow.Author.Tests.{eqb-false, leb-true, le-leb}
 use Rattle.record.specs.Members.{quorum, meets}
 use Rattle.record.specs.Refusals.{numberOf, Question, firstNo}
-use Rattle.record.specs.Layout.{bodyOf, recordWords, strongOf, timeoutsOf, noVotesOf}
+use Rattle.record.specs.Layout.{bodyOf, strongOf, timeoutsOf, noVotesOf, tagged, recordWords}
 use Rattle.record.specs.Questions.{masksOk, strongOk, quorumIf, timeoutsOk, noVotesOk, weakOk, signerQuestions, recordQuestions, bodyRefusal}
 use Rattle.record.specs.Handed.{QuorumOf, handedStrong, handedIf, handedTimeouts, handedNoVotes, handedQuestions, handedRefusal}
 use Rattle.record.specs.Handed.{HandedLaw, OnlyQuorumLaw}
@@ -63,7 +63,7 @@ same-answer false false xs ys f g e = refl
 
 -- member 0's record of round 2 with the strong mask s and nothing else
 abbrev body : ℕ → List ℕ
-body s = bodyOf (recordWords 2 0 s 0 0 0 [])
+body s = bodyOf (recordWords 2 0 s 0 0 (tagged 0 .words) [])
 
 module _ (n q s : ℕ) (some : 0 < n) (small : s < 2 ^ n) where
   masks : masksOk n (body s) ≡ true

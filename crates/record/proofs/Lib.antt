@@ -7,4 +7,5 @@ pub mod Handed
 pub mod Parts
 pub mod Weak
 pub mod Composed
+pub mod Copying
 pub mod Claims

@@ -8,7 +8,7 @@ use lib.ListN.{length, getD}
 use Rattle.record.specs.Below.{count}
 use Rattle.record.specs.Members.{rounds, faulty, quorum, leader, has, idRound, idMember}
 use Rattle.record.specs.Refusals.{numberOf, numbered}
-use Rattle.record.specs.Layout.{bodySize, strongOf, timeoutsOf, noVotesOf, weakCountOf, weakOf, weakSlots, recordWords}
+use Rattle.record.specs.Layout.{bodySize, strongOf, timeoutsOf, noVotesOf, weakCountOf, weakOf, weakSlots, Digest, recordWords}
 use Rattle.record.specs.Questions.{signerQuestions, recordQuestions, signerRefusal, bodyRefusal, recordRefusal}
 use Rattle.record.specs.Questions.{strongOk, lacksLeader, quorumIf}
 use Rattle.record.specs.declared.refusal.Refusal.the-variants.{Weak}
@@ -65,10 +65,11 @@ SignerLaw = (n round signer : ℕ) → numberOf (signerRefusal n round signer) �
 abbrev pub AdmittedLaw : Type 0
 AdmittedLaw = (n round source : ℕ) (body : List ℕ) → numberOf (bodyRefusal n round source body) ≡ 0 → Admitted n round source body
 
--- and every record composed so has the number 0, whatever its tag
+-- and every record composed so has the number 0, whatever its digest
 abbrev pub ComposedLaw : Type 0
-ComposedLaw = (n round source strong timeouts noVotes tag : ℕ) (weak : List ℕ) → Composed n round source strong timeouts noVotes weak
-    → numberOf (recordRefusal n (recordWords round source strong timeouts noVotes tag weak)) ≡ 0
+ComposedLaw = (n round source strong timeouts noVotes : ℕ) (digest : Digest) (weak : List ℕ)
+    → Composed n round source strong timeouts noVotes weak
+    → numberOf (recordRefusal n (recordWords round source strong timeouts noVotes (digest .words) weak)) ≡ 0
 
 -- the number 0 is no question's
 abbrev pub NumberedLaw : Type 0

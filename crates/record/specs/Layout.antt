@@ -1,10 +1,8 @@
 -- The words of a record: round, source, and a body. Every size and place of them is written here.
+use mathlib.Core.Path.{_≡_, refl}
 use mathlib.Core.List.{List, _∷_, _++_}
 use Prim.Native.Nat.{ℕ, _+_, _-_}
-use lib.ListN.{length, getD, drop, replicate}
-
-abbrev pub recordSize : ℕ
-recordSize = 12
+use lib.ListN.{length, getD, take, drop, replicate}
 
 -- of a whole record
 abbrev pub roundPlace : ℕ
@@ -26,9 +24,6 @@ abbrev pub bodyOf : List ℕ → List ℕ
 bodyOf rec = drop bodyPlace rec
 
 -- of a body
-abbrev pub bodySize : ℕ
-bodySize = 10
-
 abbrev pub strongPlace : ℕ
 strongPlace = 0
 
@@ -38,17 +33,26 @@ timeoutsPlace = 1
 abbrev pub noVotesPlace : ℕ
 noVotesPlace = 2
 
-abbrev pub tagPlace : ℕ
-tagPlace = 3
+abbrev pub digestPlace : ℕ
+digestPlace = 3
+
+abbrev pub digestSize : ℕ
+digestSize = 8
 
 abbrev pub weakCountPlace : ℕ
-weakCountPlace = 4
+weakCountPlace = digestPlace + digestSize
 
 abbrev pub weakPlace : ℕ
-weakPlace = 5
+weakPlace = weakCountPlace + 1
 
 abbrev pub weakSlots : ℕ
 weakSlots = 5
+
+abbrev pub bodySize : ℕ
+bodySize = weakPlace + weakSlots
+
+abbrev pub recordSize : ℕ
+recordSize = bodyPlace + bodySize
 
 -- each is 0 of the empty body, which stands for no record
 -- the mask of the parents in the round before
@@ -63,9 +67,9 @@ timeoutsOf body = getD body timeoutsPlace 0
 unfoldable pub noVotesOf : List ℕ → ℕ
 noVotesOf body = getD body noVotesPlace 0
 
--- the host's block: any number
-unfoldable pub tagOf : List ℕ → ℕ
-tagOf body = getD body tagPlace 0
+-- the host's name for its block: any words
+unfoldable pub digestOf : List ℕ → List ℕ
+digestOf body = take digestSize (drop digestPlace body)
 
 -- how many weak ids are used
 unfoldable pub weakCountOf : List ℕ → ℕ
@@ -75,7 +79,16 @@ weakCountOf body = getD body weakCountPlace 0
 unfoldable pub weakOf : List ℕ → ℕ → ℕ
 weakOf body i = getD body (weakPlace + i) 0
 
--- a whole record: round, source, the three masks, the tag, and the weak ids in the first slots
-abbrev pub recordWords : ℕ → ℕ → ℕ → ℕ → ℕ → ℕ → List ℕ → List ℕ
-recordWords round source strong timeouts noVotes tag weak =
-    round ∷ source ∷ strong ∷ timeouts ∷ noVotes ∷ tag ∷ length weak ∷ (weak ++ replicate (weakSlots - length weak) 0)
+-- a digest that is handed over: its eight words
+pub record Digest : Type 0 where
+  pub words : List ℕ
+  pub size : length words ≡ digestSize
+
+-- the digest of 01's cases: a tag, and seven times 0
+abbrev pub tagged : ℕ → Digest
+tagged tag = record { words = tag ∷ replicate (digestSize - 1) 0; size = refl }
+
+-- a whole record: round, source, the three masks, the digest, and the weak ids in the first slots
+abbrev pub recordWords : ℕ → ℕ → ℕ → ℕ → ℕ → List ℕ → List ℕ → List ℕ
+recordWords round source strong timeouts noVotes digest weak =
+    round ∷ source ∷ strong ∷ timeouts ∷ noVotes ∷ (digest ++ length weak ∷ (weak ++ replicate (weakSlots - length weak) 0))

@@ -1,8 +1,6 @@
 // The words of a record: round, source, and a body. Every size and place of them is written here.
 ghost use mathlib.Core.Path.{_≡_};
 
-pub const RECORD_SIZE: usize = 12;
-
 // Of a whole record.
 pub const ROUND: usize = 0;
 
@@ -11,21 +9,25 @@ pub const SOURCE: usize = 1;
 pub const BODY: usize = 2;
 
 // Of a body.
-pub const BODY_SIZE: usize = 10;
-
 pub const STRONG: usize = 0;
 
 pub const TIMEOUTS: usize = 1;
 
 pub const NO_VOTES: usize = 2;
 
-pub const TAG: usize = 3;
+pub const DIGEST: usize = 3;
 
-pub const WEAK_COUNT: usize = 4;
+pub const DIGEST_SIZE: usize = 8;
 
-pub const WEAK: usize = 5;
+pub const WEAK_COUNT: usize = DIGEST + DIGEST_SIZE;
+
+pub const WEAK: usize = WEAK_COUNT + 1;
 
 pub const WEAK_SLOTS: usize = 5;
+
+pub const BODY_SIZE: usize = WEAK + WEAK_SLOTS;
+
+pub const RECORD_SIZE: usize = BODY + BODY_SIZE;
 
 // A word as a place or a count.
 pub fn wide(x: u32) -> usize

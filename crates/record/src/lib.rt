@@ -3,3 +3,4 @@ pub mod layout;
 pub mod members;
 pub mod questions;
 pub mod refusal;
+pub mod words;

@@ -1,10 +1,7 @@
 -- Where each word of the replica state (01: sheet) stands, and how many there are. Every size and place of them is written here.
 use Prim.Native.Nat.{ℕ, _+_, _-_, _*_}
-use Rattle.record.specs.Members.{slots}
+use Rattle.record.specs.Members.{rounds, slots}
 use Rattle.record.specs.Layout.{bodySize}
-
-abbrev pub stateSize : ℕ
-stateSize = 5864
 
 -- the head: words 0 to 7
 abbrev pub memberCountAt : ℕ
@@ -108,3 +105,7 @@ cellAt r p = cellsAt + bodySize * (slots * (r - 1) + p)
 
 abbrev pub roundSize : ℕ
 roundSize = bodySize * slots
+
+-- of the whole state
+abbrev pub stateSize : ℕ
+stateSize = cellsAt + roundSize * rounds

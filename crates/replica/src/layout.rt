@@ -6,9 +6,8 @@ ghost use Rattle.replica.specs.Layout.{masksAt, cellAt};
 use record::layout::BODY_SIZE;
 use record::layout::wide;
 use record::members::ID_LIMIT;
+use record::members::ROUNDS;
 use record::members::SLOTS;
-
-pub const STATE_SIZE: usize = 5864;
 
 // The head: words 0 to 7.
 pub const MEMBER_COUNT: usize = 0;
@@ -61,6 +60,9 @@ pub const JOURNAL_SIZE: usize = 512;
 pub const CELLS: usize = 744;
 
 pub const ROUND_SIZE: usize = BODY_SIZE * (SLOTS as usize);
+
+// Of the whole state.
+pub const STATE_SIZE: usize = CELLS + ROUND_SIZE * (ROUNDS as usize);
 
 pub fn masks_at(round: u32) -> usize
     requires { ⌜ (1 ≤ round) × (round ≤ rounds) ⌝ }

@@ -6,7 +6,7 @@ use Prim.Native.Nat.{ℕ}
 use native.Mathlib.Omega.{arith}
 use borrow.Author.Tests.{not-true}
 use Rattle.record.specs.Members.{add}
-use Rattle.record.specs.Layout.{roundOf, sourceOf, bodyOf}
+use Rattle.record.specs.Layout.{roundOf, sourceOf, bodyOf, Digest}
 use Rattle.replica.specs.Layout.{memberCountAt, ownAt, madeAt, signedAt}
 use Rattle.replica.specs.State.{memberCount, currentRound, ownWord, madeRounds, signedRounds}
 use Rattle.replica.proofs.Formed.{WellFormed}
@@ -28,7 +28,7 @@ pub record OwnKept (c : Call) (l k : List ℕ) : Type 0 where
   pub members : memberCount k ≡ memberCount l
   pub own : ownWord k ≡ ownWord l
   -- only making changes word 6, and only signing word 7
-  pub made : ((tag : ℕ) → c ≡ making tag → ⊥) → madeRounds k ≡ madeRounds l
+  pub made : ((digest : Digest) → c ≡ making digest → ⊥) → madeRounds k ≡ madeRounds l
   pub signed : (c ≡ signing → ⊥) → signedRounds k ≡ signedRounds l
   -- and no mark is lost
   pub made-more : (r : ℕ) → wasMade l r ≡ true → wasMade k r ≡ true
@@ -62,14 +62,14 @@ none-changed c l = all-kept c l l (keeps-refl Fixed l)
 
 module _ (l : List ℕ) (S : WellFormed l) where
   -- a record that is made
-  kept-made : (tag : ℕ) → OwnKept (making tag) l (markRound l madeAt (currentRound l))
-  kept-made tag =
+  kept-made : (digest : Digest) → OwnKept (making digest) l (markRound l madeAt (currentRound l))
+  kept-made digest =
       let at = mark-other l madeAt (currentRound l) in
       let signed : signedRounds (markRound l madeAt (currentRound l)) ≡ signedRounds l = at signedAt (λ e. omega arith) in
       record {
         members = at memberCountAt (λ e. omega arith);
         own = at ownAt (λ e. omega arith);
-        made = λ h. absurd (h tag refl);
+        made = λ h. absurd (h digest refl);
         signed = λ h. signed;
         made-more = gains (madeRounds l) _ (mark-here l madeAt (currentRound l) (omega (arith, S .size)));
         signed-more = stays signed;
@@ -105,5 +105,5 @@ module _ (l : List ℕ) (S : WellFormed l) where
   own-kept (askJournalList k) ok = none-changed (askJournalList k) l
   own-kept (handLeaderList k) ok = none-changed (handLeaderList k) l
   own-kept (handJournalList k) ok = none-changed (handJournalList k) l
-  own-kept (making tag) ok = outcome-words (OwnKept (making tag) l) _ l _ (none-changed (making tag) l) (λ e. kept-made tag)
+  own-kept (making digest) ok = outcome-words (OwnKept (making digest) l) _ l _ (none-changed (making digest) l) (λ e. kept-made digest)
   own-kept signing ok = outcome-words (OwnKept signing l) _ l _ (none-changed signing l) (λ e. kept-signed)

@@ -137,8 +137,8 @@ shortSpan first k size = spanIf (numberOf (shortList k size)) first k size
 unfoldable pub shortMaking : List ℕ → Refusal
 shortMaking l = firstNo ((isMember l, Watcher) ∷ makingQuestions l)
 
-unfoldable pub shortMade : List ℕ → ℕ → List ℕ
-shortMade l tag = cond (eqb (numberOf (shortMaking l)) 0) (madeRecord l tag) noRecord
+unfoldable pub shortMade : List ℕ → List ℕ → List ℕ
+shortMade l digest = cond (eqb (numberOf (shortMaking l)) 0) (madeRecord l digest) noRecord
 
 -- of signing
 unfoldable pub shortSigning : List ℕ → Refusal
@@ -174,7 +174,7 @@ shortOf (askLeaderList k) l = unchanged (shortList k (leaderCount l)) l
 shortOf (askJournalList k) l = unchanged (shortList k (journalCount l)) l
 shortOf (handLeaderList k) l = reading (shortSpan leadersAt k (leaderCount l) .number) l
 shortOf (handJournalList k) l = reading (shortSpan journalAt k (journalCount l) .number) l
-shortOf (making tag) l = outcome (shortMaking l) l (markRound l madeAt (currentRound l))
+shortOf (making digest) l = outcome (shortMaking l) l (markRound l madeAt (currentRound l))
 shortOf signing l = outcome (shortSigning l) l (putOwnNoVote l (signingRound l))
 
 -- and what is given beside them
@@ -191,7 +191,7 @@ shortGiven (askLeaderList k) l = nothing
 shortGiven (askJournalList k) l = nothing
 shortGiven (handLeaderList k) l = part (shortSpan leadersAt k (leaderCount l)) (wordsIn l (shortSpan leadersAt k (leaderCount l)))
 shortGiven (handJournalList k) l = part (shortSpan journalAt k (journalCount l)) (wordsIn l (shortSpan journalAt k (journalCount l)))
-shortGiven (making tag) l = made (shortMade l tag)
+shortGiven (making digest) l = made (shortMade l (digest .words))
 shortGiven signing l = nothing
 
 -- the number of a status is that of the questions of the state
@@ -272,13 +272,13 @@ module _ (l : List ℕ) (S : WellFormed l) where
   short-is (askJournalList k) = past-asking _
   short-is (handLeaderList k) = ap (λ (s : Span). reading (s .number) l) (past-handing leadersAt k (leaderCount l))
   short-is (handJournalList k) = ap (λ (s : Span). reading (s .number) l) (past-handing journalAt k (journalCount l))
-  short-is (making tag) = past _ _
+  short-is (making digest) = past _ _
   short-is signing = past _ _
 
   -- the record that is made
-  pub made-is : (tag : ℕ) → proposeVertex l tag .made ≡ shortMade l tag
+  pub made-is : (digest : List ℕ) → proposeVertex l digest .made ≡ shortMade l digest
   unfolding proposeVertex shortMade shortMaking
-  made-is tag = ap (λ (why : Refusal). cond (eqb (numberOf why) 0) (madeRecord l tag) noRecord) (sym (past-state l _ S))
+  made-is digest = ap (λ (why : Refusal). cond (eqb (numberOf why) 0) (madeRecord l digest) noRecord) (sym (past-state l _ S))
 
   -- and what is given
   pub given-is : (c : Call) → givenOf c l ≡ shortGiven c l
@@ -295,7 +295,7 @@ module _ (l : List ℕ) (S : WellFormed l) where
   given-is (askJournalList k) = refl
   given-is (handLeaderList k) = ap (λ (s : Span). part s (wordsIn l s)) (past-handing leadersAt k (leaderCount l))
   given-is (handJournalList k) = ap (λ (s : Span). part s (wordsIn l s)) (past-handing journalAt k (journalCount l))
-  given-is (making tag) = ap made (made-is tag)
+  given-is (making digest) = ap made (made-is (digest .words))
   given-is signing = refl
 
   -- a state that a call leaves well formed
@@ -324,7 +324,7 @@ module _ (l : List ℕ) (S : WellFormed l) where
   formed-after (askJournalList k) = S
   formed-after (handLeaderList k) = S
   formed-after (handJournalList k) = S
-  formed-after (making tag) = formed-kept _ (own-keeps l (S .size) (well-formed l S) .0 tag)
+  formed-after (making digest) = formed-kept _ (own-keeps l (S .size) (well-formed l S) .0 (digest .words))
   formed-after signing = formed-kept _ (own-keeps l (S .size) (well-formed l S) .1)
 
 -- a list of calls

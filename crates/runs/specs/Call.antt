@@ -5,6 +5,7 @@ use Prim.Native.Nat.{ℕ}
 use lib.Dec.{leb}
 use Rattle.record.specs.Members.{legal}
 use Rattle.record.specs.Refusals.{numberOf}
+use Rattle.record.specs.Layout.{Digest}
 use Rattle.replica.specs.Outcome.{Outcome}
 use Rattle.replica.specs.Opening.{openState}
 use Rattle.replica.specs.Status.{statusOf}
@@ -31,7 +32,7 @@ pub data Call : Type 0 where
   askJournalList : ℕ → Call
   handLeaderList : ℕ → Call
   handJournalList : ℕ → Call
-  making : ℕ → Call
+  making : Digest → Call
   signing : Call
 
 -- status and handing over answer a number and no id, add nothing, and are lent the words to read
@@ -52,7 +53,7 @@ outcomeOf (askLeaderList k) l = askLeaders l k
 outcomeOf (askJournalList k) l = askJournal l k
 outcomeOf (handLeaderList k) l = reading (handLeaders l k .number) l
 outcomeOf (handJournalList k) l = reading (handJournal l k .number) l
-outcomeOf (making tag) l = proposeVertex l tag .outcome
+outcomeOf (making digest) l = proposeVertex l (digest .words) .outcome
 outcomeOf signing l = signNoVote l
 
 -- what it gives beside its outcome: status the struct, handing over a part of the words l, as its span and its words, making the record, and a
@@ -77,7 +78,7 @@ givenOf (askLeaderList k) l = nothing
 givenOf (askJournalList k) l = nothing
 givenOf (handLeaderList k) l = part (handLeaders l k) (wordsIn l (handLeaders l k))
 givenOf (handJournalList k) l = part (handJournal l k) (wordsIn l (handJournal l k))
-givenOf (making tag) l = made (proposeVertex l tag .made)
+givenOf (making digest) l = made (proposeVertex l (digest .words) .made)
 givenOf signing l = nothing
 
 -- each call gets the words as the one before left them
@@ -99,7 +100,7 @@ allowed (askLeaderList k) = true
 allowed (askJournalList k) = true
 allowed (handLeaderList k) = true
 allowed (handJournalList k) = true
-allowed (making tag) = true
+allowed (making digest) = true
 allowed signing = true
 
 unfoldable pub allAllowed : List Call → Bool

@@ -26,6 +26,7 @@ use ordering::vertex::take_vertex;
 use pending::early::take_vertex_with;
 use proposing::making::propose;
 use proposing::signing::sign_no_vote;
+use record::layout::DIGEST_SIZE;
 use replica::layout::JOURNAL;
 use replica::layout::JOURNAL_COUNT;
 use replica::layout::LEADER_COUNT;
@@ -90,10 +91,10 @@ pub extern "C" fn yardbook_take_timeouts(state: &mut [u32], round: u32, mask: u3
 }
 
 #[no_mangle]
-pub extern "C" fn yardbook_propose(state: &mut [u32], tag: u32) -> Proposal
-    ensures { λ r. ⌜ proposed r (now (state .exit)) ≡ proposeVertex (now (state .entry)) tag ⌝ }
+pub extern "C" fn yardbook_propose(state: &mut [u32], digest: &[u32; DIGEST_SIZE]) -> Proposal
+    ensures { λ r. ⌜ proposed r (now (state .exit)) ≡ proposeVertex (now (state .entry)) (now (digest .entry)) ⌝ }
 {
-    plain_proposal(propose(state, tag))
+    plain_proposal(propose(state, digest))
 }
 
 #[no_mangle]

@@ -64,6 +64,7 @@ perform-spec =
     (λ c. search needs)
     slice-aggregate-set-3
     (λ c κs. search needs)
+    (λ c κs. search needs)
     (λ c. search needs)
     slice-aggregate-call
     (λ c. search needs)
@@ -71,6 +72,7 @@ perform-spec =
     (λ c. search needs)
     slice-aggregate-call-3
     (λ c κs. search needs)
+    (λ c. search needs)
     (λ c. search needs)
     (λ c. search needs)
     (λ c. search needs)

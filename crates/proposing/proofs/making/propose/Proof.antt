@@ -17,7 +17,7 @@ ready c =
     let s : tie.Start = search in
     let p : tie.After-check-propose = search in
     let x : tie.After-number = search in
-    propose-current (words s) (s .args .tag) _ (p .check-propose .ensures) _ (x .number .ensures) (c .if1 .left)
+    propose-current (words s) (s .args .digest .now) _ (p .check-propose .ensures) _ (x .number .ensures) (c .if1 .left)
 
 pub propose-spec : {M : Type 1} → statement M
 propose-spec =

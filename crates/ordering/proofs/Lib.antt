@@ -10,6 +10,7 @@ pub mod Carried
 pub mod Kept
 pub mod Own
 pub mod Reached
+pub mod Compared
 pub mod Counts
 pub mod Heard
 pub mod Taking

@@ -1,6 +1,6 @@
-// Runs seven groups of four members. A watcher follows the first six and prints for a call its number and the status, and at the
-// end the leader list and the journal: of the first four what sheetlog prints for the same calls; the fifth has bundles of
-// timeouts, and the sixth a buffer for vertices that come too early, for which sheetlog has no lines. The seventh is run by its
+// Runs eight groups of four members. A watcher follows the first seven and prints for a call its number and the status, and at the
+// end the leader list and the journal: of the first five what sheetlog prints for the same calls; the sixth has bundles of
+// timeouts, and the seventh a buffer for vertices that come too early, for which sheetlog has no lines. The eighth is run by its
 // four members, which propose and sign: it prints what they send, as lines of sheetlog's input, and at the end each member's lists.
 #include <stdbool.h>
 #include <stdio.h>
@@ -9,13 +9,20 @@
 
 #include "yardbook.h"
 
-enum { members = 4 };
+_Static_assert(YARDBOOK_RECORD_WORDS == 19 && YARDBOOK_STATE_WORDS == 9448 && YARDBOOK_BUFFER_WORDS == 609, "the documents' sizes");
+
+enum { members = 4, ids = YARDBOOK_MEMBERS * (YARDBOOK_ROUNDS + 1) };
+
+typedef struct {
+    uint32_t words[YARDBOOK_DIGEST_WORDS];
+} digest;
 
 static uint32_t state[YARDBOOK_STATE_WORDS];           // the watcher's
 static uint32_t buffer[YARDBOOK_BUFFER_WORDS];         // the watcher's vertices that wait for their parents
 static uint32_t singly[YARDBOOK_STATE_WORDS];          // another watcher's, which gets single timeouts in place of bundles
 static uint32_t ordered[YARDBOOK_STATE_WORDS];         // another watcher's, which gets all vertices in order
 static uint32_t states[members][YARDBOOK_STATE_WORDS]; // the members'
+static digest blocks[members][ids];                    // by id, the blocks of the vertices that each member has taken
 
 static void print_answer(yardbook_answer answer) {
     const yardbook_state_status s = yardbook_status(state, YARDBOOK_STATE_WORDS);
@@ -39,15 +46,15 @@ typedef struct {
     uint32_t words[YARDBOOK_RECORD_WORDS];
 } record;
 
-// A record without weak parents.
-static record record_of(uint32_t round, uint32_t source, uint32_t strong, uint32_t timeouts, uint32_t no_votes, uint32_t tag) {
+// A record without weak parents. Its digest is `block` and seven zeros.
+static record record_of(uint32_t round, uint32_t source, uint32_t strong, uint32_t timeouts, uint32_t no_votes, uint32_t block) {
     return (record){{
         [YARDBOOK_RECORD_ROUND] = round,
         [YARDBOOK_RECORD_SOURCE] = source,
         [YARDBOOK_RECORD_STRONG] = strong,
         [YARDBOOK_RECORD_TIMEOUTS] = timeouts,
         [YARDBOOK_RECORD_NO_VOTES] = no_votes,
-        [YARDBOOK_RECORD_TAG] = tag,
+        [YARDBOOK_RECORD_DIGEST] = block,
     }};
 }
 
@@ -139,6 +146,74 @@ static void must_hold(bool holds, const char *what) {
     exit(1);
 }
 
+typedef struct {
+    uint8_t at[YARDBOOK_DIGEST_BYTES];
+} digest_bytes;
+
+// Words from bytes, and back, whatever the machine's own byte order is.
+static digest from_bytes(digest_bytes bytes) {
+    digest d = {{0}};
+    for (uint32_t i = 0; i < YARDBOOK_DIGEST_BYTES; i++) d.words[i / 4] |= (uint32_t)bytes.at[i] << 8 * (i % 4);
+    return d;
+}
+
+static digest_bytes bytes_of(digest d) {
+    digest_bytes bytes;
+    for (uint32_t i = 0; i < YARDBOOK_DIGEST_BYTES; i++) bytes.at[i] = (uint8_t)(d.words[i / 4] >> 8 * (i % 4));
+    return bytes;
+}
+
+static digest digest_of(const uint32_t *record_words) {
+    digest d;
+    memcpy(d.words, record_words + YARDBOOK_RECORD_DIGEST, sizeof d.words);
+    return d;
+}
+
+static record with_digest(record r, digest d) {
+    memcpy(r.words + YARDBOOK_RECORD_DIGEST, d.words, sizeof d.words);
+    return r;
+}
+
+static digest_bytes with_other_end(digest_bytes bytes) {
+    bytes.at[YARDBOOK_DIGEST_BYTES - 1]++;
+    return bytes;
+}
+
+// The record of another block, whose digest differs in the last byte.
+static record with_other_block(record r) { return with_digest(r, from_bytes(with_other_end(bytes_of(digest_of(r.words))))); }
+
+static uint32_t id_of(uint32_t round, uint32_t member) { return YARDBOOK_MEMBERS * round + member; }
+
+// What stands for the hash of a vertex's block: the bytes id, id + 1, ..
+static digest_bytes block_bytes(uint32_t id) {
+    digest_bytes bytes;
+    for (uint32_t i = 0; i < YARDBOOK_DIGEST_BYTES; i++) bytes.at[i] = (uint8_t)(id + i);
+    return bytes;
+}
+
+static digest block_of(uint32_t round, uint32_t member) { return from_bytes(block_bytes(id_of(round, member))); }
+
+// The first byte of a word is its lowest, and another last byte changes the eighth word alone.
+static void check_bytes(void) {
+    digest d = {{0x03020100, 0x07060504, 0x0b0a0908, 0x0f0e0d0c, 0x13121110, 0x17161514, 0x1b1a1918, 0x1f1e1d1c}};
+    const digest_bytes bytes = block_bytes(0);
+    must_hold(memcmp(from_bytes(bytes).words, d.words, sizeof d.words) == 0, "the bytes' words");
+    must_hold(memcmp(bytes_of(d).at, bytes.at, sizeof bytes.at) == 0, "the words' bytes");
+    d.words[YARDBOOK_DIGEST_WORDS - 1] += 1u << 24;
+    must_hold(memcmp(from_bytes(with_other_end(bytes)).words, d.words, sizeof d.words) == 0, "another eighth word");
+}
+
+// A vertex with a digest in all eight words. The same one again is known already, and one whose digest differs in the last byte
+// conflicts with it.
+static void watch_digests(void) {
+    open_group(0);
+    const record r = with_digest(record_of(1, 3, 0, 0, 0, 0), block_of(1, 3));
+    vertex(r);
+    vertex(r);
+    vertex(with_other_block(r));
+    print_lists(state);
+}
+
 // Round 1 lacks its leader's vertex, and its timeouts come in bundles. Members 1 and 2, bundled, are no quorum. Member 2 alone
 // and the same bundle again are known then, and a bundle with member 4, which is none of the group, is refused as a whole. The
 // last bundle has members 1 and 2 once more, and with member 3 the watcher is in round 2. Single timeouts of the three end in the
@@ -170,15 +245,15 @@ static void take_in_order(uint32_t rounds) {
 }
 
 // Three full rounds. The vertex of round 1's leader is the last to arrive: until then those of rounds 2 and 3, which come the wrong
-// way round, wait in the buffer. One of these again is known already, and another of its round and source conflicts with it. A
-// damaged buffer is refused. The leader's vertex brings all that waits into the state, and two rounds are committed. In order, the
-// same vertices end in the same words.
+// way round, wait in the buffer. One of these again is known already, and one whose digest differs in the last byte conflicts with
+// it. A damaged buffer is refused. The leader's vertex brings all that waits into the state, and two rounds are committed. In order,
+// the same vertices end in the same words.
 static void watch_pending(void) {
     open_group(1);
     memset(buffer, 0, sizeof buffer);
     for (uint32_t p = members; p-- != 0;) early_vertex(full_record(3, p));
     early_vertex(full_record(3, 0));
-    early_vertex(record_of(3, 0, 15, 0, 0, 99));
+    early_vertex(with_other_block(full_record(3, 0)));
     for (uint32_t p = members; p-- != 0;) early_vertex(full_record(2, p));
     buffer[0]++;
     early_vertex(full_record(1, 0));
@@ -234,19 +309,22 @@ static uint32_t current_round(uint32_t member) {
     return yardbook_status(states[member], YARDBOOK_STATE_WORDS).current_round;
 }
 
-// The member's record for its current round, not yet sent.
-static yardbook_proposal propose(uint32_t member, uint32_t tag) {
-    const yardbook_proposal made = yardbook_propose(states[member], YARDBOOK_STATE_WORDS, tag);
+// The member's record for the round, its current one, not yet sent.
+static yardbook_proposal propose(uint32_t round, uint32_t member) {
+    const digest block = block_of(round, member);
+    const yardbook_proposal made = yardbook_propose(states[member], YARDBOOK_STATE_WORDS, block.words);
     must(made.answer);
     return made;
 }
 
-// Sends a made record: everyone takes it, its maker too, as first message and once it is delivered.
+// Sends a made record: everyone takes it, its maker too, as first message and once it is delivered, and keeps its digest.
 static void send_record(yardbook_proposal made) {
     print_words('V', made.record, YARDBOOK_RECORD_WORDS);
+    const uint32_t id = id_of(made.record[YARDBOOK_RECORD_ROUND], made.record[YARDBOOK_RECORD_SOURCE]);
     for (uint32_t p = 0; p < members; p++) {
         must(yardbook_take_first_message(states[p], YARDBOOK_STATE_WORDS, made.record, YARDBOOK_RECORD_WORDS));
         must(yardbook_take_vertex(states[p], YARDBOOK_STATE_WORDS, made.record, YARDBOOK_RECORD_WORDS));
+        blocks[p][id] = digest_of(made.record);
     }
 }
 
@@ -277,14 +355,14 @@ static void send_no_vote(uint32_t round, uint32_t signer) {
 // Member 1 has no timeout for round 3 but its own and is still in it. It has made that round's record and can make no other.
 static void check_left_behind(void) {
     for (uint32_t p = 0; p < members; p++) must_hold(current_round(p) == (p == 1 ? 3 : 4), "all but member 1 are in round 4");
-    const yardbook_proposal none = yardbook_propose(states[1], YARDBOOK_STATE_WORDS, 41);
+    const yardbook_proposal none = yardbook_propose(states[1], YARDBOOK_STATE_WORDS, block_of(4, 1).words);
     must_hold(none.answer.number == YARDBOOK_REFUSED_DUPLICATE, "member 1 can make no record for round 4");
 }
 
 // A round of everyone's records. All are made before the first is sent: the leader's and two others end the round.
 static void run_round(uint32_t round) {
     yardbook_proposal made[members];
-    for (uint32_t p = 0; p < members; p++) made[p] = propose(p, 10 * round + p);
+    for (uint32_t p = 0; p < members; p++) made[p] = propose(round, p);
     for (uint32_t p = 0; p < members; p++) send_record(made[p]);
 }
 
@@ -292,8 +370,8 @@ static void run_round(uint32_t round) {
 // a bundle, and sign no-votes.
 static yardbook_proposal run_round_3(void) {
     static const uint32_t others[] = {0, 1, 3};
-    const yardbook_proposal late = propose(2, 32);
-    for (int i = 0; i < 3; i++) send_record(propose(others[i], 30 + others[i]));
+    const yardbook_proposal late = propose(3, 2);
+    for (int i = 0; i < 3; i++) send_record(propose(3, others[i]));
     for (int i = 0; i < 3; i++) send_timeout(3, others[i]);
     hand_bundle(3, 11);
     send_no_vote(3, 0);
@@ -305,15 +383,25 @@ static yardbook_proposal run_round_3(void) {
 // and goes on like the others. The leader, member 3, is last, so the round does not end before all have made their records.
 static void run_round_4(void) {
     check_left_behind();
-    const yardbook_proposal first = propose(0, 40);
+    const yardbook_proposal first = propose(4, 0);
     send_record(first);
     must_hold(current_round(1) == 4, "the first vertex of round 4 brings member 1 into it");
     send_no_vote(3, 1);
     for (uint32_t p = 1; p < members; p++) {
-        const yardbook_proposal made = propose(p, 40 + p);
+        const yardbook_proposal made = propose(4, p);
         must_hold(made.record[YARDBOOK_RECORD_TIMEOUTS] == first.record[YARDBOOK_RECORD_TIMEOUTS],
                   "all of round 4 carry the certificate");
         send_record(made);
+    }
+}
+
+// The journal has ids. Which blocks these are, the member reads from the records that it has taken.
+static void check_blocks(uint32_t member) {
+    const yardbook_part journal = yardbook_hand_journal(states[member], YARDBOOK_STATE_WORDS, 0);
+    for (uint32_t i = 0; i < journal.length; i++) {
+        const uint32_t id = states[member][journal.start + i];
+        const digest_bytes taken = bytes_of(blocks[member][id]), sent = block_bytes(id);
+        must_hold(memcmp(taken.at, sent.at, sizeof sent.at) == 0, "a journal entry's digest is that of its block");
     }
 }
 
@@ -329,14 +417,19 @@ static void run_members(void) {
     send_record(late);
     run_round(5);
     run_round(6);
-    for (uint32_t p = 0; p < members; p++) print_lists(states[p]);
+    for (uint32_t p = 0; p < members; p++) {
+        print_lists(states[p]);
+        check_blocks(p);
+    }
 }
 
 int main(void) {
+    check_bytes();
     watch_sample();
     watch_two_leaders();
     watch_sightings();
     watch_carried();
+    watch_digests();
     watch_bundle();
     watch_pending();
     take_in_any_order();

@@ -1,11 +1,12 @@
-// Runs seven groups of four members. A watcher follows the first six and prints for a call its number and the status, and at the
-// end the leader list and the journal: of the first four what sheetlog prints for the same calls; the fifth has bundles of
-// timeouts, and the sixth a buffer for vertices that come too early, for which sheetlog has no lines. The seventh is run by its
+// Runs eight groups of four members. A watcher follows the first seven and prints for a call its number and the status, and at the
+// end the leader list and the journal: of the first five what sheetlog prints for the same calls; the sixth has bundles of
+// timeouts, and the seventh a buffer for vertices that come too early, for which sheetlog has no lines. The eighth is run by its
 // four members, which propose and sign: it prints what they send, as lines of sheetlog's input, and at the end each member's lists.
 #include <array>
 #include <cstdio>
 #include <cstdlib>
 #include <initializer_list>
+#include <map>
 #include <span>
 #include <vector>
 
@@ -26,11 +27,47 @@ void print_lists(const yardbook::State& state) {
     print('J', yardbook::hand_journal(state, 0).ids);
 }
 
-// A record without weak parents.
+// A record without weak parents. Its digest is `block` and seven zeros.
 yardbook::Record record(std::uint32_t round, std::uint32_t source, std::uint32_t strong, std::uint32_t timeouts,
-                        std::uint32_t no_votes, std::uint32_t tag) {
-    return {round, source, strong, timeouts, no_votes, tag};
+                        std::uint32_t no_votes, std::uint32_t block) {
+    return {round, source, strong, timeouts, no_votes, block};
 }
+
+using Bytes = std::array<std::uint8_t, yardbook::digest_bytes>;
+
+constexpr Bytes with_other_end(Bytes bytes) {
+    ++bytes.back();
+    return bytes;
+}
+
+// The record of another block, whose digest differs in the last byte.
+yardbook::Record with_other_block(yardbook::Record r) {
+    yardbook::put_digest(r, yardbook::Digest::from_bytes(with_other_end(yardbook::digest_of(r).bytes())));
+    return r;
+}
+
+constexpr std::uint32_t id_of(std::uint32_t round, std::uint32_t member) { return YARDBOOK_MEMBERS * round + member; }
+
+// What stands for the hash of a vertex's block: the bytes id, id + 1, ..
+constexpr Bytes block_bytes(std::uint32_t id) {
+    Bytes bytes{};
+    for (std::uint32_t i = 0; i < bytes.size(); ++i) bytes[i] = static_cast<std::uint8_t>(id + i);
+    return bytes;
+}
+
+constexpr yardbook::Digest block_of(std::uint32_t round, std::uint32_t member) {
+    return yardbook::Digest::from_bytes(block_bytes(id_of(round, member)));
+}
+
+// The first byte of a word is its lowest, and another last byte changes the eighth word alone.
+constexpr yardbook::Digest counted{
+    {0x03020100, 0x07060504, 0x0b0a0908, 0x0f0e0d0c, 0x13121110, 0x17161514, 0x1b1a1918, 0x1f1e1d1c}};
+static_assert(yardbook::Digest::from_bytes(block_bytes(0)) == counted && counted.bytes() == block_bytes(0));
+static_assert([] {
+    yardbook::Digest d = counted;
+    d.words.back() += 1u << 24;
+    return yardbook::Digest::from_bytes(with_other_end(block_bytes(0))) == d;
+}());
 
 class Watched {
 public:
@@ -119,6 +156,18 @@ void must_hold(bool holds, const char* what) {
     std::exit(1);
 }
 
+// A vertex with a digest in all eight words. The same one again is known already, and one whose digest differs in the last byte
+// conflicts with it.
+void watch_digests() {
+    Watched group(0);
+    yardbook::Record r = record(1, 3, 0, 0, 0, 0);
+    yardbook::put_digest(r, block_of(1, 3));
+    group.vertex(r);
+    group.vertex(r);
+    group.vertex(with_other_block(r));
+    group.print_lists();
+}
+
 // Round 1 lacks its leader's vertex, and its timeouts come in bundles. Members 1 and 2, bundled, are no quorum. Member 2 alone
 // and the same bundle again are known then, and a bundle with member 4, which is none of the group, is refused as a whole. The
 // last bundle has members 1 and 2 once more, and with member 3 the watcher is in round 2. Single timeouts of the three end in the
@@ -151,14 +200,14 @@ yardbook::State taken_in_order(std::uint32_t rounds) {
 }
 
 // Three full rounds. The vertex of round 1's leader is the last to arrive: until then those of rounds 2 and 3, which come the wrong
-// way round, wait in the buffer. One of these again is known already, and another of its round and source conflicts with it. A
-// damaged buffer is refused. The leader's vertex brings all that waits into the state, and two rounds are committed. In order, the
-// same vertices end in the same words.
+// way round, wait in the buffer. One of these again is known already, and one whose digest differs in the last byte conflicts with
+// it. A damaged buffer is refused. The leader's vertex brings all that waits into the state, and two rounds are committed. In order,
+// the same vertices end in the same words.
 void watch_pending() {
     Watched group(1);
     for (const std::uint32_t p : {3u, 2u, 1u, 0u}) group.early_vertex(full_record(3, p));
     group.early_vertex(full_record(3, 0));
-    group.early_vertex(record(3, 0, 15, 0, 0, 99));
+    group.early_vertex(with_other_block(full_record(3, 0)));
     for (const std::uint32_t p : {3u, 2u, 1u, 0u}) group.early_vertex(full_record(2, p));
     yardbook::Buffer damaged = group.buffer();
     ++damaged[0];
@@ -220,19 +269,21 @@ public:
 
     std::uint32_t current_round(std::uint32_t member) const { return yardbook::status(states_[member]).current_round; }
 
-    // The member's record for its current round, not yet sent.
-    yardbook::Record propose(std::uint32_t member, std::uint32_t tag) {
-        const yardbook::Proposal made = yardbook::propose(states_[member], tag);
+    // The member's record for the round, its current one, not yet sent.
+    yardbook::Record propose(std::uint32_t round, std::uint32_t member) {
+        const yardbook::Proposal made = yardbook::propose(states_[member], block_of(round, member));
         must(made.answer);
         return made.record;
     }
 
-    // Sends a made record: everyone takes it, its maker too, as first message and once it is delivered.
+    // Sends a made record: everyone takes it, its maker too, as first message and once it is delivered, and keeps its digest.
     void send_record(const yardbook::Record& made) {
         print('V', made);
-        for (yardbook::State& state : states_) {
-            must(yardbook::take_first_message(state, made));
-            must(yardbook::take_vertex(state, made));
+        const std::uint32_t id = id_of(made[YARDBOOK_RECORD_ROUND], made[YARDBOOK_RECORD_SOURCE]);
+        for (std::uint32_t p = 0; p < members; ++p) {
+            must(yardbook::take_first_message(states_[p], made));
+            must(yardbook::take_vertex(states_[p], made));
+            blocks_[p][id] = yardbook::digest_of(made);
         }
     }
 
@@ -258,7 +309,7 @@ public:
     void check_left_behind() {
         for (std::uint32_t p = 0; p < members; ++p)
             must_hold(current_round(p) == (p == 1 ? 3 : 4), "all but member 1 are in round 4");
-        const yardbook::Proposal none = yardbook::propose(states_[1], 41);
+        const yardbook::Proposal none = yardbook::propose(states_[1], block_of(4, 1));
         must_hold(none.answer.number == yardbook::Number::duplicate, "member 1 can make no record for round 4");
     }
 
@@ -266,22 +317,30 @@ public:
         for (const yardbook::State& state : states_) ::print_lists(state);
     }
 
+    // The journal has ids. Which blocks these are, a member reads from the records that it has taken.
+    void check_blocks() const {
+        for (std::uint32_t p = 0; p < members; ++p)
+            for (const std::uint32_t id : yardbook::hand_journal(states_[p], 0).ids)
+                must_hold(blocks_[p].at(id).bytes() == block_bytes(id), "a journal entry's digest is that of its block");
+    }
+
 private:
     std::array<yardbook::State, members> states_{};
+    std::array<std::map<std::uint32_t, yardbook::Digest>, members> blocks_;  // by id, of the vertices that each member has taken
 };
 
 // A round of everyone's records. All are made before the first is sent: the leader's and two others end the round.
 void run_round(Members& group, std::uint32_t round) {
     std::array<yardbook::Record, members> made;
-    for (std::uint32_t p = 0; p < members; ++p) made[p] = group.propose(p, 10 * round + p);
+    for (std::uint32_t p = 0; p < members; ++p) made[p] = group.propose(round, p);
     for (const yardbook::Record& r : made) group.send_record(r);
 }
 
 // Round 3 without its leader's record, which is returned. The others time out. Members 0 and 3 get all three timeouts, member 0 in
 // a bundle, and sign no-votes.
 yardbook::Record run_round_3(Members& group) {
-    const yardbook::Record late = group.propose(2, 32);
-    for (const std::uint32_t p : {0u, 1u, 3u}) group.send_record(group.propose(p, 30 + p));
+    const yardbook::Record late = group.propose(3, 2);
+    for (const std::uint32_t p : {0u, 1u, 3u}) group.send_record(group.propose(3, p));
     for (const std::uint32_t p : {0u, 1u, 3u}) group.send_timeout(3, p);
     group.hand_bundle(3, 11);
     group.send_no_vote(3, 0);
@@ -293,12 +352,12 @@ yardbook::Record run_round_3(Members& group) {
 // and goes on like the others. The leader, member 3, is last, so the round does not end before all have made their records.
 void run_round_4(Members& group) {
     group.check_left_behind();
-    const yardbook::Record first = group.propose(0, 40);
+    const yardbook::Record first = group.propose(4, 0);
     group.send_record(first);
     must_hold(group.current_round(1) == 4, "the first vertex of round 4 brings member 1 into it");
     group.send_no_vote(3, 1);
     for (std::uint32_t p = 1; p < members; ++p) {
-        const yardbook::Record made = group.propose(p, 40 + p);
+        const yardbook::Record made = group.propose(4, p);
         must_hold(made[YARDBOOK_RECORD_TIMEOUTS] == first[YARDBOOK_RECORD_TIMEOUTS], "all of round 4 carry the certificate");
         group.send_record(made);
     }
@@ -317,6 +376,7 @@ void run_members() {
     run_round(group, 5);
     run_round(group, 6);
     group.print_lists();
+    group.check_blocks();
 }
 
 }  // namespace
@@ -326,6 +386,7 @@ int main() {
     watch_two_leaders();
     watch_sightings();
     watch_carried();
+    watch_digests();
     watch_bundle();
     watch_pending();
     take_in_any_order();

@@ -108,7 +108,7 @@ done
 rt check sheetlog >"$out/rt" 2>&1 || { cat "$out/rt" >&2; exit 1; }
 
 # The groups that a watcher follows.
-for case in sample two_leaders sightings carried; do
+for case in sample two_leaders sightings carried digests; do
     cat "host/cases/$case.out" >&3
     target/bin/sheetlog <"host/cases/$case.in" >&4
     "$out/reference/release/sheetlog" <"host/cases/$case.in" >&5

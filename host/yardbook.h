@@ -7,9 +7,10 @@
  *
  * What the host owes for each pointer and its count of words:
  *   - the pointer is aligned to 4 bytes and has that many words behind it; with count 0 it may be null;
+ *   - that of a digest, which has no count, is aligned to 4 bytes, is never null and has YARDBOOK_DIGEST_WORDS words behind it;
  *   - a state that a call may change is used by no other call or thread meanwhile. Different states are independent;
  *     calls that take `const uint32_t *state` may run on one state at the same time;
- *   - the words of a record, of a pending buffer and of the state do not overlap.
+ *   - the words of a record, of a digest, of a pending buffer and of the state do not overlap.
  *
  * The host checks signatures before it hands over a record, a note or a bundle, those of the two certificates in a record too: the
  * library takes a mask of signers at its word.
@@ -34,30 +35,45 @@
 extern "C" {
 #endif
 
-#define YARDBOOK_VERSION "0.6.0"
+#define YARDBOOK_VERSION "0.7.0"
 
-/* Words of a replica state, of a record, and of a pending buffer. */
-#define YARDBOOK_STATE_WORDS 5864
-#define YARDBOOK_RECORD_WORDS 12
-#define YARDBOOK_BUFFER_WORDS 385
-
-/* A pending buffer is the count of its records, the records by rising id, at most YARDBOOK_BUFFER_SLOTS, and zeros. */
-#define YARDBOOK_BUFFER_SLOTS 32
-
-/* Rounds go from 1 to YARDBOOK_ROUNDS. A vertex id is 16 * round + member. */
+/* Rounds go from 1 to YARDBOOK_ROUNDS, and a group has at most YARDBOOK_MEMBERS members. A vertex id is 16 * round + member. */
 #define YARDBOOK_ROUNDS 32
+#define YARDBOOK_MEMBERS 16
+
+/*
+ * A digest is the host's name for its block: 32 bytes as eight words; any words. Word i has the bytes 4i to 4i + 3, the first of them
+ * the lowest (little-endian). Every member of a group must use the same order, since records are compared word by word.
+ */
+#define YARDBOOK_DIGEST_WORDS 8
+#define YARDBOOK_DIGEST_BYTES (4 * YARDBOOK_DIGEST_WORDS)
+
+/* A record has room for so many weak ids. */
+#define YARDBOOK_WEAK_SLOTS 5
 
 /* The words of a record. A mask has bit p set for member p. */
 enum {
     YARDBOOK_RECORD_ROUND = 0,
     YARDBOOK_RECORD_SOURCE = 1,
-    YARDBOOK_RECORD_STRONG = 2,     /* mask of the parents in the round before */
-    YARDBOOK_RECORD_TIMEOUTS = 3,   /* mask of the signers of a timeout certificate for the round before */
-    YARDBOOK_RECORD_NO_VOTES = 4,   /* mask of the signers of a no-vote certificate for the round before */
-    YARDBOOK_RECORD_TAG = 5,        /* any number: the host's block */
-    YARDBOOK_RECORD_WEAK_COUNT = 6,
-    YARDBOOK_RECORD_WEAK = 7        /* five ids, rising; those beyond the count are 0 */
+    YARDBOOK_RECORD_STRONG = 2,   /* mask of the parents in the round before */
+    YARDBOOK_RECORD_TIMEOUTS = 3, /* mask of the signers of a timeout certificate for the round before */
+    YARDBOOK_RECORD_NO_VOTES = 4, /* mask of the signers of a no-vote certificate for the round before */
+    YARDBOOK_RECORD_DIGEST = 5,   /* YARDBOOK_DIGEST_WORDS words: the host's block */
+    YARDBOOK_RECORD_WEAK_COUNT = YARDBOOK_RECORD_DIGEST + YARDBOOK_DIGEST_WORDS,
+    YARDBOOK_RECORD_WEAK = YARDBOOK_RECORD_WEAK_COUNT + 1 /* YARDBOOK_WEAK_SLOTS ids, rising; those beyond the count are 0 */
 };
+
+/* Words of a record: 19. */
+#define YARDBOOK_RECORD_WORDS (YARDBOOK_RECORD_WEAK + YARDBOOK_WEAK_SLOTS)
+
+/* Words of a replica state: 9,448. From YARDBOOK_CELLS on, each round and member has a cell: a record but for round and source. */
+#define YARDBOOK_CELLS 744
+#define YARDBOOK_CELL_WORDS (YARDBOOK_RECORD_WORDS - YARDBOOK_RECORD_STRONG)
+#define YARDBOOK_STATE_WORDS (YARDBOOK_CELLS + YARDBOOK_ROUNDS * YARDBOOK_MEMBERS * YARDBOOK_CELL_WORDS)
+
+/* Words of a pending buffer: 609. It is the count of its records, at most YARDBOOK_BUFFER_SLOTS, these by rising id, and zeros. */
+#define YARDBOOK_BUFFER_SLOTS 32
+#define YARDBOOK_BUFFER_WORDS (1 + YARDBOOK_BUFFER_SLOTS * YARDBOOK_RECORD_WORDS)
 
 /* What an answer's number says. */
 enum {
@@ -126,6 +142,8 @@ yardbook_answer yardbook_open(uint32_t *state, size_t state_words, uint32_t n, u
 
 /*
  * Takes a vertex that reliable broadcast has delivered. Asks 1 and 3 to 14.
+ * Of its round and source, the same vertex held is answered 12 and another one 13. The same one is the same in all words of its
+ * record, all eight of the digest included.
  * Writes the vertex to its cell. Its timeout mask joins the timeouts of the round before, and yardbook_take_timeout of such a
  * signer answers 12 from then on. The current round may rise, and is at least the vertex's round afterwards. Every round that has
  * become committable is committed: the leaders taken join the leader list, and their histories the journal. A round is committable
@@ -136,7 +154,7 @@ yardbook_answer yardbook_take_vertex(uint32_t *state, size_t state_words, const 
 
 /*
  * Takes a delivered vertex, parents first or not: one that comes too early waits in the pending buffer. Asks 1, 3, 19 and 4 to 13,
- * and, where a parent is not held, the buffer: 12 or 13 if it has a record of this round and source, the same one or another;
+ * and, where a parent is not held, the buffer: 12 or 13 if it has a record of this round and source, the same in all words or another;
  * 20 if it is full; else the record is put into it, and the answer is 14.
  * Admitted, the vertex is taken as by yardbook_take_vertex, and then the buffered records by rising id, each of which has its
  * parents by then or stays. Those taken, or held already in this or another form, leave. So one call may admit up to 33 vertices;
@@ -175,7 +193,7 @@ yardbook_answer yardbook_take_timeouts(uint32_t *state, size_t state_words, uint
 yardbook_answer yardbook_take_no_vote(uint32_t *state, size_t state_words, uint32_t round, uint32_t signer);
 
 /*
- * Makes the own member's record for the current round, with the host's tag. Asks 1, 3, 16, 5, 9, 10, 12 and 18, in this order.
+ * Makes the own member's record for the current round, with the host's digest. Asks 1, 3, 16, 5, 9, 10, 12 and 18, in this order.
  * Strong parents are all held vertices of the round before, less its leader's if a no-vote against it was signed here. Where the
  * record lacks that leader it carries the timeouts taken, alone or with a vertex, and if the own member leads the current round the
  * no-votes taken: 9 or 10 says that these are no quorum yet. Weak parents are the f lowest held vertices, two or more rounds down,
@@ -184,7 +202,7 @@ yardbook_answer yardbook_take_no_vote(uint32_t *state, size_t state_words, uint3
  * message, and hands it back itself like that of any other member, to yardbook_take_first_message and, delivered, to
  * yardbook_take_vertex.
  */
-yardbook_proposal yardbook_propose(uint32_t *state, size_t state_words, uint32_t tag);
+yardbook_proposal yardbook_propose(uint32_t *state, size_t state_words, const uint32_t digest[YARDBOOK_DIGEST_WORDS]);
 
 /*
  * Signs the own member's no-vote against the leader of the round before the current one. Asks 1, 3, 16, 17 and 12, in this order.

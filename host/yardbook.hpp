@@ -3,7 +3,9 @@
 #ifndef YARDBOOK_HPP
 #define YARDBOOK_HPP
 
+#include <algorithm>
 #include <array>
+#include <cstddef>
 #include <cstdint>
 #include <span>
 
@@ -13,6 +15,8 @@ namespace yardbook {
 
 inline constexpr std::size_t state_words = YARDBOOK_STATE_WORDS;
 inline constexpr std::size_t record_words = YARDBOOK_RECORD_WORDS;
+inline constexpr std::size_t digest_words = YARDBOOK_DIGEST_WORDS;
+inline constexpr std::size_t digest_bytes = YARDBOOK_DIGEST_BYTES;
 inline constexpr std::size_t buffer_words = YARDBOOK_BUFFER_WORDS;
 inline constexpr std::size_t buffer_slots = YARDBOOK_BUFFER_SLOTS;
 
@@ -21,6 +25,36 @@ using Record = std::array<std::uint32_t, record_words>;
 
 // Vertices that wait for their parents. It starts with zeros: `Buffer buffer{};`
 using Buffer = std::array<std::uint32_t, buffer_words>;
+
+// The host's name for its block: 32 bytes, and the eight words that a record has for them; any words. Word i has the bytes 4i to
+// 4i + 3, the first of them the lowest (little-endian), whatever the machine's own order is.
+struct Digest {
+    std::array<std::uint32_t, digest_words> words{};
+
+    [[nodiscard]] static constexpr Digest from_bytes(std::span<const std::uint8_t, digest_bytes> bytes) noexcept {
+        Digest digest;
+        for (std::size_t i = 0; i < digest_bytes; ++i) digest.words[i / 4] |= std::uint32_t{bytes[i]} << 8 * (i % 4);
+        return digest;
+    }
+
+    [[nodiscard]] constexpr std::array<std::uint8_t, digest_bytes> bytes() const noexcept {
+        std::array<std::uint8_t, digest_bytes> bytes{};
+        for (std::size_t i = 0; i < digest_bytes; ++i) bytes[i] = static_cast<std::uint8_t>(words[i / 4] >> 8 * (i % 4));
+        return bytes;
+    }
+
+    friend constexpr bool operator==(const Digest&, const Digest&) noexcept = default;
+};
+
+[[nodiscard]] constexpr Digest digest_of(std::span<const std::uint32_t, record_words> record) noexcept {
+    Digest digest;
+    std::copy_n(record.begin() + YARDBOOK_RECORD_DIGEST, digest_words, digest.words.begin());
+    return digest;
+}
+
+constexpr void put_digest(std::span<std::uint32_t, record_words> record, const Digest& digest) noexcept {
+    std::copy_n(digest.words.begin(), digest_words, record.begin() + YARDBOOK_RECORD_DIGEST);
+}
 
 enum class Number : std::uint32_t {
     ok = YARDBOOK_OK,
@@ -120,8 +154,8 @@ namespace detail {
     return detail::answer(yardbook_take_no_vote(state.data(), state.size(), round, signer));
 }
 
-[[nodiscard]] inline Proposal propose(std::span<std::uint32_t> state, std::uint32_t tag) noexcept {
-    const yardbook_proposal p = yardbook_propose(state.data(), state.size(), tag);
+[[nodiscard]] inline Proposal propose(std::span<std::uint32_t> state, const Digest& digest) noexcept {
+    const yardbook_proposal p = yardbook_propose(state.data(), state.size(), digest.words.data());
     return {detail::answer(p.answer), std::to_array(p.record)};
 }
 

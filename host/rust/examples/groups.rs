@@ -1,11 +1,13 @@
-//! Runs seven groups of four members. A watcher follows the first six and prints for a call its number and the status, and at the
-//! end the leader list and the journal: of the first four what sheetlog prints for the same calls; the fifth has bundles of
-//! timeouts, and the sixth a buffer for vertices that come too early, for which sheetlog has no lines. The seventh is run by its
+//! Runs eight groups of four members. A watcher follows the first seven and prints for a call its number and the status, and at the
+//! end the leader list and the journal: of the first five what sheetlog prints for the same calls; the sixth has bundles of
+//! timeouts, and the seventh a buffer for vertices that come too early, for which sheetlog has no lines. The eighth is run by its
 //! four members, which propose and sign: it prints what they send, as lines of sheetlog's input, and at the end each member's
 //! lists.
 
-use yardbook::record::TIMEOUTS;
-use yardbook::{number, Answer, BUFFER_WORDS, RECORD_WORDS, STATE_WORDS};
+use std::collections::BTreeMap;
+
+use yardbook::record::{ROUND, SOURCE, TIMEOUTS};
+use yardbook::{number, Answer, Digest, BUFFER_WORDS, DIGEST_BYTES, RECORD_WORDS, STATE_WORDS};
 
 const MEMBERS: usize = 4;
 
@@ -26,11 +28,61 @@ fn print_lists(state: &State) {
     print('J', yardbook::hand_journal(state, 0).ids);
 }
 
-/// A record without weak parents.
-fn record(round: u32, source: u32, strong: u32, timeouts: u32, no_votes: u32, tag: u32) -> Record {
-    [
-        round, source, strong, timeouts, no_votes, tag, 0, 0, 0, 0, 0, 0,
-    ]
+/// A record without weak parents. Its digest is `block` and seven zeros.
+fn record(
+    round: u32,
+    source: u32,
+    strong: u32,
+    timeouts: u32,
+    no_votes: u32,
+    block: u32,
+) -> Record {
+    let first = [round, source, strong, timeouts, no_votes, block];
+    let mut record = [0; RECORD_WORDS];
+    record[..first.len()].copy_from_slice(&first);
+    record
+}
+
+fn with_digest(mut record: Record, digest: Digest) -> Record {
+    digest.put_into(&mut record);
+    record
+}
+
+fn with_other_end(mut bytes: [u8; DIGEST_BYTES]) -> [u8; DIGEST_BYTES] {
+    bytes[DIGEST_BYTES - 1] += 1;
+    bytes
+}
+
+/// The record of another block, whose digest differs in the last byte.
+fn with_other_block(record: Record) -> Record {
+    let bytes = Digest::of_record(&record).to_bytes();
+    with_digest(record, with_other_end(bytes).into())
+}
+
+fn id_of(round: u32, member: u32) -> u32 {
+    yardbook::MEMBERS as u32 * round + member
+}
+
+/// What stands for the hash of a vertex's block: the bytes id, id + 1, ..
+fn block_bytes(id: u32) -> [u8; DIGEST_BYTES] {
+    std::array::from_fn(|i| (id as usize + i) as u8)
+}
+
+fn block_of(round: u32, member: u32) -> Digest {
+    Digest::from_bytes(&block_bytes(id_of(round, member)))
+}
+
+/// The first byte of a word is its lowest, and another last byte changes the eighth word alone.
+fn check_bytes() {
+    let mut digest = Digest([
+        0x03020100, 0x07060504, 0x0b0a0908, 0x0f0e0d0c, 0x13121110, 0x17161514, 0x1b1a1918,
+        0x1f1e1d1c,
+    ]);
+    let bytes = block_bytes(0);
+    assert_eq!(Digest::from_bytes(&bytes), digest);
+    assert_eq!(digest.to_bytes(), bytes);
+    digest.0[7] += 1 << 24;
+    assert_eq!(Digest::from(with_other_end(bytes)), digest);
 }
 
 struct Watched {
@@ -140,6 +192,17 @@ fn watch_carried() {
     print_lists(&group.state);
 }
 
+/// A vertex with a digest in all eight words. The same one again is known already, and one whose digest differs in the last byte
+/// conflicts with it.
+fn watch_digests() {
+    let mut group = Watched::opened(0);
+    let record = with_digest(record(1, 3, 0, 0, 0, 0), block_of(1, 3));
+    group.vertex(record);
+    group.vertex(record);
+    group.vertex(with_other_block(record));
+    print_lists(&group.state);
+}
+
 /// For calls that nothing can refuse here.
 fn must(answer: Answer) {
     assert_eq!(answer.number, number::OK);
@@ -196,16 +259,16 @@ fn taken_in_order(vertices: &[Record]) -> State {
 }
 
 /// Three full rounds. The vertex of round 1's leader is the last to arrive: until then those of rounds 2 and 3, which come the
-/// wrong way round, wait in the buffer. One of these again is known already, and another of its round and source conflicts with
-/// it. A damaged buffer is refused. The leader's vertex brings all that waits into the state, and two rounds are committed. In
-/// order, the same vertices end in the same words.
+/// wrong way round, wait in the buffer. One of these again is known already, and one whose digest differs in the last byte
+/// conflicts with it. A damaged buffer is refused. The leader's vertex brings all that waits into the state, and two rounds are
+/// committed. In order, the same vertices end in the same words.
 fn watch_pending() {
     let mut group = Watched::opened(1);
     for source in [3, 2, 1, 0] {
         group.early_vertex(full_record(3, source));
     }
     group.early_vertex(full_record(3, 0));
-    group.early_vertex(record(3, 0, 15, 0, 0, 99));
+    group.early_vertex(with_other_block(full_record(3, 0)));
     for source in [3, 2, 1, 0] {
         group.early_vertex(full_record(2, source));
     }
@@ -278,6 +341,8 @@ fn arrives(signer: u32, member: u32) -> bool {
 
 struct Members {
     states: [State; MEMBERS],
+    /// By id, the digests of the vertices that each member has taken.
+    blocks: [BTreeMap<u32, Digest>; MEMBERS],
 }
 
 impl Members {
@@ -286,26 +351,31 @@ impl Members {
         for (own, state) in (1..).zip(&mut states) {
             must(yardbook::open(state, MEMBERS as u32, own));
         }
-        Members { states }
+        Members {
+            states,
+            blocks: Default::default(),
+        }
     }
 
     fn current_round(&self, member: usize) -> u32 {
         yardbook::status(&self.states[member]).current_round
     }
 
-    /// The member's record for its current round, not yet sent.
-    fn propose(&mut self, member: usize, tag: u32) -> Record {
-        let made = yardbook::propose(&mut self.states[member], tag);
+    /// The member's record for the round, its current one, not yet sent.
+    fn propose(&mut self, round: u32, member: usize) -> Record {
+        let block = block_of(round, member as u32);
+        let made = yardbook::propose(&mut self.states[member], &block);
         must(made.answer);
         made.record
     }
 
-    /// Sends a made record: everyone takes it, its maker too, as first message and once it is delivered.
+    /// Sends a made record: everyone takes it, its maker too, as first message and once it is delivered, and keeps its digest.
     fn send_record(&mut self, made: &Record) {
         print('V', made);
-        for state in &mut self.states {
+        for (state, blocks) in self.states.iter_mut().zip(&mut self.blocks) {
             must(yardbook::take_first_message(state, made));
             must(yardbook::take_vertex(state, made));
+            blocks.insert(id_of(made[ROUND], made[SOURCE]), Digest::of_record(made));
         }
     }
 
@@ -344,17 +414,29 @@ impl Members {
                 "all but member 1 are in round 4",
             );
         }
-        let none = yardbook::propose(&mut self.states[1], 41);
+        let none = yardbook::propose(&mut self.states[1], &block_of(4, 1));
         must_hold(
             none.answer.number == number::DUPLICATE,
             "member 1 can make no record for round 4",
         );
     }
+
+    /// The journal has ids. Which blocks these are, a member reads from the records that it has taken.
+    fn check_blocks(&self) {
+        for (state, blocks) in self.states.iter().zip(&self.blocks) {
+            for id in yardbook::hand_journal(state, 0).ids {
+                must_hold(
+                    blocks[id].to_bytes() == block_bytes(*id),
+                    "a journal entry's digest is that of its block",
+                );
+            }
+        }
+    }
 }
 
 /// A round of everyone's records. All are made before the first is sent: the leader's and two others end the round.
 fn run_round(group: &mut Members, round: u32) {
-    let made: [Record; MEMBERS] = std::array::from_fn(|p| group.propose(p, 10 * round + p as u32));
+    let made: [Record; MEMBERS] = std::array::from_fn(|p| group.propose(round, p));
     for record in &made {
         group.send_record(record);
     }
@@ -363,9 +445,9 @@ fn run_round(group: &mut Members, round: u32) {
 /// Round 3 without its leader's record, which is returned. The others time out. Members 0 and 3 get all three timeouts, member 0 in
 /// a bundle, and sign no-votes.
 fn run_round_3(group: &mut Members) -> Record {
-    let late = group.propose(2, 32);
+    let late = group.propose(3, 2);
     for p in [0, 1, 3] {
-        let made = group.propose(p, 30 + p as u32);
+        let made = group.propose(3, p);
         group.send_record(&made);
     }
     for p in [0, 1, 3] {
@@ -381,7 +463,7 @@ fn run_round_3(group: &mut Members) -> Record {
 /// and goes on like the others. The leader, member 3, is last, so the round does not end before all have made their records.
 fn run_round_4(group: &mut Members) {
     group.check_left_behind();
-    let first = group.propose(0, 40);
+    let first = group.propose(4, 0);
     group.send_record(&first);
     must_hold(
         group.current_round(1) == 4,
@@ -389,7 +471,7 @@ fn run_round_4(group: &mut Members) {
     );
     group.send_no_vote(3, 1);
     for p in 1..MEMBERS {
-        let made = group.propose(p, 40 + p as u32);
+        let made = group.propose(4, p);
         must_hold(
             made[TIMEOUTS] == first[TIMEOUTS],
             "all of round 4 carry the certificate",
@@ -411,13 +493,16 @@ fn run_members() {
     run_round(&mut group, 5);
     run_round(&mut group, 6);
     group.states.iter().for_each(print_lists);
+    group.check_blocks();
 }
 
 fn main() {
+    check_bytes();
     watch_sample();
     watch_two_leaders();
     watch_sightings();
     watch_carried();
+    watch_digests();
     watch_bundle();
     watch_pending();
     take_in_any_order();

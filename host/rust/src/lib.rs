@@ -4,17 +4,20 @@
 
 #![no_std]
 
-/// Words of a replica state.
-pub const STATE_WORDS: usize = 5864;
+use core::ops::Range;
 
-/// Words of a record.
-pub const RECORD_WORDS: usize = 12;
+/// Rounds go from 1 to `ROUNDS`.
+pub const ROUNDS: usize = 32;
 
-/// Words of a pending buffer: the count of its records, the records by rising id, and zeros.
-pub const BUFFER_WORDS: usize = 385;
+/// A group has at most `MEMBERS` members. A vertex id is 16 * round + member.
+pub const MEMBERS: usize = 16;
 
-/// Records that a pending buffer has room for.
-pub const BUFFER_SLOTS: usize = 32;
+/// Words and bytes of a digest.
+pub const DIGEST_WORDS: usize = 8;
+pub const DIGEST_BYTES: usize = 4 * DIGEST_WORDS;
+
+/// Weak ids that a record has room for.
+pub const WEAK_SLOTS: usize = 5;
 
 /// The words of a record. A mask has bit p set for member p.
 pub mod record {
@@ -23,10 +26,28 @@ pub mod record {
     pub const STRONG: usize = 2;
     pub const TIMEOUTS: usize = 3;
     pub const NO_VOTES: usize = 4;
-    pub const TAG: usize = 5;
-    pub const WEAK_COUNT: usize = 6;
-    pub const WEAK: usize = 7;
+    pub const DIGEST: usize = 5;
+    pub const WEAK_COUNT: usize = DIGEST + super::DIGEST_WORDS;
+    pub const WEAK: usize = WEAK_COUNT + 1;
 }
+
+/// Words of a record.
+pub const RECORD_WORDS: usize = record::WEAK + WEAK_SLOTS;
+
+/// Where a replica state's cells start. Each round and member has one: a record but for round and source.
+const CELLS: usize = 744;
+const CELL_WORDS: usize = RECORD_WORDS - record::STRONG;
+
+/// Words of a replica state.
+pub const STATE_WORDS: usize = CELLS + ROUNDS * MEMBERS * CELL_WORDS;
+
+/// Records that a pending buffer has room for.
+pub const BUFFER_SLOTS: usize = 32;
+
+/// Words of a pending buffer: the count of its records, the records by rising id, and zeros.
+pub const BUFFER_WORDS: usize = 1 + BUFFER_SLOTS * RECORD_WORDS;
+
+const _: () = assert!(RECORD_WORDS == 19 && STATE_WORDS == 9448 && BUFFER_WORDS == 609);
 
 /// What an answer's number says.
 pub mod number {
@@ -62,6 +83,58 @@ pub struct Answer {
     pub leaders: u32,
     pub journal: u32,
 }
+
+/// The host's name for its block: 32 bytes, as the eight words that a record has for them; any words. Word i has the bytes 4i to
+/// 4i + 3, the first of them the lowest (little-endian), whatever the machine's own order is.
+#[derive(Clone, Copy, Debug, Default, PartialEq, Eq, Hash)]
+pub struct Digest(pub [u32; DIGEST_WORDS]);
+
+impl Digest {
+    /// Four bytes to a word, the first of them the lowest.
+    #[must_use]
+    pub const fn from_bytes(bytes: &[u8; DIGEST_BYTES]) -> Digest {
+        let mut words = [0; DIGEST_WORDS];
+        let mut i = 0;
+        while i < DIGEST_BYTES {
+            words[i / 4] |= (bytes[i] as u32) << (8 * (i % 4));
+            i += 1;
+        }
+        Digest(words)
+    }
+
+    /// The bytes that `from_bytes` has it from.
+    #[must_use]
+    pub const fn to_bytes(&self) -> [u8; DIGEST_BYTES] {
+        let mut bytes = [0; DIGEST_BYTES];
+        let mut i = 0;
+        while i < DIGEST_BYTES {
+            bytes[i] = (self.0[i / 4] >> (8 * (i % 4))) as u8;
+            i += 1;
+        }
+        bytes
+    }
+
+    /// The digest in a record.
+    #[must_use]
+    pub fn of_record(record: &[u32; RECORD_WORDS]) -> Digest {
+        let mut digest = Digest::default();
+        digest.0.copy_from_slice(&record[DIGEST_IN_RECORD]);
+        digest
+    }
+
+    /// Puts the digest into a record.
+    pub fn put_into(&self, record: &mut [u32; RECORD_WORDS]) {
+        record[DIGEST_IN_RECORD].copy_from_slice(&self.0);
+    }
+}
+
+impl From<[u8; DIGEST_BYTES]> for Digest {
+    fn from(bytes: [u8; DIGEST_BYTES]) -> Digest {
+        Digest::from_bytes(&bytes)
+    }
+}
+
+const DIGEST_IN_RECORD: Range<usize> = record::DIGEST..record::WEAK_COUNT;
 
 /// A made record; all 0 where the answer's number is not 0.
 #[repr(C)]
@@ -138,7 +211,7 @@ mod c {
             round: u32,
             signer: u32,
         ) -> Answer;
-        pub fn yardbook_propose(state: *mut u32, words: usize, tag: u32) -> Proposal;
+        pub fn yardbook_propose(state: *mut u32, words: usize, digest: *const u32) -> Proposal;
         pub fn yardbook_sign_no_vote(state: *mut u32, words: usize) -> Answer;
         pub fn yardbook_status(state: *const u32, words: usize) -> Status;
         pub fn yardbook_ask_leaders(state: *const u32, words: usize, k: u32) -> Answer;
@@ -148,8 +221,8 @@ mod c {
     }
 }
 
-// SAFETY, of every call below: a slice gives an aligned pointer with that many words behind it, a `&mut` one is used by nothing
-// else, and the slices of a call do not overlap. The calls are total and keep no pointer.
+// SAFETY, of every call below: a slice gives an aligned pointer with that many words behind it, and a digest one with its eight; a
+// `&mut` one is used by nothing else, and what a call is lent does not overlap. The calls are total and keep no pointer.
 
 /// Opens the state for a group of n members. `own` is the own member plus 1, or 0 for a watcher.
 #[must_use]
@@ -158,11 +231,17 @@ pub fn open(state: &mut [u32], n: u32, own: u32) -> Answer {
 }
 
 /// Takes a vertex that reliable broadcast has delivered. If it is admitted, its timeout mask joins the timeouts of the round
-/// before, and the current round is at least the vertex's round afterwards.
+/// before, and the current round is at least the vertex's round afterwards. It is a `DUPLICATE` where a vertex of its round and
+/// source is held that is the same in all words, all eight of the digest included, and a `CONFLICT` where another one is.
 #[must_use]
 pub fn take_vertex(state: &mut [u32], record: &[u32]) -> Answer {
     unsafe {
-        c::yardbook_take_vertex(state.as_mut_ptr(), state.len(), record.as_ptr(), record.len())
+        c::yardbook_take_vertex(
+            state.as_mut_ptr(),
+            state.len(),
+            record.as_ptr(),
+            record.len(),
+        )
     }
 }
 
@@ -215,11 +294,11 @@ pub fn take_no_vote(state: &mut [u32], round: u32, signer: u32) -> Answer {
     unsafe { c::yardbook_take_no_vote(state.as_mut_ptr(), state.len(), round, signer) }
 }
 
-/// Makes the own member's record for the current round, with the host's tag. The host sends it, and hands it back to
+/// Makes the own member's record for the current round, with the host's digest. The host sends it, and hands it back to
 /// `take_first_message` and `take_vertex` itself.
 #[must_use]
-pub fn propose(state: &mut [u32], tag: u32) -> Proposal {
-    unsafe { c::yardbook_propose(state.as_mut_ptr(), state.len(), tag) }
+pub fn propose(state: &mut [u32], digest: &Digest) -> Proposal {
+    unsafe { c::yardbook_propose(state.as_mut_ptr(), state.len(), digest.0.as_ptr()) }
 }
 
 /// Signs the own member's no-vote against the leader of the round before the current one. The host sends it to the others.

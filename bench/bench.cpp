@@ -441,7 +441,7 @@ int main(int argc, char** argv) {
                 "The words are warm: each timed call follows the same call by the same engine on the same words. "
                 "The cost of an empty call, %.0f ns with the timer, is taken off each. "
                 "A number after a call's name is the refusal that it answers; timeouts takes a bundle of all n members. "
-                "The buffer of vertex with buffer is empty where nothing else is said; with 12, 19 and 20 it is full, and with 14 "
+                "The buffer of vertex with buffer is empty where nothing else is said; with 12, 13, 19 and 20 it is full, and with 14 "
                 "the 31 others move.\n",
                 passes * times, passes * times / 8, timer / per_ns);
     print_stack();

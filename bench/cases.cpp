@@ -21,9 +21,43 @@ struct Random {
         seed = seed * 6364136223846793005u + 1442695040888963407u;
         return static_cast<u32>((seed >> 33) % bound);
     }
+    u32 word() {
+        const u32 high = below(1 << 16);
+        return high << 16 | below(1 << 16);
+    }
+    Digest digest() {
+        Digest words;
+        for (u32& each : words) each = word();
+        return words;
+    }
 };
 
-std::size_t mask_at(u32 round, plain::Mask kind) { return plain::masks_at + plain::kinds * (round - 1) + kind; }
+using plain::mask_at;
+
+void put_digest(Record& r, const Digest& digest) { std::copy(digest.begin(), digest.end(), r.begin() + YARDBOOK_RECORD_DIGEST); }
+
+// Words of all sorts: 0, all ones, one bit or any.
+Digest odd_digest(Random& random) {
+    Digest digest = random.digest();
+    for (u32& word : digest) {
+        const u32 sort = random.below(4);
+        if (sort == 0) word = 0;
+        if (sort == 1) word = ~0u;
+        if (sort == 2) word = 1u << random.below(32);
+    }
+    return digest;
+}
+
+// Half of them get another digest, which differs in one bit of any of its words.
+void change_digest(Random& random, Record& r) {
+    if (random.below(2) == 0) r[YARDBOOK_RECORD_DIGEST + random.below(YARDBOOK_DIGEST_WORDS)] ^= 1u << random.below(32);
+}
+
+// The record with another digest, which differs in the last word alone.
+Record with_other_end(Record r) {
+    r[YARDBOOK_RECORD_DIGEST + YARDBOOK_DIGEST_WORDS - 1] ^= 1u << 31;
+    return r;
+}
 
 // The buffer behind the state gets these records.
 void put_in_buffer(std::vector<u32>& state, const std::vector<Record>& records) {
@@ -72,29 +106,35 @@ struct Builder {
         return mask;
     }
 
+    // A record with these strong parents, a random digest and nothing else.
+    Record bare(u32 round, u32 source, u32 strong) {
+        Record r{round, source, strong};
+        put_digest(r, random.digest());
+        return r;
+    }
+
     // A record with random strong parents and, from round 3 on, random weak parents, up to `most_weak`. With `of_held` all parents
     // are held, and whether it votes depends also on which are.
     Record record(u32 round, u32 source, bool votes, bool of_held = false, u32 most_weak = 0) {
-        Record r{round, source};
-        r[5] = 1000 * round + source;
+        Record r = bare(round, source, 0);
         if (round == 1) return r;
         const u32 before = of_held ? held(round - 1) : all(), lead = 1u << leader(round - 1);
         if (of_held) votes = (before & lead) != 0 && (votes || static_cast<u32>(std::popcount(before & ~lead)) < quorum());
-        r[2] = votes ? thinned(before, lead) : thinned(before & ~lead, 0);
+        r[YARDBOOK_RECORD_STRONG] = votes ? thinned(before, lead) : thinned(before & ~lead, 0);
         if (!votes) {
-            r[3] = thinned(all(), 0);
-            if (source == leader(round)) r[4] = thinned(all(), 0);
+            r[YARDBOOK_RECORD_TIMEOUTS] = thinned(all(), 0);
+            if (source == leader(round)) r[YARDBOOK_RECORD_NO_VOTES] = thinned(all(), 0);
         }
         if (round < 3) return r;
         std::vector<u32> weak;
         for (u32 left = random.below(std::max(f(), most_weak) + 1); left != 0; --left) {
             const u32 back = 2 + random.below(std::min(3u, round - 2)), p = random.below(n);
-            if (!of_held || (held(round - back) >> p & 1) != 0) weak.push_back(16 * (round - back) + p);
+            if (!of_held || (held(round - back) >> p & 1) != 0) weak.push_back(plain::slots * (round - back) + p);
         }
         std::sort(weak.begin(), weak.end());
         weak.erase(std::unique(weak.begin(), weak.end()), weak.end());
-        r[6] = static_cast<u32>(weak.size());
-        std::copy(weak.begin(), weak.end(), r.begin() + 7);
+        r[YARDBOOK_RECORD_WEAK_COUNT] = static_cast<u32>(weak.size());
+        std::copy(weak.begin(), weak.end(), r.begin() + YARDBOOK_RECORD_WEAK);
         return r;
     }
 
@@ -110,14 +150,14 @@ struct Builder {
             for (u32 p = 0; p < n; ++p) {
                 if (round <= 2 && p + 1 == n) continue;
                 const u32 strong = round == 1 ? 0 : round <= 3 ? all() >> 1 : all();
-                must({Kind::vertex, Record{round, p, strong}});
+                must({Kind::vertex, bare(round, p, strong)});
             }
     }
 
     // So many records by rising id, from the round on, with all of the round before as strong parents.
-    std::vector<Record> full_records(u32 round, u32 number) const {
+    std::vector<Record> full_records(u32 round, u32 number) {
         std::vector<Record> records;
-        for (u32 i = 0; i < number; ++i) records.push_back({round + i / n, i % n, all()});
+        for (u32 i = 0; i < number; ++i) records.push_back(bare(round + i / n, i % n, all()));
         return records;
     }
 
@@ -125,16 +165,16 @@ struct Builder {
     void full_with_unreached(u32 rounds) {
         for (u32 round = 1; round <= rounds; ++round)
             for (u32 p = 0; p < n; ++p) {
-                Record r{round, p};
-                r[YARDBOOK_RECORD_STRONG] = round == 1 ? 0 : round % 6 == 0 ? all() & ~(1u << leader(round)) : all();
-                must({Kind::vertex, r});
+                const u32 strong = round == 1 ? 0 : round % 6 == 0 ? all() & ~(1u << leader(round)) : all();
+                must({Kind::vertex, bare(round, p, strong)});
             }
     }
 };
 
 // The own member's calls: on the watcher's state with full rounds, made a member's, and on others with as many rounds.
 std::vector<Case> own_cases(u32 n, u32 rounds, const std::vector<u32>& state) {
-    const Call propose{Kind::propose, {}, 7}, sign{Kind::sign_no_vote};
+    Builder full(n);
+    const Call propose{Kind::propose, {}, 0, 0, full.random.digest()}, sign{Kind::sign_no_vote};
     std::vector<Case> cases;
     auto add = [&](const char* name, const Builder& from, const Call& call, u32 number) {
         cases.push_back({name, n, rounds, from.state, call, number});
@@ -144,7 +184,6 @@ std::vector<Case> own_cases(u32 n, u32 rounds, const std::vector<u32>& state) {
         std::fprintf(stderr, "bench: n = %u, %u rounds: the made record is not of the round or kind meant\n", n, rounds);
         std::exit(1);
     };
-    Builder full(n);
     full.state = state;
     add("propose: 16", full, propose, 16);
     full.become_member();
@@ -202,12 +241,13 @@ std::vector<Case> buffer_cases(u32 n, u32 rounds, const std::vector<u32>& state,
     // The child comes before its parent, and goes before all that waits.
     Builder early(n);
     early.full_but_two(rounds);
-    const Record child{2, n - 1, early.all()};
+    const Record child = early.bare(2, n - 1, early.all());
     const std::vector<Record> others = early.full_records(3, most);
     put_in_buffer(early.state, {others.begin(), others.end() - 1});
     add("vertex with buffer: 14", early, child, 14);
     agreed({Kind::vertex_with, child}, early.state, false);
     add("vertex with buffer: 12", early, child, 12);
+    add("vertex with buffer: 13", early, with_other_end(child), 13);
     put_in_buffer(early.state, others);
     add("vertex with buffer: 20", early, child, 20);
     early.state.back() = 1;
@@ -266,9 +306,140 @@ void fill_at_random(Builder& b, Random& random, u32 top, std::vector<u32>& state
     }
     put_in_buffer(state, records);
     if (random.below(4) != 0) return;
-    const u32 used = 1 + YARDBOOK_RECORD_WORDS * static_cast<u32>(records.size());
+    const u32 used = plain::buffered_at + YARDBOOK_RECORD_WORDS * static_cast<u32>(records.size());
     state[buffer_at + random.below(random.below(2) == 0 ? used : YARDBOOK_BUFFER_WORDS)] ^= 1u << random.below(random.below(2) ? 32 : 6);
 }
+
+// A watcher's state becomes a member's: well formed, though calls need not lead there, with any rounds made and signed, any current
+// round and any notes before it.
+void make_member(Random& random, u32 n, std::vector<u32>& state) {
+    state[plain::own_at] = 1 + random.below(n);
+    for (const std::size_t at : {plain::made_at, plain::signed_at})
+        if (random.below(2) == 0) state[at] = random.word();
+    u32& current = state[plain::current_at];
+    if (random.below(2) == 0) current = random.below(4) == 0 ? plain::rounds + 1 : 1 + random.below(plain::rounds);
+    for (const plain::Mask kind : {plain::timeouts, plain::no_votes})
+        if (current > 1 && random.below(2) == 0)
+            state[mask_at(current - 1, kind)] = random.below(4) == 0 ? random.below(1 << n) : (1u << n) - 1;
+}
+
+// Changes up to two bits, more often in the words that stand first. Answers whether it did.
+bool damage(Random& random, std::vector<u32>& state) {
+    static constexpr std::array<u32, 6> ends{plain::masks_at, plain::leaders_at,   plain::journal_at,
+                                             plain::cells_at, 2 * plain::cells_at, YARDBOOK_STATE_WORDS};
+    const u32 times = random.below(3);
+    for (u32 k = 0; k < times; ++k)
+        state[random.below(ends[random.below(ends.size())])] ^= 1u << random.below(random.below(2) ? 32 : 10);
+    return times != 0;
+}
+
+// A record of rounds up to `top`: any, one with a changed word, or one that is held, as it is or with another digest.
+Record draw_record(Builder& b, Random& random, u32 top, const std::vector<u32>& state) {
+    const u32 most_weak = random.below(4) == 0 ? YARDBOOK_WEAK_SLOTS : 0;
+    Record r = b.record(1 + random.below(top), random.below(b.n), random.below(4) != 0, false, most_weak);
+    if (random.below(2) == 0) put_digest(r, odd_digest(random));
+    const u32 round = r[plain::round_at], source = r[plain::source_at];
+    if (random.below(3) == 0) {
+        r[random.below(YARDBOOK_RECORD_WORDS)] ^= 1u << random.below(20);
+    } else if (random.below(3) == 0 && (state[mask_at(round, plain::held)] >> source & 1) != 0) {
+        std::copy_n(&state[plain::cell_at(round, source)], plain::body_words, &r[plain::body_at]);
+        change_digest(random, r);
+    }
+    return r;
+}
+
+// Any call, good or bad. One with a buffer may be lent another, and have a record that waits there, as it is or with another digest.
+Call draw_call(Builder& b, Random& random, std::vector<u32>& state) {
+    Call call{random.below(4) == 0 ? Kind::vertex_with : static_cast<Kind>(random.below(call_kinds))};
+    const u32 top = std::min(plain::rounds, state[plain::current_at] % 64 + 1);
+    call.record = draw_record(b, random, top, state);
+    call.digest = odd_digest(random);
+    const bool bundle = call.kind == Kind::timeouts, note = bundle || call.kind == Kind::timeout || call.kind == Kind::no_vote;
+    call.a = random.below(call.kind == Kind::open ? 20 : note ? top + 2 : 40);
+    call.b = bundle ? bundle_mask(random, b.n) : random.below(b.n + 1);
+    if (call.kind != Kind::vertex_with || random.below(4) == 0) return call;
+    fill_at_random(b, random, std::min(plain::rounds, top + 3), state);
+    const u32 waiting = state[buffer_at + plain::buffer_count_at];
+    if (waiting - 1 < YARDBOOK_BUFFER_SLOTS && random.below(4) == 0) {
+        const std::size_t at = buffer_at + plain::buffered_at + YARDBOOK_RECORD_WORDS * random.below(waiting);
+        std::copy_n(&state[at], call.record.size(), call.record.begin());
+        change_digest(random, call.record);
+    }
+    return call;
+}
+
+// A state that grows at random, with all that may reach it.
+struct Growing {
+    Builder b;
+    Random& random;
+    bool all;       // the engines, the second implementation too
+    bool buffered;  // vertices are taken with a buffer, whether their parents are held or not
+    u32 voters;     // of eight
+    std::vector<Call> late;
+
+    Growing(Random& its, u32 n, bool by_all, bool with_buffer)
+        : b(n), random(its), all(by_all), buffered(with_buffer), voters(1 + its.below(8)) {
+        b.random.seed = random.seed;
+        b.state[plain::own_at] = random.below(b.n + 1);
+    }
+
+    // The own member signs, proposes and takes what it made: on the state, or on a copy of it.
+    void be_member() {
+        std::vector<u32> copy = b.state;
+        std::vector<u32>& words = random.below(4) == 0 ? b.state : copy;
+        if (random.below(2) == 0) agreed({Kind::sign_no_vote}, words, all);
+        if (random.below(2) == 0) return;
+        const Said made = agreed({Kind::propose, {}, 0, 0, odd_digest(random)}, words, all);
+        if (made[0] != 0) return;
+        Call own{Kind::vertex};
+        std::copy_n(made.begin() + said_record_at, own.record.size(), own.record.begin());
+        agreed(own, words, all);
+    }
+
+    // One that finds the buffer full comes again.
+    void take(const Call& call) {
+        if (agreed(call, b.state, all)[0] == YARDBOOK_REFUSED_BUFFER_FULL) late.push_back(call);
+    }
+
+    // The last one, or all where there is a buffer.
+    void take_late() {
+        if (late.empty()) return;
+        const auto first = buffered ? late.begin() : late.end() - 1;
+        const std::vector<Call> arriving(first, late.end());
+        late.erase(first, late.end());
+        for (const Call& call : arriving) take(call);
+    }
+
+    // The member's vertex, at times its first message before, and at times once more or another with nearly its digest after.
+    void take_vertex(u32 round, u32 p, bool absent) {
+        Call call{buffered ? Kind::vertex_with : Kind::vertex, b.record(round, p, random.below(8) < voters, !buffered)};
+        if (random.below(2) == 0) put_digest(call.record, odd_digest(random));
+        if (random.below(4) == 0) agreed({Kind::first, call.record}, b.state, all);
+        if (absent) late.push_back(call);
+        else take(call);
+        if (random.below(8) != 0) return;
+        change_digest(random, call.record);
+        agreed(call, b.state, all);
+    }
+
+    void grow(u32 round) {
+        u32 absent = 0;
+        for (u32 k = random.below(b.f() + 1); k != 0; --k) absent |= 1u << random.below(b.n);
+        if (random.below(2) == 0) take_late();
+        for (u32 p = 0; p < b.n; ++p) {
+            take_vertex(round, p, (absent >> p & 1) != 0);
+            if (random.below(b.n) == 0) be_member();
+        }
+        if ((absent >> b.leader(round) & 1) == 0) return;
+        for (u32 p = 0; p < b.n; ++p) {
+            if (random.below(4) == 0) continue;
+            agreed(random_note(random, b.n, round, p), b.state, all);
+            if (random.below(4) == 0) be_member();
+        }
+    }
+};
+
+constexpr std::array<u32, 5> member_counts{4, 7, 10, 13, 16};
 
 }  // namespace
 
@@ -303,24 +474,21 @@ std::vector<Case> cases_of(u32 n, u32 rounds) {
     {
         b.must(vertex);
         add("vertex: 12", b.state, vertex, 12);
-        Call conflict = vertex;
-        ++conflict.record[5];
-        add("vertex: 13", b.state, conflict, 13);
+        add("vertex: 13", b.state, {Kind::vertex, with_other_end(vertex.record)}, 13);
         b.state = state;
     }
     if (next < YARDBOOK_ROUNDS) {
-        const Call missing{Kind::vertex, Record{next + 1, 0, b.all(), 0, 0, 7}};
-        add("vertex: 14", state, missing, 14);
+        add("vertex: 14", state, {Kind::vertex, b.bare(next + 1, 0, b.all())}, 14);
     } else {
         // Here the last full round lacks one vertex.
         Builder gap(n);
         gap.full(rounds - 1, n);
         for (u32 p = 0; p + 1 < n; ++p) gap.must({Kind::vertex, gap.record(rounds, p, true)});
-        add("vertex: 14", gap.state, {Kind::vertex, Record{next, 0, gap.all(), 0, 0, 7}}, 14);
+        add("vertex: 14", gap.state, {Kind::vertex, gap.bare(next, 0, gap.all())}, 14);
     }
     {
         Call narrow = vertex;
-        narrow.record[2] = 1u << n;
+        narrow.record[YARDBOOK_RECORD_STRONG] = 1u << n;
         add("vertex: 7", state, narrow, 7);
     }
     for (Case& c : buffer_cases(n, rounds, state, vertex.record)) cases.push_back(std::move(c));
@@ -358,83 +526,27 @@ std::vector<Case> cases_of(u32 n, u32 rounds) {
     damaged[state_words - 1] = 1;
     add("status: 3", damaged, {Kind::status}, 3);
     add("ask leaders", state, {Kind::ask_leaders}, 0);
-    add("ask leaders: 15", state, {Kind::ask_leaders, {}, 33, 0}, 15);
+    add("ask leaders: 15", state, {Kind::ask_leaders, {}, plain::leaders_size + 1}, 15);
     add("ask journal", state, {Kind::ask_journal}, 0);
-    add("ask journal: 15", state, {Kind::ask_journal, {}, 513, 0}, 15);
+    add("ask journal: 15", state, {Kind::ask_journal, {}, plain::journal_size + 1}, 15);
     add("hand leaders", state, {Kind::hand_leaders}, 0);
-    add("hand leaders: 15", state, {Kind::hand_leaders, {}, 33, 0}, 15);
+    add("hand leaders: 15", state, {Kind::hand_leaders, {}, plain::leaders_size + 1}, 15);
     add("hand journal", state, {Kind::hand_journal}, 0);
-    add("hand journal: 15", state, {Kind::hand_journal, {}, 513, 0}, 15);
+    add("hand journal: 15", state, {Kind::hand_journal, {}, plain::journal_size + 1}, 15);
     return cases;
 }
 
 void compare_grown(int states) {
     Random random{777};
     for (int i = 0; i < states; ++i) {
-        static constexpr std::array<u32, 5> member_counts{4, 7, 10, 13, 16};
-        Builder b(member_counts[random.below(5)]);
-        b.random.seed = random.seed;
-        b.state[plain::own_at] = random.below(b.n + 1);
-        const u32 voters = 1 + random.below(8);  // of eight
-        const bool all = i % 4 == 0;
-        // Vertices are taken with a buffer, whether their parents are held or not.
-        const bool buffered = i % 3 == 0;
-        // The own member signs, proposes and takes what it made: on the state, or on a copy of it.
-        auto be_member = [&] {
-            std::vector<u32> copy = b.state;
-            std::vector<u32>& words = random.below(4) == 0 ? b.state : copy;
-            if (random.below(2) == 0) agreed({Kind::sign_no_vote}, words, all);
-            if (random.below(2) == 0) return;
-            const Said made = agreed({Kind::propose, {}, random.below(1000)}, words, all);
-            if (made[0] != 0) return;
-            Call own{Kind::vertex};
-            std::copy_n(made.begin() + said_record_at, own.record.size(), own.record.begin());
-            agreed(own, words, all);
-        };
-        std::vector<Call> late;
-        // One that finds the buffer full comes again.
-        auto take = [&](const Call& call) {
-            if (agreed(call, b.state, all)[0] == 20) late.push_back(call);
-        };
-        for (u32 round = 1; round <= YARDBOOK_ROUNDS; ++round) {
-            u32 absent = 0;
-            for (u32 k = random.below(b.f() + 1); k != 0; --k) absent |= 1u << random.below(b.n);
-            if (!late.empty() && random.below(2) == 0) {
-                // The last one, or all where there is a buffer.
-                const auto first = buffered ? late.begin() : late.end() - 1;
-                const std::vector<Call> arriving(first, late.end());
-                late.erase(first, late.end());
-                for (const Call& call : arriving) take(call);
-            }
-            for (u32 p = 0; p < b.n; ++p) {
-                Call call{buffered ? Kind::vertex_with : Kind::vertex, b.record(round, p, random.below(8) < voters, !buffered)};
-                if (random.below(4) == 0) {
-                    Call first = call;
-                    first.kind = Kind::first;
-                    agreed(first, b.state, all);
-                }
-                if (absent >> p & 1) late.push_back(call);
-                else take(call);
-                if (random.below(8) == 0) {
-                    Call again = call;
-                    again.record[YARDBOOK_RECORD_TAG] += random.below(2);
-                    agreed(again, b.state, all);
-                }
-                if (random.below(b.n) == 0) be_member();
-            }
-            if ((absent >> b.leader(round) & 1) == 0) continue;
-            for (u32 p = 0; p < b.n; ++p) {
-                if (random.below(4) == 0) continue;
-                agreed(random_note(random, b.n, round, p), b.state, all);
-                if (random.below(4) == 0) be_member();
-            }
-        }
+        Growing growing(random, member_counts[random.below(member_counts.size())], i % 4 == 0, i % 3 == 0);
+        for (u32 round = 1; round <= plain::rounds; ++round) growing.grow(round);
     }
 }
 
 void compare_at_random(int calls) {
     Random random{12345};
-    for (const u32 n : {4u, 7u, 10u, 13u, 16u}) {
+    for (const u32 n : member_counts) {
         Builder b(n);
         b.full(n == 4 ? 20 : 6, n);
         Builder far(n);
@@ -444,43 +556,11 @@ void compare_at_random(int calls) {
             if (random.below(64) == 0) b.state = random.below(2) == 0 ? start : far.state;
             std::vector<u32> state = b.state;
             const bool member = random.below(2) == 0;
-            if (member) {
-                // Well formed, though calls need not lead there: any rounds made and signed, any current round, any notes before it.
-                state[plain::own_at] = 1 + random.below(n);
-                for (const std::size_t at : {plain::made_at, plain::signed_at})
-                    if (random.below(2) == 0) state[at] = random.below(1 << 16) << 16 | random.below(1 << 16);
-                u32& current = state[plain::current_at];
-                if (random.below(2) == 0) current = random.below(4) == 0 ? YARDBOOK_ROUNDS + 1 : 1 + random.below(YARDBOOK_ROUNDS);
-                for (const plain::Mask kind : {plain::timeouts, plain::no_votes})
-                    if (current > 1 && random.below(2) == 0)
-                        state[mask_at(current - 1, kind)] = random.below(4) == 0 ? random.below(1 << n) : b.all();
-            }
-            const u32 damage = random.below(3);
-            for (u32 k = 0; k < damage; ++k) {
-                static constexpr std::array<u32, 6> ends{plain::masks_at, plain::leaders_at,     plain::journal_at,
-                                                         plain::cells_at, 2 * plain::cells_at, YARDBOOK_STATE_WORDS};
-                state[random.below(ends[random.below(6)])] ^= 1u << random.below(random.below(2) ? 32 : 10);
-            }
-            Call call{random.below(4) == 0 ? Kind::vertex_with : static_cast<Kind>(random.below(call_kinds))};
-            const u32 top = std::min(32u, state[1] % 64 + 1);
-            const u32 most_weak = random.below(4) == 0 ? 5 : 0;
-            call.record = b.record(1 + random.below(top), random.below(n), random.below(4) != 0, false, most_weak);
-            if (random.below(3) == 0) call.record[random.below(YARDBOOK_RECORD_WORDS)] ^= 1u << random.below(20);
-            const bool bundle = call.kind == Kind::timeouts, note = bundle || call.kind == Kind::timeout || call.kind == Kind::no_vote;
-            call.a = random.below(call.kind == Kind::open ? 20 : note ? top + 2 : 40);
-            call.b = bundle ? bundle_mask(random, n) : random.below(n + 1);
-            if (call.kind == Kind::vertex_with && random.below(4) != 0) {
-                fill_at_random(b, random, std::min(32u, top + 3), state);
-                const u32 waiting = state[buffer_at + plain::buffer_count_at];
-                if (waiting - 1 < YARDBOOK_BUFFER_SLOTS && random.below(4) == 0) {
-                    const u32 at = plain::buffered_at + YARDBOOK_RECORD_WORDS * random.below(waiting);
-                    std::copy_n(state.begin() + buffer_at + at, call.record.size(), call.record.begin());
-                    call.record[YARDBOOK_RECORD_TAG] += random.below(2);
-                }
-            }
-            const bool keep = !member && damage == 0 && call.kind != Kind::open;
+            if (member) make_member(random, n, state);
+            const bool damaged = damage(random, state);
+            const Call call = draw_call(b, random, state);
             agreed(call, state, i % 8 == 0);
-            if (keep) b.state = state;
+            if (!member && !damaged && call.kind != Kind::open) b.state = state;
         }
     }
 }

@@ -15,7 +15,7 @@ yardbook_answer reference_take_first_message(u32*, std::size_t, const u32*, std:
 yardbook_answer reference_take_timeout(u32*, std::size_t, u32, u32);
 yardbook_answer reference_take_timeouts(u32*, std::size_t, u32, u32);
 yardbook_answer reference_take_no_vote(u32*, std::size_t, u32, u32);
-yardbook_proposal reference_propose(u32*, std::size_t, u32);
+yardbook_proposal reference_propose(u32*, std::size_t, const u32*);
 yardbook_answer reference_sign_no_vote(u32*, std::size_t);
 yardbook_state_status reference_status(const u32*, std::size_t);
 yardbook_answer reference_ask_leaders(const u32*, std::size_t, u32);
@@ -33,7 +33,7 @@ namespace {
 [[gnu::noipa]] yardbook_answer nothing_take_timeout(u32*, std::size_t, u32, u32) { return {}; }
 [[gnu::noipa]] yardbook_answer nothing_take_timeouts(u32*, std::size_t, u32, u32) { return {}; }
 [[gnu::noipa]] yardbook_answer nothing_take_no_vote(u32*, std::size_t, u32, u32) { return {}; }
-[[gnu::noipa]] yardbook_proposal nothing_propose(u32*, std::size_t, u32) { return {}; }
+[[gnu::noipa]] yardbook_proposal nothing_propose(u32*, std::size_t, const u32*) { return {}; }
 [[gnu::noipa]] yardbook_answer nothing_sign_no_vote(u32*, std::size_t) { return {}; }
 [[gnu::noipa]] yardbook_state_status nothing_status(const u32*, std::size_t) { return {}; }
 [[gnu::noipa]] yardbook_answer nothing_ask_leaders(const u32*, std::size_t, u32) { return {}; }
@@ -62,7 +62,7 @@ Said said(yardbook_part p) { return {p.number, p.start, p.length}; }
     case Kind::timeout: return said(prefix##take_timeout(state, state_words, call.a, call.b));                            \
     case Kind::timeouts: return said(prefix##take_timeouts(state, state_words, call.a, call.b));                          \
     case Kind::no_vote: return said(prefix##take_no_vote(state, state_words, call.a, call.b));                            \
-    case Kind::propose: return said(prefix##propose(state, state_words, call.a));                                         \
+    case Kind::propose: return said(prefix##propose(state, state_words, call.digest.data()));                             \
     case Kind::sign_no_vote: return said(prefix##sign_no_vote(state, state_words));                                       \
     case Kind::status: return said(prefix##status(state, state_words));                                                   \
     case Kind::ask_leaders: return said(prefix##ask_leaders(state, state_words, call.a));                                 \

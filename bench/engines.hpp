@@ -10,6 +10,7 @@
 
 using u32 = std::uint32_t;
 using Record = std::array<u32, YARDBOOK_RECORD_WORDS>;
+using Digest = std::array<u32, YARDBOOK_DIGEST_WORDS>;
 inline constexpr std::size_t state_words = YARDBOOK_STATE_WORDS;
 
 // What a call is lent: the state, and behind it the pending buffer, which one kind of call uses.
@@ -30,6 +31,7 @@ struct Call {
     Kind kind;
     Record record{};
     u32 a = 0, b = 0;
+    Digest digest{};
 };
 
 // Number, id and counts, and behind them a made record; a status; or a part. The rest is 0.

@@ -11,9 +11,9 @@ using u32 = std::uint32_t;
 
 using namespace plain;
 
-u32 mask(const u32* state, u32 round, Mask kind) { return state[masks_at + kinds * (round - 1) + kind]; }
-u32& mask(u32* state, u32 round, Mask kind) { return state[masks_at + kinds * (round - 1) + kind]; }
-const u32* cell(const u32* state, u32 round, u32 p) { return state + cells_at + body_words * (slots * (round - 1) + p); }
+u32 mask(const u32* state, u32 round, Mask kind) { return state[mask_at(round, kind)]; }
+u32& mask(u32* state, u32 round, Mask kind) { return state[mask_at(round, kind)]; }
+const u32* cell(const u32* state, u32 round, u32 p) { return state + cell_at(round, p); }
 
 // Without the popcnt instruction g++ would call a function here, and the archive is made without it.
 u32 count(u32 x) {
@@ -73,7 +73,7 @@ bool parents_held(const u32* state, u32 round, const u32* body) {
 bool masks_ok(const Group& g, const u32* state) {
     u32 bad = mask(state, 1, votes);
     for (u32 r = 1; r <= rounds; ++r) {
-        const u32* m = state + 8 + 6 * (r - 1);
+        const u32* m = state + mask_at(r, held);
         bad |= (m[held] | m[heard] | m[votes] | m[timeouts] | m[no_votes] | m[ordered]) & g.outside;
         bad |= m[votes] & ~m[heard];
         bad |= m[ordered] & ~m[held];
@@ -225,7 +225,7 @@ void commit(const Group& g, u32* state, u32 q) {
     for (u32 t = q - 1; t > state[committed_at]; --t) {
         u32 below = 0;
         for (u32 left = reached; left != 0; left &= left - 1)
-            below |= cell(state, t + 1, static_cast<u32>(std::countr_zero(left)))[0];
+            below |= cell(state, t + 1, static_cast<u32>(std::countr_zero(left)))[strong_at];
         const u32 leader = g.leader(t);
         reached = below;
         if (has(below, leader)) {
@@ -254,7 +254,7 @@ yardbook_answer refused(u32 number, u32 id = 0) { return {number, id, 0, 0}; }
 // Questions 12 to 14 of a record that has passed the others. Admitted, it is held, and the rounds follow.
 yardbook_answer admit(const Group& g, u32* state, const u32* record) {
     const u32 round = record[round_at], source = record[source_at];
-    u32* body = state + (cell(state, round, source) - state);
+    u32* body = state + cell_at(round, source);
     if (has(mask(state, round, held), source))
         return refused(std::memcmp(body, record + body_at, body_words * sizeof(u32)) == 0 ? 12 : 13);
     if (const u32 id = missing_parent(state, record)) return refused(14, id);
@@ -357,7 +357,7 @@ void find_weak(const Group& g, const u32* state, u32 round, u32* body) {
         }
 }
 
-// Questions 16, 5, 9, 10, 12 and 18. Writes the body but for the tag.
+// Questions 16, 5, 9, 10, 12 and 18. Writes the body but for the digest.
 u32 make_body(const Group& g, const u32* state, u32* body) {
     const u32 own = state[own_at], round = state[current_at];
     if (own == 0) return 16;
@@ -454,13 +454,13 @@ yardbook_answer plain_take_no_vote(u32* state, std::size_t words, u32 round, u32
     return refused(0);
 }
 
-yardbook_proposal plain_propose(u32* state, std::size_t words, u32 tag) {
+yardbook_proposal plain_propose(u32* state, std::size_t words, const u32* digest) {
     if (const u32 number = check_state(state, words)) return {refused(number), {}};
     yardbook_proposal made{};
     if (const u32 number = make_body(Group(state[members_at]), state, made.record + body_at)) return {refused(number), {}};
     made.record[round_at] = state[current_at];
     made.record[source_at] = state[own_at] - 1;
-    made.record[body_at + tag_at] = tag;
+    std::memcpy(made.record + body_at + digest_at, digest, digest_words * sizeof(u32));
     state[made_at] |= 1u << (state[current_at] - 1);
     return made;
 }
@@ -484,7 +484,7 @@ yardbook_state_status plain_status(const u32* state, std::size_t words) {
     return {0, state[current_at], state[committed_at], state[leader_count_at], state[journal_count_at]};
 }
 
-yardbook_answer plain_ask_leaders(const u32* state, std::size_t words, u32 k) { return refused(ask(state, words, k, 3)); }
-yardbook_answer plain_ask_journal(const u32* state, std::size_t words, u32 k) { return refused(ask(state, words, k, 4)); }
-yardbook_part plain_hand_leaders(const u32* state, std::size_t words, u32 k) { return hand(state, words, k, 3, leaders_at); }
-yardbook_part plain_hand_journal(const u32* state, std::size_t words, u32 k) { return hand(state, words, k, 4, journal_at); }
+yardbook_answer plain_ask_leaders(const u32* state, std::size_t words, u32 k) { return refused(ask(state, words, k, leader_count_at)); }
+yardbook_answer plain_ask_journal(const u32* state, std::size_t words, u32 k) { return refused(ask(state, words, k, journal_count_at)); }
+yardbook_part plain_hand_leaders(const u32* state, std::size_t words, u32 k) { return hand(state, words, k, leader_count_at, leaders_at); }
+yardbook_part plain_hand_journal(const u32* state, std::size_t words, u32 k) { return hand(state, words, k, journal_count_at, journal_at); }

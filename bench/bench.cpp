@@ -15,13 +15,14 @@
 
 #include <x86intrin.h>
 
+#include "builder.hpp"
 #include "cases.hpp"
+#include "compare.hpp"
 #include "picture.hpp"
 #include "stack.hpp"
 
 namespace {
 
-constexpr std::array<u32, 5> member_counts{4, 7, 10, 13, 16};
 constexpr std::array<u32, 4> fullness{0, 8, 16, 31};
 
 std::uint64_t ticks() {

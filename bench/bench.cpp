@@ -216,8 +216,8 @@ void print_cell(const Timed* t) {
 
 // A row for each n and the calls that differ much, with the emptiest and the fullest state.
 void print_short_table(const std::vector<Timed>& all) {
-    static constexpr std::array<std::string_view, 33> names{
-        "open", "open: 2", "vertex", "vertex: 12", "vertex: 14", "vertex, commits", "vertex, commits by both", "vertex, commits all",
+    static constexpr std::array<std::string_view, 34> names{
+        "open", "open: 2", "vertex", "vertex: 12", "vertex: 13", "vertex: 14", "vertex, commits", "vertex, commits by both", "vertex, commits all",
         "vertex with buffer", "vertex with buffer, 32 stay", "vertex with buffer, releases 32", "vertex with buffer: 12",
         "vertex with buffer: 14", "vertex with buffer: 19", "vertex with buffer: 20",
         "first message", "first message: 12", "timeout", "timeout: 12", "timeouts", "timeouts: 12", "no-vote", "no-vote: 12",
@@ -272,6 +272,20 @@ void print_growth(const std::vector<Timed>& all) {
         }
     }
     std::puts("");
+}
+
+// Status reads every word of the state and changes none.
+void print_words_cost(const std::vector<Timed>& all) {
+    std::puts("\nWhat the words of a state cost: status, and its ns for 1,000 of them:\n\n"
+              "|  n | full rounds | words | library, ns | for 1,000 words | plain C++, ns | for 1,000 words | library / plain |\n"
+              "|---:|------------:|------:|------------:|----------------:|--------------:|----------------:|----------------:|");
+    for (const u32 n : {member_counts.front(), member_counts.back()})
+        for (const u32 rounds : {fullness.front(), fullness.back()}) {
+            const Timed* t = find(all, "status", n, rounds);
+            const double our = t->ns[ours], plain = t->ns[plain_engine], thousands = state_words / 1000.0;
+            std::printf("| %2u | %11u | %5zu | %11s | %15.1f | %13s | %15.1f | %15s |\n", n, rounds, state_words, cost(our).c_str(),
+                        our / thousands, cost(plain).c_str(), plain / thousands, ratio(our, plain).c_str());
+        }
 }
 
 // How many rows are above the limit, and the largest ratios.
@@ -400,6 +414,33 @@ double measure_all(std::vector<Timed>& all, std::vector<Together>& several, int 
     return timer;
 }
 
+void print_tables(std::vector<Timed>& all, std::vector<Together>& several, bool brief, int calls, double timer, double per_ns) {
+    if (brief) print_short_table(all);
+    else print_table(all);
+    print_growth(all);
+    print_summary(all);
+    print_words_cost(all);
+    print_beside_vertex(all, "propose", member_counts.back(), calls, timer, per_ns);
+    for (const u32 n : {member_counts.front(), member_counts.back()})
+        print_beside_vertex(all, "vertex with buffer", n, calls, timer, per_ns);
+    print_several(several, Kind::timeouts,
+                  "a bundle of n timeouts / one timeout / n timeouts one after the other, on the same state, in turn:\n\n"
+                  "|  n | full rounds |   bundle, ns | one timeout, ns |  n timeouts, ns |   bundle / one |    bundle / n |",
+                  timer, per_ns);
+    print_several(several, Kind::vertex_with,
+                  "a vertex that releases 32 buffered ones / one vertex / the 33 one after the other, on the same state, in turn:\n\n"
+                  "|  n | full rounds | releases, ns |  one vertex, ns | 33 vertices, ns | releases / one | releases / 33 |",
+                  timer, per_ns);
+    std::printf("\nMedians of %d calls of the library and of the plain engine, and %d of the second implementation, interleaved. "
+                "The words are warm: each timed call follows the same call by the same engine on the same words. "
+                "The cost of an empty call, %.0f ns with the timer, is taken off each. "
+                "A number after a call's name is the refusal that it answers; timeouts takes a bundle of all n members. "
+                "With 13, the digest differs in its eighth word alone. "
+                "The buffer of vertex with buffer is empty where nothing else is said; with 12, 13, 19 and 20 it is full, and with 14 "
+                "the 31 others move.\n",
+                calls, calls / 8, timer / per_ns);
+}
+
 }  // namespace
 
 int main(int argc, char** argv) {
@@ -422,29 +463,7 @@ int main(int argc, char** argv) {
     std::vector<Together> several = several_of(all);
     const int passes = quick ? 3 : 11, times = quick ? 24 : 64;
     const double timer = measure_all(all, several, passes, times, per_ns);
-
-    if (brief) print_short_table(all);
-    else print_table(all);
-    print_growth(all);
-    print_summary(all);
-    print_beside_vertex(all, "propose", member_counts.back(), passes * times, timer, per_ns);
-    for (const u32 n : {member_counts.front(), member_counts.back()})
-        print_beside_vertex(all, "vertex with buffer", n, passes * times, timer, per_ns);
-    print_several(several, Kind::timeouts,
-                  "a bundle of n timeouts / one timeout / n timeouts one after the other, on the same state, in turn:\n\n"
-                  "|  n | full rounds |   bundle, ns | one timeout, ns |  n timeouts, ns |   bundle / one |    bundle / n |",
-                  timer, per_ns);
-    print_several(several, Kind::vertex_with,
-                  "a vertex that releases 32 buffered ones / one vertex / the 33 one after the other, on the same state, in turn:\n\n"
-                  "|  n | full rounds | releases, ns |  one vertex, ns | 33 vertices, ns | releases / one | releases / 33 |",
-                  timer, per_ns);
-    std::printf("\nMedians of %d calls of the library and of the plain engine, and %d of the second implementation, interleaved. "
-                "The words are warm: each timed call follows the same call by the same engine on the same words. "
-                "The cost of an empty call, %.0f ns with the timer, is taken off each. "
-                "A number after a call's name is the refusal that it answers; timeouts takes a bundle of all n members. "
-                "The buffer of vertex with buffer is empty where nothing else is said; with 12, 13, 19 and 20 it is full, and with 14 "
-                "the 31 others move.\n",
-                passes * times, passes * times / 8, timer / per_ns);
+    print_tables(all, several, brief, passes * times, timer, per_ns);
     print_stack();
     if (!write_picture(picture, panels(all))) {
         std::fprintf(stderr, "bench: cannot write %s\n", picture.c_str());

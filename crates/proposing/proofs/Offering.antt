@@ -6,13 +6,13 @@ use mathlib.Core.List.{List, [], _∷_, _++_, append-nil, append-assoc}
 use Prim.Native.Nat.{ℕ, zero, suc, _+_, _-_, _*_, _^_, _≤_, _<_}
 use native.Mathlib.Omega.{arith}
 use lib.Dec.{eqb, leb, ltb}
-use lib.ListN.{length, getD, set, take, replicate, length-append, length-replicate}
+use lib.ListN.{length, getD, set, take, replicate, length-append}
 use lib.Pow.{pow-pos}
 use lib.Seq.{set-at, take-all, take-append-le, length-take-le}
 use borrow.Author.Tests.{le-leb, lt-leb, le-ltb, ltb-true, ltb-false, eqb-true, eqb-false}
 use Rattle.record.specs.Below.{select}
 use Rattle.record.specs.Members.{isRound, faulty, has, leader, idOf, idRound, idMember, idLimit, rounds, slots}
-use Rattle.record.specs.Layout.{bodyPlace, digestSize, weakCountPlace, weakPlace, weakSlots, recordSize, recordWords}
+use Rattle.record.specs.Layout.{bodyPlace, digestSize, weakCountPlace, weakPlace, weakSlots, recordSize, slotWords, recordWords}
 use Rattle.record.proofs.Composed.{getD-append-size}
 use Rattle.record.proofs.Booleans.{which, and-both, and-fails-left, and-fails-right, cond-true, cond-false}
 use Rattle.record.proofs.Masks.{remove-lt}
@@ -75,7 +75,7 @@ module _ (round source strong timeouts noVotes : ℕ) (digest : List ℕ) (size 
   head-long = omega (arith, size)
 
   count-is : (weak : List ℕ) → countIn (whole weak) ≡ length weak
-  count-is weak = getD-append-size head (length weak ∷ (weak ++ replicate (weakSlots - length weak) 0)) countPlace 0 head-long
+  count-is weak = getD-append-size head _ countPlace 0 head-long
 
   -- one more, where there is room
   add-whole : (weak : List ℕ) (y : ℕ) → length weak < weakSlots → addWeak (whole weak) y ≡ whole (weak ++ y ∷ [])
@@ -185,7 +185,7 @@ module _ (round source strong timeouts noVotes : ℕ) (digest : List ℕ) (size 
 pub digest-size : (round source strong timeouts noVotes : ℕ) (digest rec : List ℕ) → rec ≡ recordWords round source strong timeouts noVotes digest []
     → length rec ≡ recordSize → length digest ≡ digestSize
 digest-size round source strong timeouts noVotes digest rec e size =
-    omega (arith, ap length e, size, length-append digest (0 ∷ replicate weakSlots 0), length-replicate {A = ℕ} weakSlots 0)
+    omega (arith, ap length e, size, length-append digest (0 ∷ slotWords []))
 
 -- the strong mask is of the group
 pub strong-low : (l : List ℕ) → WellFormed l → 1 ≤ currentRound l → currentRound l ≤ rounds → madeStrong l < 2 ^ memberCount l

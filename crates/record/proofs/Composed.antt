@@ -12,7 +12,7 @@ use borrow.Author.Tests.{leb-true, le-leb, lt-ltb, ltb-true, ltb-false, eq-eqb, 
 use Rattle.record.specs.Members.{faulty, meets}
 use Rattle.record.specs.Refusals.{numberOf}
 use Rattle.record.specs.Layout.{digestSize, weakPlace, weakSlots, bodySize, bodyOf, strongOf, timeoutsOf, noVotesOf, weakCountOf, weakOf}
-use Rattle.record.specs.Layout.{Digest, recordWords}
+use Rattle.record.specs.Layout.{Digest, slotWords, recordWords}
 use Rattle.record.specs.Questions.{masksOk, strongOk, lacksLeader, timeoutsOk, noVotesOk, weakIdOk, rises, slotOk, weakOk, signerQuestions}
 use Rattle.record.specs.Questions.{recordQuestions}
 use Rattle.record.specs.Admitted.{Composed, ComposedLaw}
@@ -39,20 +39,16 @@ lacks-later n round strong e = leb-true 2 round (and-left (leb 2 round) _ e)
 
 -- ---- the words of a composed record
 
--- the slots: the weak ids, and zeros behind them
-abbrev slotsOf : List ℕ → List ℕ
-slotsOf weak = weak ++ replicate (weakSlots - length weak) 0
-
-slots-long : (weak : List ℕ) → length weak ≤ weakSlots → length (slotsOf weak) ≡ weakSlots
+slots-long : (weak : List ℕ) → length weak ≤ weakSlots → length (slotWords weak) ≡ weakSlots
 slots-long weak h = length-append weak _ ∙ ap (λ (x : ℕ). length weak + x) (length-replicate {A = ℕ} (weakSlots - length weak) 0) ∙ omega arith
 
-slot-used : (weak : List ℕ) (i : ℕ) → i < length weak → getD (slotsOf weak) i 0 ≡ getD weak i 0
+slot-used : (weak : List ℕ) (i : ℕ) → i < length weak → getD (slotWords weak) i 0 ≡ getD weak i 0
 slot-used weak i h = List·getD-append weak (replicate (weakSlots - length weak) 0) 0 i h
 
-slot-free : (weak : List ℕ) (i : ℕ) → length weak ≤ i → i < weakSlots → getD (slotsOf weak) i 0 ≡ 0
+slot-free : (weak : List ℕ) (i : ℕ) → length weak ≤ i → i < weakSlots → getD (slotWords weak) i 0 ≡ 0
 slot-free weak i h k =
     let e : i ≡ length weak + (i - length weak) = omega arith in
-    ap (λ (j : ℕ). getD (slotsOf weak) j 0) e
+    ap (λ (j : ℕ). getD (slotWords weak) j 0) e
     ∙ getD-append-add weak (replicate (weakSlots - length weak) 0) (i - length weak) 0
     ∙ getD-replicate {A = ℕ} (weakSlots - length weak) (i - length weak) 0 0 (omega arith)
 
@@ -84,21 +80,21 @@ module _ (n round source strong timeouts noVotes : ℕ) (digest : Digest) (weak 
 
   pub count-is : weakCountOf body ≡ length weak
   unfolding weakCountOf
-  count-is = getD-append-size (digest .words) (length weak ∷ slotsOf weak) digestSize 0 (digest .size)
+  count-is = getD-append-size (digest .words) _ digestSize 0 (digest .size)
 
   -- the words before the slots, and the slots
   abbrev front : List ℕ
   front = strong ∷ timeouts ∷ noVotes ∷ (digest .words ++ length weak ∷ [])
 
-  in-two : body ≡ front ++ slotsOf weak
-  in-two = ap (λ (x : List ℕ). strong ∷ timeouts ∷ noVotes ∷ x) (sym (append-assoc (digest .words) (length weak ∷ []) (slotsOf weak)))
+  in-two : body ≡ front ++ slotWords weak
+  in-two = ap (λ (x : List ℕ). strong ∷ timeouts ∷ noVotes ∷ x) (sym (append-assoc (digest .words) (length weak ∷ []) (slotWords weak)))
 
   front-long : length front ≡ weakPlace
   front-long = omega (arith, length-append (digest .words) (length weak ∷ []), digest .size)
 
-  weak-is : (i : ℕ) → weakOf body i ≡ getD (slotsOf weak) i 0
+  weak-is : (i : ℕ) → weakOf body i ≡ getD (slotWords weak) i 0
   unfolding weakOf
-  weak-is i = ap (λ (x : List ℕ). getD x (weakPlace + i) 0) in-two ∙ getD-append-size front (slotsOf weak) weakPlace i front-long
+  weak-is i = ap (λ (x : List ℕ). getD x (weakPlace + i) 0) in-two ∙ getD-append-size front (slotWords weak) weakPlace i front-long
 
   -- a slot that is used has its weak id
   pub weak-slot : (i : ℕ) → i < length weak → weakOf body i ≡ getD weak i 0
@@ -106,7 +102,7 @@ module _ (n round source strong timeouts noVotes : ℕ) (digest : Digest) (weak 
 
   module _ (c : Composed n round source strong timeouts noVotes weak) where
     long : length body ≡ bodySize
-    long = omega (arith, ap length in-two, length-append front (slotsOf weak), front-long, slots-long weak (c .weak-fit))
+    long = omega (arith, ap length in-two, length-append front (slotWords weak), front-long, slots-long weak (c .weak-fit))
 
     masks : masksOk n body ≡ true
     unfolding masksOk

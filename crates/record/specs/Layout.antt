@@ -88,7 +88,11 @@ pub record Digest : Type 0 where
 abbrev pub tagged : ℕ → Digest
 tagged tag = record { words = tag ∷ replicate (digestSize - 1) 0; size = refl }
 
--- a whole record: round, source, the three masks, the digest, and the weak ids in the first slots
+-- the weak ids in the first slots, and 0 in the others
+abbrev pub slotWords : List ℕ → List ℕ
+slotWords weak = weak ++ replicate (weakSlots - length weak) 0
+
+-- a whole record: round, source, the three masks, the digest, and the weak ids
 abbrev pub recordWords : ℕ → ℕ → ℕ → ℕ → ℕ → List ℕ → List ℕ → List ℕ
 recordWords round source strong timeouts noVotes digest weak =
-    round ∷ source ∷ strong ∷ timeouts ∷ noVotes ∷ (digest ++ length weak ∷ (weak ++ replicate (weakSlots - length weak) 0))
+    round ∷ source ∷ strong ∷ timeouts ∷ noVotes ∷ (digest ++ length weak ∷ slotWords weak)

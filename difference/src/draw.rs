@@ -461,7 +461,7 @@ fn place(rng: &mut Rng) -> usize {
 
 /// The state cut short or made longer.
 pub fn other_size(rng: &mut Rng, state: &[u32]) -> Vec<u32> {
-    let sizes = [
+    let mut sizes = vec![
         0,
         1,
         OWN,
@@ -474,6 +474,7 @@ pub fn other_size(rng: &mut Rng, state: &[u32]) -> Vec<u32> {
         STATE_WORDS + CELL_WORDS,
         MOST_WORDS as usize,
     ];
+    sizes.extend(near_sizes(&EARLIER_STATE_WORDS));
     let size = match rng.below(3) {
         0 => rng.below(MOST_WORDS) as usize,
         _ => sizes[rng.below(sizes.len() as u32) as usize],

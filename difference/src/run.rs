@@ -10,7 +10,7 @@ use crate::tally::Tally;
 use reference::layout::{CURRENT_ROUND, LAST_ROUND, LEGAL_SIZES};
 use reference::model::Lists;
 use reference::rng::Rng;
-use reference::simulate::{simulate, simulate_proposing, Options, Run};
+use reference::simulate::{digests, simulate, simulate_proposing, Options, Run};
 use reference::{Call, Model, STATE_WORDS};
 
 /// A kind of groups: its name, what such groups are like, and how their calls are drawn.
@@ -205,7 +205,7 @@ impl Aside<'_> {
         self.steps.push(Step::Perform(op.clone()));
         match reply {
             Ok(reply) => {
-                session.tally.see(&op, &reply, self.pair.released());
+                session.tally.see(&op, &reply, &self.pair);
                 Ok(reply)
             }
             Err(_) => {
@@ -286,7 +286,7 @@ impl<'a> Replica<'a> {
     fn on_state(&mut self, session: &mut Session, op: Op) -> Outcome<Reply> {
         let reply = self.pair.perform(session.engine, &op);
         if let Ok(reply) = reply {
-            session.tally.see(&op, &reply, self.pair.released());
+            session.tally.see(&op, &reply, &self.pair);
             return Ok(reply);
         }
         let mut steps: Vec<Step> = self.made.iter().map(Step::of_call).collect();
@@ -375,8 +375,8 @@ impl<'a> Replica<'a> {
     }
 
     /// Vertices with a pending buffer on a copy: the next ones of the group, mostly the first of them
-    /// first, with one buffer from call to call, which has some of them already; then any records with
-    /// any buffers.
+    /// first, with one buffer from call to call, which has some of them already, and at times with another
+    /// digest; then any records with any buffers.
     fn buffers(&self, session: &mut Session) -> Outcome<()> {
         let mut aside = self.copy();
         let rng = &mut session.rng;
@@ -384,7 +384,11 @@ impl<'a> Replica<'a> {
         let (coming, mut buffer) = draw::coming(rng, aside.pair.words(), next);
         for at in 0..4.min(coming.len()) {
             let drawn = [at, session.rng.below(coming.len() as u32) as usize];
-            let record = coming[drawn[session.rng.below(2) as usize]];
+            let mut apart = session.rng.apart();
+            let mut record = coming[drawn[apart.below(2) as usize]];
+            if apart.percent(30) {
+                record.digest = digests::other(&mut apart, record.digest);
+            }
             let call = Call::VertexWith(buffer, record.words().to_vec());
             aside.perform(session, Op::Change(call))?;
             buffer = aside.pair.buffer().to_vec();

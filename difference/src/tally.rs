@@ -3,9 +3,12 @@
 use std::fmt::{self, Display, Formatter};
 
 use crate::op::{record_of, Op, Reply, NAMES};
+use crate::pair::Pair;
+use reference::answer::CONFLICT;
 use reference::group::Group;
-use reference::layout::{mask_place, COMMITTED_ROUND, HEARD, HELD, LAST_ROUND, LEADER_COUNT, N};
+use reference::layout::*;
 use reference::record::Record;
+use reference::simulate::digests::{only_conflict, Taken};
 use reference::simulate::sightings::in_state;
 use reference::Call;
 
@@ -59,6 +62,10 @@ pub struct Tally {
     /// committed.
     pub released: u64,
     pub several_released: u64,
+    /// Vertices anywhere that differed from a held record in one word of the digest alone, for each word,
+    /// and from a record in the pending buffer.
+    pub cell_conflicts: [u64; DIGEST_WORDS],
+    pub buffer_conflicts: [u64; DIGEST_WORDS],
     /// Records made anywhere, those of them with a no-vote certificate, and with weak ids.
     pub made: u64,
     pub made_with_no_votes: u64,
@@ -75,19 +82,35 @@ pub struct Tally {
 }
 
 impl Tally {
-    /// Notes a call, its answer, and how many records of its pending buffer it released.
-    pub fn see(&mut self, op: &Op, reply: &Reply, released: u32) {
+    /// Notes a call that was made on a pair, and its answer.
+    pub fn see(&mut self, op: &Op, reply: &Reply, pair: &Pair) {
+        let released = pair.released();
         self.calls += 1;
         self.released += u64::from(released);
         self.several_released += u64::from(released > 1 && reply[2] > 0);
         if let Some(count) = self.seen[op.row()].get_mut(reply[0] as usize) {
             *count += 1;
         }
-        if let (Op::Change(Call::Propose(_)), 0) = (op, reply[0]) {
-            let made = Record::from_words(record_of(reply)).unwrap_or_default();
-            self.made += 1;
-            self.made_with_no_votes += u64::from(made.no_votes != 0);
-            self.made_with_weak += u64::from(made.weak_count != 0);
+        match (op, reply[0]) {
+            (Op::Change(Call::Propose(_)), 0) => self.made_record(record_of(reply)),
+            (Op::Change(call), CONFLICT) => self.conflict(call, pair),
+            _ => {}
+        }
+    }
+
+    fn made_record(&mut self, words: &[u32]) {
+        let made = Record::from_words(words).unwrap_or_default();
+        self.made += 1;
+        self.made_with_no_votes += u64::from(made.no_votes != 0);
+        self.made_with_weak += u64::from(made.weak_count != 0);
+    }
+
+    fn conflict(&mut self, call: &Call, pair: &Pair) {
+        let record = call.record().unwrap_or_default();
+        match only_conflict(pair.words(), pair.buffer(), record) {
+            Some((Taken::InCell, at)) => self.cell_conflicts[at] += 1,
+            Some((Taken::InBuffer, at)) => self.buffer_conflicts[at] += 1,
+            None => {}
         }
     }
 
@@ -146,7 +169,8 @@ impl Tally {
 
     /// What a long run must have seen and this one has not: calls with a number that they can
     /// answer, rounds ended by a carried certificate and by a bundle, records released from a pending
-    /// buffer, also several with a commit, and rounds committed by either sighting of a vote.
+    /// buffer, also several with a commit, rounds committed by either sighting of a vote, and conflicts in
+    /// each word of a digest alone.
     pub fn unseen(&self) -> Vec<String> {
         let missing = |row: usize| {
             let numbers = POSSIBLE[row].iter().copied();
@@ -172,7 +196,19 @@ impl Tally {
         let never = counts.into_iter().filter(|(_, count)| *count == 0);
         numbers
             .chain(never.map(|(what, _)| what.to_owned()))
+            .chain(self.unseen_conflicts())
             .collect()
+    }
+
+    fn unseen_conflicts(&self) -> impl Iterator<Item = String> + '_ {
+        let places = [
+            ("cell", &self.cell_conflicts),
+            ("buffer", &self.buffer_conflicts),
+        ];
+        places.into_iter().flat_map(|(place, counts)| {
+            let never = (0..DIGEST_WORDS).filter(|&at| counts[at] == 0);
+            never.map(move |at| format!("a conflict with a {place} in digest word {at} alone"))
+        })
     }
 
     /// What the groups did, line by line.
@@ -221,6 +257,19 @@ impl Tally {
         ]
     }
 
+    /// The conflicts in one word of the digest alone.
+    fn conflict_counts(&self) -> [(&'static str, u64); 4] {
+        let conflicts = [self.cell_conflicts, self.buffer_conflicts];
+        let [by_cell, by_buffer] = conflicts.map(|counts| counts.iter().sum());
+        let fewest = conflicts.map(|counts| counts.into_iter().min().unwrap_or(0));
+        [
+            ("conflicts with a cell in one digest word", by_cell),
+            ("of these for the rarest word", fewest[0]),
+            ("conflicts with a buffer in one digest word", by_buffer),
+            ("of these for the rarest word", fewest[1]),
+        ]
+    }
+
     fn write_row(&self, out: &mut Formatter, row: usize) -> fmt::Result {
         write!(out, "{:13}", NAMES[row])?;
         for number in 0..NUMBERS {
@@ -243,6 +292,7 @@ impl Display for Tally {
         (0..NAMES.len()).try_for_each(|row| self.write_row(out, row))?;
         self.counts()
             .iter()
+            .chain(&self.conflict_counts())
             .try_for_each(|(name, count)| writeln!(out, "{name}: {count}"))
     }
 }

@@ -11,7 +11,8 @@ use difference::shrink::{fewest, shrink};
 use reference::group::{has, Group};
 use reference::layout::*;
 use reference::pending::{laid_out, records};
-use reference::record::Record;
+use reference::record::{first_refusal, Record};
+use reference::simulate::digests::{only_conflict, Taken};
 use reference::simulate::sightings::in_state;
 use reference::simulate::{simulate, Options};
 use reference::Call;
@@ -297,16 +298,22 @@ fn unseen(count: u64) -> Vec<String> {
 }
 
 #[test]
-fn a_run_without_certificates_bundles_releases_or_sightings_is_not_enough() {
-    let events = [
-        "a round ended by a carried certificate",
-        "a round ended by a bundle",
-        "a record released from a buffer",
-        "several records released with a commit",
-        "a round committed by both sightings",
-        "a round committed by a split vote",
-    ]
-    .map(str::to_owned);
+fn a_run_without_certificates_bundles_releases_sightings_or_conflicts_is_not_enough() {
+    let mut events = Vec::from(
+        [
+            "a round ended by a carried certificate",
+            "a round ended by a bundle",
+            "a record released from a buffer",
+            "several records released with a commit",
+            "a round committed by both sightings",
+            "a round committed by a split vote",
+        ]
+        .map(str::to_owned),
+    );
+    for at in 0..DIGEST_WORDS {
+        let conflict = |place| format!("a conflict with a {place} in digest word {at} alone");
+        events.extend(["cell", "buffer"].map(conflict));
+    }
     let bundles = [0, 1, 3, 5, 7, 12].map(|number| format!("timeouts with {number}"));
     let buffers =
         [0, 1, 3, 4, 12, 13, 14, 19, 20].map(|number| format!("vertex+buffer with {number}"));
@@ -815,6 +822,165 @@ fn changes_by_refused_vertices_with_buffers_are_noticed() {
         answer
     });
     for engine in [state_by_14, replaced_by_13, emptied_by_19] {
+        assert!(run(&engine, plan(1)).1.is_some());
+    }
+}
+
+/// The second implementation that compares records without one word of the digest: with those in cells, or
+/// with those in a pending buffer.
+struct Overlooking(Taken, usize);
+
+impl Engine for Overlooking {
+    fn perform_lent(&self, state: &mut [u32], buffer: &mut [u32], op: &Op) -> Reply {
+        let answer = Second.perform_lent(state, buffer, op);
+        let Some(record) = record_of_call(op).filter(|_| answer[0] == 13) else {
+            return answer;
+        };
+        if only_conflict(state, buffer, record) == Some((self.0, self.1)) {
+            reply(&[12])
+        } else {
+            answer
+        }
+    }
+}
+
+/// The words of the record that a call takes.
+fn record_of_call(op: &Op) -> Option<&[u32]> {
+    match op {
+        Op::Change(call) => call.record(),
+        _ => None,
+    }
+}
+
+#[test]
+fn digest_words_that_are_not_compared_are_noticed() {
+    for at in 0..DIGEST_WORDS {
+        for taken in [Taken::InCell, Taken::InBuffer] {
+            let found = run(&Overlooking(taken, at), plan(1)).1;
+            assert!(found.is_some(), "{taken:?} {at}");
+        }
+    }
+}
+
+#[test]
+fn a_last_digest_word_that_is_not_compared_is_shown_by_a_short_input() {
+    let last = DIGEST_WORDS - 1;
+    let report = reported(&Overlooking(Taken::InCell, last));
+    let lines = shown(&report, "lines for sheetlog");
+    assert_eq!(lines.len(), 3, "{report}");
+    let [a, b] = [1, 2].map(|at| Call::parse(lines[at].as_bytes()).expect("a line"));
+    let [a, b] = [a, b].map(|call| Record::from_words(call.record().unwrap_or_default()));
+    let at = a.zip(b).and_then(|(a, b)| a.only_other_word(&b));
+    assert_eq!(at, Some(last), "{report}");
+    let commands = commands(&Overlooking(Taken::InBuffer, last));
+    let is_with = commands.last().is_some_and(|last| last == "18 0 0");
+    assert!(is_with && commands.len() <= 16, "{commands:?}");
+}
+
+/// The second implementation that asks question 11 of a misread record.
+struct Misreading(fn(Record) -> Record);
+
+impl Engine for Misreading {
+    fn perform_lent(&self, state: &mut [u32], buffer: &mut [u32], op: &Op) -> Reply {
+        let before = (state.to_vec(), buffer.to_vec());
+        let answer = Second.perform_lent(state, buffer, op);
+        let record = record_of_call(op).and_then(Record::from_words);
+        let (Some(record), 0 | 12..=14) = (record, answer[0]) else {
+            return answer;
+        };
+        let group = Group::new(state[N]).expect("the state is well formed");
+        if first_refusal(group, &(self.0)(record)) != Some(11) {
+            return answer;
+        }
+        state.copy_from_slice(&before.0);
+        buffer.copy_from_slice(&before.1);
+        reply(&[11])
+    }
+}
+
+#[test]
+fn weak_ids_read_in_the_places_of_01_are_noticed() {
+    let count = Misreading(|record| Record {
+        weak_count: record.digest[1],
+        ..record
+    });
+    let ids = Misreading(|mut record| {
+        record
+            .weak
+            .copy_from_slice(&record.digest[2..][..WEAK_SLOTS]);
+        record
+    });
+    for engine in [count, ids] {
+        let report = reported(&engine);
+        let lines = shown(&report, "lines for sheetlog");
+        assert_eq!(lines.len(), 2, "{report}");
+    }
+    let right = Misreading(|record| record);
+    assert!(run(&right, plan(1)).1.is_none());
+}
+
+/// The second implementation that loses a word of the digest on its way into a place.
+struct Losing(Place, usize);
+
+#[derive(Clone, Copy, Debug)]
+enum Place {
+    Cell,
+    Buffer,
+    MadeRecord,
+}
+
+impl Engine for Losing {
+    fn perform_lent(&self, state: &mut [u32], buffer: &mut [u32], op: &Op) -> Reply {
+        let mut answer = Second.perform_lent(state, buffer, op);
+        let Op::Change(call) = op else {
+            return answer;
+        };
+        let word = CELL_DIGEST.start + self.1;
+        match (self.0, call, answer[0]) {
+            (Place::Cell, Call::Vertex(words), 0) => {
+                let (round, source) = (words[RECORD_ROUND], words[RECORD_SOURCE]);
+                state[cell_word(round, source, word)] = 0;
+            }
+            (Place::Buffer, Call::VertexWith(_, words), 14) => {
+                let mut pending = records(buffer).into_iter();
+                let at = pending.position(|record| record.words() == words[..]);
+                let start = buffer_end(at.expect("it was put there"));
+                buffer[start + record_word(word)] = 0;
+            }
+            (Place::MadeRecord, Call::Propose(_), 0) => {
+                answer[ANSWER_NUMBERS + record_word(word)] = 0;
+            }
+            _ => {}
+        }
+        answer
+    }
+}
+
+#[test]
+fn digest_words_that_are_lost_are_noticed() {
+    for at in 0..DIGEST_WORDS {
+        for place in [Place::Cell, Place::Buffer, Place::MadeRecord] {
+            let found = run(&Losing(place, at), plan(1)).1;
+            assert!(found.is_some(), "{place:?} {at}");
+        }
+    }
+}
+
+#[test]
+fn sizes_of_earlier_documents_that_are_taken_are_noticed() {
+    let of_state = Faulty(|state, _, answer| match answer[0] {
+        1 if EARLIER_STATE_WORDS.contains(&state.len()) => reply(&[3]),
+        _ => answer,
+    });
+    let of_record = Faulty(|_, op, answer| match (answer[0], record_of_call(op)) {
+        (4, Some(record)) if EARLIER_RECORD_WORDS.contains(&record.len()) => reply(&[5]),
+        _ => answer,
+    });
+    let of_buffer = Faulty(|_, op, answer| match answer[0] {
+        19 if EARLIER_BUFFER_WORDS.contains(&op.buffer().len()) => reply(&[14]),
+        _ => answer,
+    });
+    for engine in [of_state, of_record, of_buffer] {
         assert!(run(&engine, plan(1)).1.is_some());
     }
 }

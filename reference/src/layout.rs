@@ -84,6 +84,12 @@ const fn words_from(start: usize, count: usize) -> Range<usize> {
     start..start + count
 }
 
+/// These sizes, and each with a word less and a word more.
+pub fn near_sizes(sizes: &[usize]) -> Vec<usize> {
+    let near = |size: &usize| [size - 1, *size, size + 1];
+    sizes.iter().flat_map(near).collect()
+}
+
 /// Place of a mask of a round from 1 to 32.
 pub fn mask_place(round: u32, mask: usize) -> usize {
     MASKS.start + MASKS_PER_ROUND * (round as usize - 1) + mask

@@ -90,7 +90,7 @@ fn with_buffer(state: &mut State, buffer: &[u32], words: &[u32], seen: &mut Seen
     let before = held_records(state).len();
     let mut buffer = buffer.to_vec();
     seen.buffered += 1;
-    let answer = if seen.buffered % 4 == 0 {
+    let answer = if seen.buffered.is_multiple_of(4) {
         checked_with(state, &mut buffer, words).0
     } else {
         take_vertex_with(state, &mut buffer, words)

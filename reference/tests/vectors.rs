@@ -71,10 +71,7 @@ fn sizes_near_the_right_ones_and_the_earlier_ones_are_seen() {
             buffers.insert((line[0], harness.buffer().len()));
         }
     }
-    let near = |sizes: &[usize], right: usize| -> Vec<usize> {
-        let all = sizes.iter().copied().chain([right]);
-        all.flat_map(|size| size - 1..=size + 1).collect()
-    };
+    let near = |sizes: &[usize], right: usize| near_sizes(&[sizes, &[right]].concat());
     let calls: Vec<u32> = (3..=12).chain(15..=18).collect();
     for (operations, sizes, seen) in [
         (&calls[..], near(&EARLIER_STATE_WORDS, STATE_WORDS), states),

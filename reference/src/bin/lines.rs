@@ -8,7 +8,7 @@
 use std::io::{stdout, BufWriter, Write};
 use std::process::ExitCode;
 
-use reference::layout::{EARLIER_RECORD_WORDS, RECORD_WORDS};
+use reference::layout::{near_sizes, EARLIER_RECORD_WORDS, RECORD_WORDS};
 use reference::line::spaced;
 use reference::rng::Rng;
 use reference::simulate::{simulate, Options};
@@ -98,14 +98,11 @@ fn near_line(rng: &mut Rng) -> Vec<u8> {
         ('L', 1),
     ];
     let (letter, wanted) = letters[rng.below(6) as usize];
-    let records: Vec<usize> = EARLIER_RECORD_WORDS
-        .into_iter()
-        .chain([RECORD_WORDS])
-        .collect();
-    let near = rng.pick(&records).map_or(0, |&words| words as u32);
+    let near = near_sizes(&[&EARLIER_RECORD_WORDS[..], &[RECORD_WORDS]].concat());
+    let near = rng.pick(&near).map_or(0, |&size| size as u32);
     let length = match rng.below(10) {
         0 => rng.below(record + 3),
-        1 => near - 1 + rng.below(3),
+        1 => near,
         _ => wanted,
     };
     let words: Vec<u32> = (0..length).map(|_| near_word(rng)).collect();

@@ -59,7 +59,8 @@ pub fn damages(group: Group, buffer: &[u32]) -> Vec<Vec<u32>> {
 /// The buffer cut short or made longer.
 pub fn sizes(buffer: &[u32]) -> Vec<Vec<u32>> {
     let most = MOST_BUFFER_WORDS as usize;
-    [0, 1, RECORD_WORDS, BUFFER_WORDS - 1, BUFFER_WORDS + 1, most]
+    let earlier = EARLIER_BUFFER_WORDS[0];
+    [0, 1, earlier, BUFFER_WORDS - 1, BUFFER_WORDS + 1, most]
         .map(|size| {
             let mut words = buffer.to_vec();
             words.resize(size, 0);

@@ -80,9 +80,9 @@ pub fn commands() -> Vec<Command> {
     list.replicas(pending::replicas());
     list.rows(&sightings::rows());
     list.replicas(sightings::replicas());
-    list.wrong_sizes(&near(&EARLIER_STATE_WORDS));
+    list.wrong_sizes(&as_words(&near_sizes(&EARLIER_STATE_WORDS)));
     list.record_lengths_with_a_buffer();
-    list.buffer_lengths(&near(&EARLIER_BUFFER_WORDS));
+    list.buffer_lengths(&as_words(&near_sizes(&EARLIER_BUFFER_WORDS)));
     list.rows(&digests::rows());
     list.made_digests();
     list.list.push(Command::End);
@@ -517,11 +517,8 @@ impl Commands {
     }
 }
 
-/// These sizes, and each with a word less and a word more.
-fn near(sizes: &[usize]) -> Vec<u32> {
-    let near = |size: &usize| [size - 1, *size, size + 1];
-    let sizes = sizes.iter().flat_map(near);
-    sizes.map(|size| size as u32).collect()
+fn as_words(sizes: &[usize]) -> Vec<u32> {
+    sizes.iter().map(|&size| size as u32).collect()
 }
 
 /// Records of every length that the program has room for, with words of a vertex and of zeros.

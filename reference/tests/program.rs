@@ -5,8 +5,9 @@ mod common;
 use std::io::{self, Read, Write};
 use std::process::{Command, Stdio};
 
+use common::{in_full, lists};
 use reference::layout::RECORD_WORDS;
-use reference::line::LONGEST_LINE;
+use reference::line::{spaced, LONGEST_LINE};
 use reference::simulate::{simulate, Options};
 use reference::{sheetlog, status, Call, STATE_WORDS};
 
@@ -32,33 +33,6 @@ const SAMPLE_ANSWERS: &str = "\
 L 16
 J 16
 ";
-
-/// Lines as 01 has them, each record with the words that 02 gives it: the tag is the first word of the
-/// digest, the others are 0.
-fn in_full(lines: &str) -> String {
-    let line = |line: &str| match line.split_at(1) {
-        (letter @ ("V" | "F"), words) => {
-            let words: Vec<u32> = words.split_whitespace().flat_map(str::parse).collect();
-            let [round, source, strong, timeouts, no_votes, tag, weak_count, ref weak @ ..] =
-                words[..]
-            else {
-                panic!("{line} is not as 01 has it");
-            };
-            let mut record =
-                common::record(round, source, strong, timeouts, no_votes).with_tag(tag);
-            record.weak_count = weak_count;
-            record.weak.copy_from_slice(weak);
-            format!("{letter}{}\n", spaced(&record.words()))
-        }
-        _ => format!("{line}\n"),
-    };
-    lines.lines().map(line).collect()
-}
-
-/// Numbers, each after a space.
-fn spaced(words: &[u32]) -> String {
-    words.iter().map(|word| format!(" {word}")).collect()
-}
 
 /// Runs the built program.
 fn run_program(input: &[u8]) -> String {
@@ -112,10 +86,10 @@ fn the_sample() {
 /// Records of one number more or less, and 01's of a single tag, are of another form.
 #[test]
 fn records_of_other_lengths() {
-    for letter in ["V", "F"] {
+    for letter in ['V', 'F'] {
         for length in 0..=RECORD_WORDS + 8 {
             let words: Vec<u32> = (1..=length as u32).collect();
-            let line = format!("{letter}{}\n", spaced(&words));
+            let line = spaced(letter, &words) + "\n";
             let expected = if length == RECORD_WORDS {
                 "3 0 0 0 0"
             } else {
@@ -124,11 +98,10 @@ fn records_of_other_lengths() {
             assert_eq!(answers(line.as_bytes()), [expected, "L", "J"], "{line}");
         }
     }
-    let line = "V 1 0 0 0 0 10 0 0 0 0 0 0";
-    let in_full = in_full(line);
-    assert_eq!(in_full, "V 1 0 0 0 0 10 0 0 0 0 0 0 0 0 0 0 0 0 0\n");
+    let tagged = "V 1 0 0 0 0 10 0 0 0 0 0 0\n";
+    let in_full = in_full(tagged);
     assert_eq!(answers(in_full.as_bytes()), ["3 0 0 0 0", "L", "J"]);
-    assert_eq!(answers(format!("{line}\n").as_bytes()), ["?", "L", "J"]);
+    assert_eq!(answers(tagged.as_bytes()), ["?", "L", "J"]);
 }
 
 #[test]
@@ -216,7 +189,8 @@ fn numbers_at_their_ends() {
         "O 0\nO 4294967295\nO 4\nT 4294967295 0\nT 1 4294967295\nN 0 0\n\
         V 1 0 0 0 0 4294967295 0 0 0 0 0 0\n",
     );
-    input += &format!("V{}\n", spaced(&[u32::MAX; RECORD_WORDS]));
+    input += &spaced('V', &[u32::MAX; RECORD_WORDS]);
+    input.push('\n');
     let numbers: Vec<String> = answers(input.as_bytes())
         .iter()
         .map(|line| line[..1].to_owned())
@@ -247,7 +221,7 @@ fn long_lines() {
 
 #[test]
 fn lines_cut_at_the_longest_call() {
-    let line = format!("V{}", spaced(&[u32::MAX; RECORD_WORDS]));
+    let line = spaced('V', &[u32::MAX; RECORD_WORDS]);
     assert_eq!(line.len(), LONGEST_LINE);
     assert_eq!(
         answers(format!("{line}\n").as_bytes()),
@@ -294,9 +268,9 @@ fn simulated_runs_as_lines() {
                     head[0], head[1], head[2], head[3]
                 ));
             }
-            let (leaders, journal) = common::lists(&state);
-            expected.push(reference::line::spaced('L', &leaders));
-            expected.push(reference::line::spaced('J', &journal));
+            let (leaders, journal) = lists(&state);
+            expected.push(spaced('L', &leaders));
+            expected.push(spaced('J', &journal));
             let input: String = calls.iter().map(|call| call.line() + "\n").collect();
             let output = run_program(input.as_bytes());
             assert_eq!(output.lines().collect::<Vec<_>>(), expected);

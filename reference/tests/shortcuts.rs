@@ -3,6 +3,7 @@
 mod common;
 
 use common::*;
+use reference::layout::{mask_place, HEARD, VOTES};
 use reference::*;
 
 #[test]
@@ -123,8 +124,9 @@ fn the_lowest_committable_round_comes_first() {
     let mut state = skipped_but_reached();
     // Votes for 1/0 and 2/1 that no call has looked at yet; 2/1 does not lead to 1/0.
     for round in [2, 3] {
-        state[8 + 6 * (round - 1) + 1] = 7;
-        state[8 + 6 * (round - 1) + 2] = 7;
+        for which in [HEARD, VOTES] {
+            state[mask_place(round, which)] = 7;
+        }
     }
     let answer = take_first_message(&mut state, &plain(9, 0, 15).words());
     assert_eq!(

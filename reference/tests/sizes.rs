@@ -1,5 +1,8 @@
 //! The numbers of the documents' layout (01, "Records and sheet", and 02, requests A1, A5 and A7).
 
+mod common;
+
+use common::in_full;
 use reference::layout::*;
 use reference::line::LONGEST_LINE;
 
@@ -53,5 +56,7 @@ fn a_pending_buffer() {
 
 #[test]
 fn a_line() {
+    let line = "V 1 0 0 0 0 10 0 0 0 0 0 0 0 0 0 0 0 0 0\n";
+    assert_eq!(in_full("V 1 0 0 0 0 10 0 0 0 0 0 0"), line);
     assert_eq!(LONGEST_LINE, 210);
 }

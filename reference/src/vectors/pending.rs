@@ -138,15 +138,17 @@ fn damaged() -> Vec<Row> {
     rows
 }
 
-/// Early vertices in any order, each twice and with another tag, and refused ones between.
+/// Early vertices in any order, each twice and with another digest, and refused ones between.
 fn early() -> Row {
     let third = plain(3, 1, 7);
     let [a, b, c] = waiting();
-    let other = b.with_tag(1);
-    let records = [c, third, a, c, b, other, third, third.with_tag(9), a];
+    let others = [b.with_tag(1), b.with_other_word(7)];
+    let other_third = [third.with_tag(9), third.with_other_word(3)];
+    let records = [c, third, a, c, b].into_iter().chain(others);
+    let records = records.chain([third]).chain(other_third).chain([a]);
     let held = [plain(1, 1, 0).with_tag(11), plain(1, 1, 0).with_tag(12)];
     let refused = [plain(0, 0, 0), plain(2, 3, 3), record(2, 3, [15, 7, 0])];
-    let records = records.into_iter().chain(held).chain(refused);
+    let records = records.chain(held).chain(refused);
     Row::of_four(handed_over(4, state_s(), records))
 }
 
@@ -199,7 +201,8 @@ fn full() -> Row {
     let there = chain[BUFFER_SLOTS - 1];
     let another = plain(20, 2, 7);
     let lower = plain(2, 3, 7);
-    let next = [another, lower, there, there.with_tag(1), another];
+    let others = [there.with_tag(1), there.with_other_word(5)];
+    let next = [another, lower, there, others[0], others[1], another];
     let held_ones = [plain(1, 0, 0), plain(1, 0, 0).with_tag(1), plain(33, 0, 0)];
     let free = [record(2, 3, [11, 0, 0]), last, another, lower];
     let records = chain.into_iter().chain(next).chain(held_ones).chain(free);
@@ -239,8 +242,8 @@ fn partly_released() -> Row {
     Row::of_four(calls)
 }
 
-/// A vertex with all parents held whose id is in the buffer, with this tag, and there a vertex that
-/// builds on it.
+/// A vertex with all parents held whose id is in the buffer, with this tag in its digest, and there a
+/// vertex that builds on it.
 fn in_the_buffer_too(tag: u32) -> Row {
     let parent = plain(1, 3, 0);
     let there = parent.with_tag(tag);

@@ -6,6 +6,7 @@ use std::collections::BTreeMap;
 
 use reference::group::{has, members, Group};
 use reference::layout::*;
+use reference::line::spaced;
 use reference::pending::laid_out;
 use reference::record::{first_refusal, Record};
 use reference::{
@@ -161,6 +162,28 @@ pub fn rich_state() -> State {
     assert_eq!(reference::take_no_vote(&mut state, 6, 3).number, 0);
     assert_eq!(lists(&state), (vec![16, 33], vec![16, 17, 18, 33]));
     state
+}
+
+/// Lines as 01 has them, each record with the words that 02 gives it: the tag is the first word of the
+/// digest, the others are 0.
+pub fn in_full(lines: &str) -> String {
+    let line = |line: &str| match line.chars().next() {
+        Some(letter @ ('V' | 'F')) => {
+            let words = line.split_whitespace().skip(1);
+            let words: Vec<u32> = words.flat_map(str::parse).collect();
+            let [round, source, strong, timeouts, no_votes, tag, weak_count, ref weak @ ..] =
+                words[..]
+            else {
+                panic!("{line} is not as 01 has it");
+            };
+            let mut made = record(round, source, strong, timeouts, no_votes).with_tag(tag);
+            made.weak_count = weak_count;
+            made.weak.copy_from_slice(weak);
+            spaced(letter, &made.words()) + "\n"
+        }
+        _ => format!("{line}\n"),
+    };
+    lines.lines().map(line).collect()
 }
 
 pub type Buffer = Vec<u32>;

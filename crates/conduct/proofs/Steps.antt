@@ -92,7 +92,8 @@ module _ (l : List ℕ) (S : WellFormed l) where
       is : proposeVertex l (digest .words) .made ≡ madeRecord l (digest .words)
       is = unfold proposeVertex in cond-true _ _ (eq-eqb (numberOf (proposeRefusal l)) 0 why)
 
-      strong : votes (memberCount l) (currentRound l - 1) (bodyOf (madeRecord l (digest .words))) ≡ has (madeStrong l) (leader (memberCount l) (currentRound l - 1))
+      strong : votes (memberCount l) (currentRound l - 1) (bodyOf (madeRecord l (digest .words)))
+          ≡ has (madeStrong l) (leader (memberCount l) (currentRound l - 1))
       strong = unfold madeRecord strongOf in refl
 
       -- word 6

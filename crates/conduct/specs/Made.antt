@@ -15,7 +15,8 @@ pub record Made : Type 0 where
 
 -- what one call on the words l made
 abbrev pub madeBy : Call → List ℕ → List Made
-madeBy (making digest) l = cond (eqb (proposeVertex l (digest .words) .outcome .number) 0) (record { state = l; words = proposeVertex l (digest .words) .made } ∷ []) []
+madeBy (making digest) l =
+    cond (eqb (proposeVertex l (digest .words) .outcome .number) 0) (record { state = l; words = proposeVertex l (digest .words) .made } ∷ []) []
 madeBy (opening n own) l = []
 madeBy (vertex rec) l = []
 madeBy (vertexWith s rec) l = []

@@ -30,7 +30,7 @@ use Rattle.replica.proofs.Formed.{WellFormed, formed}
 use Rattle.replica.proofs.StatusLaws.{state-ok}
 use Rattle.replica.proofs.Dags.{cell-length}
 use Rattle.ordering.specs.Calls.{sameBody, placeQuestions, admissionQuestions, vertexQuestions, takeBody}
-use Rattle.ordering.specs.Compared.{Compared, ComparesAllWords}
+use Rattle.ordering.specs.Compared.{ComparesAllWords}
 use Rattle.ordering.proofs.Numbers.{number-yes, number-no, decided}
 
 -- ---- the questions before 12

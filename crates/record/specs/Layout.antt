@@ -48,13 +48,14 @@ weakPlace = weakCountPlace + 1
 abbrev pub weakSlots : ℕ
 weakSlots = 5
 
+-- all of a body, and of a whole record
 abbrev pub bodySize : ℕ
 bodySize = weakPlace + weakSlots
 
 abbrev pub recordSize : ℕ
 recordSize = bodyPlace + bodySize
 
--- each is 0 of the empty body, which stands for no record
+-- each is 0 of the empty body, which stands for no record, and of it the digest is empty too
 -- the mask of the parents in the round before
 unfoldable pub strongOf : List ℕ → ℕ
 strongOf body = getD body strongPlace 0

@@ -25,6 +25,7 @@ pub const WEAK: usize = WEAK_COUNT + 1;
 
 pub const WEAK_SLOTS: usize = 5;
 
+// All of a body, and of a whole record.
 pub const BODY_SIZE: usize = WEAK + WEAK_SLOTS;
 
 pub const RECORD_SIZE: usize = BODY + BODY_SIZE;

@@ -27,19 +27,19 @@ impl ReplicaState {
         }
     }
 
-    fn lowest_committable_round(&self) -> Option<u32> {
+    pub fn lowest_committable_round(&self) -> Option<u32> {
         (self.committed_round + 1..=LAST_COMMITTABLE_ROUND)
             .find(|&round| self.is_committable(round))
     }
 
     /// Whether a round above the committed one is committable (01: ready).
-    fn is_committable(&self, round: u32) -> bool {
+    pub fn is_committable(&self, round: u32) -> bool {
         self.holds(self.group.leader_id(round)) && self.group.is_quorum(self.voters(round))
     }
 
     /// The members whose first message or held vertex of the next round votes for the round's leader
     /// (02, request A6).
-    fn voters(&self, round: u32) -> u32 {
+    pub fn voters(&self, round: u32) -> u32 {
         let next = vertex_id(round + 1, 0)..vertex_id(round + 2, 0);
         self.vertices
             .range(next)
@@ -73,7 +73,7 @@ impl ReplicaState {
     }
 
     /// Whether strong edges in a row lead from one held vertex to another of a lower round.
-    fn has_strong_path(&self, from: u32, to: u32) -> bool {
+    pub fn has_strong_path(&self, from: u32, to: u32) -> bool {
         let mut reached = bit(member_of(from));
         for round in (round_of(to) + 1..=round_of(from)).rev() {
             reached = members(reached)

@@ -13,6 +13,7 @@
 #![forbid(unsafe_code)]
 
 pub mod answer;
+pub mod broken;
 pub mod call;
 pub mod calls;
 mod commit;
@@ -27,11 +28,12 @@ pub mod record;
 pub mod rng;
 pub mod sheetlog;
 pub mod simulate;
-mod state;
+pub mod state;
 pub mod vectors;
 pub mod well_formed;
 
 pub use answer::{Answer, Proposal, Status};
+pub use broken::Broken;
 pub use call::Call;
 pub use calls::{
     ask_journal, ask_leaders, hand_journal, hand_leaders, open, propose, sign_no_vote, status,
@@ -39,4 +41,4 @@ pub use calls::{
 };
 pub use layout::{BUFFER_WORDS, STATE_WORDS};
 pub use model::Model;
-pub use well_formed::is_well_formed;
+pub use well_formed::{first_broken, is_well_formed};

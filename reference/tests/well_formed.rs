@@ -317,3 +317,138 @@ fn list_words_beyond_the_counts_are_zero() {
         breaks(&state, &[(at, 1)]);
     }
 }
+
+/// The first clause in 01's order is named, with its place: each broken alone, and beside all after it.
+#[test]
+fn the_first_clause_is_named() {
+    let (second, third) = (
+        [(cell_word(2, 0, CELL_STRONG), 3)],
+        [(cell_word(3, 0, CELL_STRONG), 15)],
+    );
+    let not_held = [(cell_word(32, 15, CELL_WEAK_COUNT), 1)];
+    let [timeouts, votes, ordered] = [(7, TIMEOUTS, 16), (4, VOTES, 1), (9, ORDERED, 2)]
+        .map(|(round, which, word)| [(mask_place(round, which), word)]);
+    let first_round = [(mask_place(1, HEARD), 1), (mask_place(1, VOTES), 1)];
+    let cases: [(&[(usize, u32)], Broken, &str); 20] = [
+        (&[(N, 5)], Broken::MemberCount(5), "the member count is 5"),
+        (
+            &[(CURRENT_ROUND, 34)],
+            Broken::CurrentRound(34),
+            "the current round is 34",
+        ),
+        (
+            &[(COMMITTED_ROUND, 32)],
+            Broken::CommittedRound(32),
+            "the committed round is 32",
+        ),
+        (
+            &[(OWN, 5)],
+            Broken::OwnMember(5),
+            "word 5 is 5, above the member count",
+        ),
+        (
+            &[(MADE_ROUNDS, 1)],
+            Broken::WatcherMarks,
+            "a watcher's words 6 and 7 are not 0",
+        ),
+        (
+            &timeouts,
+            Broken::MaskBit {
+                round: 7,
+                mask: TIMEOUTS,
+            },
+            "the timeouts mask of round 7 has a bit at n or above",
+        ),
+        (
+            &votes,
+            Broken::VotesNotHeard(4),
+            "round 4 has votes that were not heard",
+        ),
+        (&first_round, Broken::VotesOfRound1, "round 1 has votes"),
+        (
+            &ordered,
+            Broken::OrderedNotHeld(9),
+            "round 9 has ordered vertices that are not held",
+        ),
+        (
+            &second,
+            Broken::HeldRecord {
+                round: 2,
+                member: 0,
+                number: 8,
+            },
+            "the held record of round 2, member 0 fails question 8",
+        ),
+        (
+            &third,
+            Broken::HeldRecord {
+                round: 3,
+                member: 0,
+                number: 14,
+            },
+            "the held record of round 3, member 0 fails question 14",
+        ),
+        (
+            &not_held,
+            Broken::CellNotHeld {
+                round: 32,
+                member: 15,
+            },
+            "round 32, member 15 is not held, but its cell is not zero",
+        ),
+        (
+            &[(LEADER_COUNT, 33)],
+            Broken::LeaderCount(33),
+            "the leader count is 33",
+        ),
+        (
+            &[(LEADER_LIST.start, 17)],
+            Broken::LeaderEntry(0),
+            "leader list entry 1 is no held leader of a higher round than before",
+        ),
+        (
+            &[(LEADER_COUNT, 1)],
+            Broken::LastLeader(1),
+            "the last leader's round, 1, is not the committed round",
+        ),
+        (
+            &[(JOURNAL_COUNT, 513)],
+            Broken::JournalCount(513),
+            "the journal count is 513",
+        ),
+        (
+            &[(JOURNAL.start + 1, 16)],
+            Broken::JournalEntry(1),
+            "journal entry 2 is not ordered, or stands there twice",
+        ),
+        (
+            &[(JOURNAL_COUNT, 3)],
+            Broken::JournalLacks(33),
+            "the journal lacks an ordered vertex: round 2, member 1",
+        ),
+        (
+            &[(LEADER_LIST.end - 1, 16)],
+            Broken::BeyondLeaders,
+            "words of the leader list beyond its count are not 0",
+        ),
+        (
+            &[(JOURNAL.end - 1, 16)],
+            Broken::BeyondJournal,
+            "words of the journal beyond its count are not 0",
+        ),
+    ];
+    let mut all_after = rich_state();
+    for (changes, broken, text) in cases.iter().rev() {
+        all_after = with(&all_after, changes);
+        for state in [with(&rich_state(), changes), all_after.clone()] {
+            assert_eq!(first_broken(&state), Some(*broken));
+        }
+        assert_eq!(broken.to_string(), *text);
+    }
+    assert_eq!(first_broken(&rich_state()), None);
+    assert_eq!(
+        first_broken(&[0; STATE_WORDS]),
+        Some(Broken::MemberCount(0))
+    );
+    assert_eq!(first_broken(&[4]), Some(Broken::Size(1)));
+}

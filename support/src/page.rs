@@ -1,0 +1,210 @@
+//! The page that `--html` writes: one file, with nothing from elsewhere and without scripts. It is HTML
+//! and well formed XML as well.
+
+use std::collections::BTreeSet;
+
+use reference::layout::round_of;
+use reference::state::ReplicaState;
+
+use crate::drawing::{partings, ring, Drawing};
+use crate::node::{lacking, Node};
+use crate::pair::{Beside, Pair, Side, SIDES};
+use crate::report::Report;
+use crate::text::vertex_name;
+
+const STYLE: &str = include_str!("page.css");
+/// A graph has at least so many columns.
+const FEWEST_COLUMNS: u32 = 2;
+
+/// What the legend says of the graphs, and of each mark, in the order of `marks`.
+const ABOUT: &str = "Rounds are columns and members are rows. Edges lead from a vertex to its parents, \
+    which are on the left. Point at a vertex to read all that the sheet says of it. One colour marks \
+    what the other sheet does not hold or holds otherwise. Where a row says that a member broke the \
+    rules, the report says how.";
+const MEANINGS: [&str; 12] = [
+    "A vertex that is held and not ordered.",
+    "A vertex that is held and ordered. The number is its journal entry.",
+    "A square: the vertex of its round's leader.",
+    "A double outline: a committed leader, one of the leader list.",
+    "The place of a leader whose vertex is not held.",
+    "+ The other sheet does not hold this vertex.",
+    "≠ The other sheet holds a different vertex here.",
+    "The first entry at which the journal, the leader list or both part from the other sheet's.",
+    "A strong edge, to a parent in the round before.",
+    "A weak edge, to a parent in an earlier round.",
+    "An edge, strong or weak, that the other sheet does not have.",
+    "The chain: a strong path from a committed leader to the one before it in the list.",
+];
+
+/// What the page shows.
+pub struct Page<'a> {
+    pub report: &'a Report<'a>,
+    /// All that is printed.
+    pub text: &'a str,
+}
+
+impl Page<'_> {
+    pub fn render(&self) -> String {
+        let [left, right] = self.report.names.map(escaped);
+        let caught = self.report.caught();
+        let graphs: String = SIDES.map(|side| self.graph(side, &caught)).concat();
+        format!(
+            "<!DOCTYPE html>\n\
+             <html xmlns=\"http://www.w3.org/1999/xhtml\" lang=\"en\">\n<head>\n\
+             <meta charset=\"utf-8\"/>\n\
+             <meta name=\"viewport\" content=\"width=device-width, initial-scale=1\"/>\n\
+             <title>{left} and {right}, side by side</title>\n<style>\n{STYLE}</style>\n</head>\n\
+             <body>\n<h1>Two sheets side by side</h1>\n\
+             <section class=\"answer\">\n{answer}</section>\n{table}{legend}{graphs}\
+             <section class=\"report\">\n<h2>The whole report</h2>\n<pre>{text}</pre>\n</section>\n\
+             </body>\n</html>\n",
+            answer = paragraphs(&self.report.answer()),
+            table = self.table(),
+            legend = legend(),
+            text = escaped(self.text),
+        )
+    }
+
+    fn name(&self, side: Side) -> String {
+        format!("<bdi>{}</bdi>", escaped(self.report.names[side as usize]))
+    }
+
+    fn table(&self) -> String {
+        let row = |(fact, [left, right]): (&str, [String; 2])| {
+            format!("<tr><th scope=\"row\">{fact}</th><td>{left}</td><td>{right}</td></tr>\n")
+        };
+        let facts = self.report.facts().into_iter();
+        format!(
+            "<table>\n<thead><tr><td></td><th scope=\"col\">left sheet</th>\
+             <th scope=\"col\">right sheet</th></tr></thead>\n<tbody>\n{}{}</tbody>\n</table>\n",
+            row(("file", SIDES.map(|side| self.name(side)))),
+            facts.map(row).collect::<String>()
+        )
+    }
+
+    /// The heading of a side, what is to be said of it, and its graph.
+    fn graph(&self, side: Side, caught: &BTreeSet<u32>) -> String {
+        let pair = self.report.pair;
+        let said = paragraphs(&said_of(pair, side));
+        let drawn = |state: &ReplicaState| {
+            let columns = self.columns();
+            Drawing {
+                pair,
+                side,
+                state,
+                columns,
+                caught,
+            }
+            .svg()
+        };
+        format!(
+            "<section class=\"side\">\n<h2>The {side} sheet: {}</h2>\n{said}\
+             <div class=\"scroll\">\n{}</div>\n</section>\n",
+            self.name(side),
+            pair.get(side)
+                .decoded
+                .as_ref()
+                .map(drawn)
+                .unwrap_or_default()
+        )
+    }
+
+    /// The last round in which either side holds a vertex.
+    fn columns(&self) -> u32 {
+        let pair = self.report.pair;
+        let last = SIDES.map(|side| pair.get(side).vertices().keys().next_back().copied());
+        let rounds = last.into_iter().flatten().map(round_of);
+        rounds.fold(FEWEST_COLUMNS, u32::max)
+    }
+}
+
+/// Whether a side can be drawn, and where its lists part from the other's.
+fn said_of(pair: &Pair, side: Side) -> Vec<String> {
+    let here = pair.get(side);
+    let mut said = Vec::new();
+    if here.decoded.is_none() {
+        said.push("This sheet is not sound: n is not legal. It cannot be drawn.".to_string());
+    } else if !here.is_sound() {
+        said.push(
+            "This sheet is not sound. It is drawn as it stands, without the held records that do \
+             not pass questions 5 to 11."
+                .to_string(),
+        );
+    }
+    said.extend(partings(pair, side).into_iter().map(|parting| {
+        let (list, entry, id) = (parting.list, parting.entry, vertex_name(parting.id));
+        format!("The {list} parts from the other at entry {entry}, which is {id} here.")
+    }));
+    said
+}
+
+/// Every mark of the graphs, with its meaning.
+fn legend() -> String {
+    let item = |(mark, meaning): (String, &str)| {
+        format!(
+            "<li><svg xmlns=\"http://www.w3.org/2000/svg\" viewBox=\"-56 -34 112 58\" width=\"112\" \
+             height=\"58\" aria-hidden=\"true\">{mark}</svg><span>{meaning}</span></li>\n"
+        )
+    };
+    let items: String = marks().into_iter().zip(MEANINGS).map(item).collect();
+    format!(
+        "<section class=\"legend\">\n<h2>What the graphs show</h2>\n<p>{ABOUT}</p>\n\
+         <ul>\n{items}</ul>\n</section>\n"
+    )
+}
+
+/// The marks. Their classes are none of those by which vertices and edges of a graph are counted.
+fn marks() -> [String; MEANINGS.len()] {
+    let node = |is_leader, is_committed, journal_entry, beside| {
+        let node = Node {
+            is_leader,
+            is_committed,
+            journal_entry,
+            beside,
+        };
+        format!("<g class=\"sample{}\">{}</g>", node.classes(), node.marks())
+    };
+    let line = |class: &str| format!("<path class=\"{class}\" d=\"M-26 8L26 -8\"/>");
+    [
+        node(false, false, None, Beside::Same),
+        node(false, false, Some(12), Beside::Same),
+        node(true, false, None, Beside::Same),
+        node(true, true, Some(12), Beside::Same),
+        lacking(),
+        node(false, false, None, Beside::OnlyHere),
+        node(false, false, None, Beside::Differs),
+        node(false, false, None, Beside::Same) + &ring("journal parts"),
+        line("sample-strong"),
+        line("sample-weak"),
+        line("sample-strong alone"),
+        line("chain"),
+    ]
+}
+
+fn paragraphs(sentences: &[String]) -> String {
+    let paragraph = |said: &String| format!("<p>{}</p>\n", escaped(said));
+    sentences.iter().map(paragraph).collect()
+}
+
+/// Text for an element. Characters that XML does not allow are left out, and those that turn the
+/// direction of the text after them.
+fn escaped(text: &str) -> String {
+    let is_allowed = |c: &char| match c {
+        '\n' | '\t' => true,
+        '\u{FFFE}' | '\u{FFFF}' => false,
+        '\u{202A}'..='\u{202E}' | '\u{2066}'..='\u{2069}' => false,
+        c => !c.is_control(),
+    };
+    let mut out = String::new();
+    for c in text.chars().filter(is_allowed) {
+        match c {
+            '&' => out += "&amp;",
+            '<' => out += "&lt;",
+            '>' => out += "&gt;",
+            '"' => out += "&quot;",
+            '\'' => out += "&#39;",
+            c => out.push(c),
+        }
+    }
+    out
+}

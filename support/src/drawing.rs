@@ -22,11 +22,13 @@ const FOOT: u32 = 8;
 /// The two lines of text at the head.
 const ROUND_LINE: u32 = 14;
 const LEADER_LINE: u32 = 31;
-/// The ring around a vertex at which lists part: half its width, and its label's size and top.
+/// The ring around a vertex at which lists part: half its width, and its label's size and top, above
+/// or below the ring.
 const RING: u32 = 21;
 const LABEL_WIDTH: u32 = 108;
-const LABEL_HEIGHT: u32 = 15;
-const LABEL_TOP: u32 = 31;
+const LABEL_HEIGHT: i32 = 15;
+pub const LABEL_ABOVE: i32 = -31;
+const LABEL_BELOW: i32 = -LABEL_ABOVE - LABEL_HEIGHT;
 /// The more edges between two rounds, the fainter they are. Their opacity in percent is the first
 /// number over the square of n, and at most the second.
 const OPACITY: u32 = 2800;
@@ -221,7 +223,8 @@ impl Drawing<'_> {
         self.state.vertices.iter().map(vertex).collect()
     }
 
-    /// The held vertices at which lists part; one ring where both lists part at the same.
+    /// The held vertices at which lists part; one ring where both lists part at the same. Of two labels
+    /// the upper stands above its ring and the lower below, so that they never cover each other.
     fn rings(&self) -> String {
         let mut labels = BTreeMap::new();
         for Parting { list, id, .. } in partings(self.pair, self.side) {
@@ -231,23 +234,32 @@ impl Drawing<'_> {
             };
             labels.insert(id, label);
         }
-        labels.retain(|&id, _| self.state.holds(id));
-        let placed = |(id, label): (u32, String)| {
+        let mut labels: Vec<(u32, String)> = labels.into_iter().collect();
+        labels.retain(|(id, _)| self.state.holds(*id));
+        labels.sort_by_key(|(id, _)| member_of(*id));
+        let placed = |id: u32, mark: String| {
             let (x, y) = place(id);
-            format!("<g transform=\"translate({x} {y})\">{}</g>\n", ring(&label))
+            format!("<g transform=\"translate({x} {y})\">{mark}</g>\n")
         };
-        labels.into_iter().map(placed).collect()
+        let rings: String = labels.iter().map(|(id, _)| placed(*id, ring())).collect();
+        let tops = labels.iter().zip([LABEL_ABOVE, LABEL_BELOW]);
+        let labels = tops.map(|((id, text), top)| placed(*id, label(text, top)));
+        rings + &labels.collect::<String>()
     }
 }
 
-/// A ring around the point 0 0, with its label above.
-pub fn ring(label: &str) -> String {
-    let (size, left) = (2 * RING, LABEL_WIDTH / 2);
-    let middle = LABEL_TOP - LABEL_HEIGHT / 2;
+/// A ring around the point 0 0.
+pub fn ring() -> String {
+    let size = 2 * RING;
+    format!("<rect class=\"ring\" x=\"-{RING}\" y=\"-{RING}\" width=\"{size}\" height=\"{size}\"/>")
+}
+
+/// Its label, whose top is given.
+pub fn label(text: &str, top: i32) -> String {
+    let (left, middle) = (LABEL_WIDTH / 2, top + LABEL_HEIGHT / 2);
     format!(
-        "<rect class=\"ring\" x=\"-{RING}\" y=\"-{RING}\" width=\"{size}\" height=\"{size}\"/>\
-         <rect class=\"ring-label\" x=\"-{left}\" y=\"-{LABEL_TOP}\" width=\"{LABEL_WIDTH}\" \
-         height=\"{LABEL_HEIGHT}\"/><text class=\"ring-text\" y=\"-{middle}\">{label}</text>"
+        "<rect class=\"ring-label\" x=\"-{left}\" y=\"{top}\" width=\"{LABEL_WIDTH}\" \
+         height=\"{LABEL_HEIGHT}\"/><text class=\"ring-text\" y=\"{middle}\">{text}</text>"
     )
 }
 

@@ -18,5 +18,6 @@ pub mod origin;
 pub mod page;
 pub mod pair;
 pub mod report;
+mod shown;
 pub mod text;
 pub mod why;

@@ -6,7 +6,7 @@ use std::collections::BTreeSet;
 use reference::layout::round_of;
 use reference::state::ReplicaState;
 
-use crate::drawing::{partings, ring, Drawing};
+use crate::drawing::{label, partings, ring, Drawing, LABEL_ABOVE};
 use crate::node::{lacking, Node};
 use crate::pair::{Beside, Pair, Side, SIDES};
 use crate::report::Report;
@@ -173,7 +173,7 @@ fn marks() -> [String; MEANINGS.len()] {
         lacking(),
         node(false, false, None, Beside::OnlyHere),
         node(false, false, None, Beside::Differs),
-        node(false, false, None, Beside::Same) + &ring("journal parts"),
+        node(false, false, None, Beside::Same) + &ring() + &label("journal parts", LABEL_ABOVE),
         line("sample-strong"),
         line("sample-weak"),
         line("sample-strong alone"),

@@ -313,7 +313,10 @@ fn say_lines(text: &mut Text, side: Side, lines: &Lines) {
     }
     if lines.conflicts > 0 {
         let vertices = counted(lines.conflicts, "vertex was", "vertices were");
-        say(&format!("{vertices} answered 13, so that another record of its round and member is held. A refused vertex catches nobody here: ask for it."));
+        say(&format!(
+            "{vertices} answered 13: another record of that round and member is held. A refused \
+             vertex catches nobody here: ask for it."
+        ));
     }
     if lines.openings > 1 {
         say(&format!(

@@ -115,7 +115,8 @@ fn a_leader_that_the_next_one_does_not_reach() {
     check(
         state,
         fault,
-        "It lists ref 16 (round 1, member 0), to which no strong path leads from the next leader, ref 33 (round 2, member 1). No quorum of voters: round 1 has 2",
+        "It lists ref 16 (round 1, member 0), to which no strong path leads from the next leader, \
+         ref 33 (round 2, member 1). No quorum of voters: round 1 has 2",
     );
 }
 
@@ -144,13 +145,13 @@ fn a_journal_in_another_order() {
     check(
         with_lists(full_rounds(), leaders, journal),
         Fault::Journal { at: 1, given },
-        "at entry 2 they give ref 17 (round 1, member 1)",
+        "entry 2 would be ref 17 (round 1, member 1)",
     );
     let longer = [&[16, 17, 18, 19, 33, 32, 34, 35, 50][..], &[48]].concat();
     check(
         with_lists(full_rounds(), leaders, &longer),
         Fault::Journal { at: 9, given: None },
-        "at entry 10 they give no entry",
+        "entry 10 would be no entry",
     );
 }
 

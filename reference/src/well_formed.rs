@@ -166,13 +166,17 @@ fn journal(words: &Words) -> Option<Broken> {
         return Some(Broken::JournalCount(words[JOURNAL_COUNT]));
     };
     let ordered = marked(words, ORDERED);
-    let mut named = BTreeSet::new();
-    let is_wrong = |&at: &usize| !ordered.contains(&journal[at]) || !named.insert(journal[at]);
-    if let Some(at) = (0..journal.len()).find(is_wrong) {
-        return Some(Broken::JournalEntry(at));
+    let named: BTreeSet<u32> = journal.iter().copied().collect();
+    if named.len() == journal.len() && named == ordered {
+        return None;
     }
-    let left_out = ordered.difference(&named).next();
-    left_out.map(|&id| Broken::JournalLacks(id))
+    let is_wrong =
+        |&at: &usize| !ordered.contains(&journal[at]) || journal[..at].contains(&journal[at]);
+    let left_out = || ordered.difference(&named).next();
+    (0..journal.len())
+        .find(is_wrong)
+        .map(Broken::JournalEntry)
+        .or_else(|| left_out().map(|&id| Broken::JournalLacks(id)))
 }
 
 /// List words beyond the counts are 0.

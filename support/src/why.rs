@@ -104,7 +104,7 @@ fn passed_over(state: &ReplicaState, id: u32) -> String {
     }
 }
 
-/// How many voters the leader of a round has, of how many, and who they are.
+/// How many voters a held leader has, of how many, and who they are.
 pub fn voters(state: &ReplicaState, round: u32) -> String {
     let voters = state.voters(round);
     let seen = |member: u32| {
@@ -123,13 +123,11 @@ pub fn voters(state: &ReplicaState, round: u32) -> String {
         .map(|member| format!("member {member} ({})", seen(member)))
         .collect();
     let (count, needed) = (named.len(), state.group.quorum() as usize);
-    let has = match state.holds(state.group.leader_id(round)) {
-        true => format!("round {round} has"),
-        false => format!("the leader of round {round} is not held, and has"),
-    };
     let sentence = match count < needed {
-        true => format!("No quorum of voters: {has} {count} of the {needed} that it needs"),
-        false => format!("Enough voters: {has} {count} and needs {needed}"),
+        true => {
+            format!("No quorum of voters: round {round} has {count} of the {needed} that it needs")
+        }
+        false => format!("Enough voters: round {round} has {count} and needs {needed}"),
     };
     match named.is_empty() {
         true => format!("{sentence}."),
@@ -153,8 +151,22 @@ fn not_reached(state: &ReplicaState, id: u32) -> Vec<String> {
             ),
             voters(state, round),
         ],
-        None => vec![format!(
-            "No leader held above round {committed} has it in its history."
-        )],
+        None => vec![no_leader(state)],
+    }
+}
+
+/// No leader held above the committed round reaches a vertex: which one is not held.
+fn no_leader(state: &ReplicaState) -> String {
+    let committed = state.committed_round;
+    let lacking = (committed + 1..=LAST_COMMITTABLE_ROUND)
+        .map(|round| state.group.leader_id(round))
+        .find(|&leader| !state.holds(leader));
+    let sentence = format!("No leader held above round {committed} has it in its history");
+    match lacking {
+        Some(leader) => format!(
+            "{sentence}; the next one not held is {}.",
+            vertex_name(leader)
+        ),
+        None => format!("{sentence}."),
     }
 }

@@ -98,7 +98,7 @@ fn why_an_entry_is_not_there_yet() {
         ),
         (&two_votes, 49, "Its parents are all held here: it has not been taken yet."),
         (&no_leader, 33, "not held; not ordered; not in the leader list. Its parents are all held here"),
-        (&no_leader, 17, "No leader held above round 1 has it in its history."),
+        (&no_leader, 17, "No leader held above round 1 has it in its history; the next one not held is ref 33 (round 2, member 1)."),
         (&no_parent, 33, "Its parent ref 19 (round 1, member 3) is missing here."),
         (&no_parents, 33, "3 of its parents are missing here, the lowest is ref 16 (round 1, member 0)."),
         (&no_parents, 700, "not held; not ordered; not in the leader list. Neither sheet holds it."),

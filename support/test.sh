@@ -109,7 +109,13 @@ cmp "$good" "$out/kept.in" || fail "an input is written over"
 status=0
 "$program" "$good" "$good" >/dev/full 2>"$out/message" || status=$?
 [ "$status" -eq 2 ] || fail "status $status where nothing can be printed"
-"$program" "$good" "$cases/agreement/right.state" | head -n 1 >/dev/null || fail "a reader that goes away is a failure"
+{
+    sleep 0.2
+    status=0
+    "$program" "$good" "$cases/agreement/right.state" || status=$?
+    echo "$status" >"$out/status"
+} | true
+[ "$(cat "$out/status")" -eq 0 ] || fail "a reader that has gone away is a failure"
 
 # A name of odd characters stands escaped in the page, and a full group of sixteen is drawn whole.
 odd="$out/<a & \"b\">"$'\x01\e[31m.in'

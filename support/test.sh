@@ -98,12 +98,16 @@ refused "$usage"
 refused "$usage" "$good"
 refused "$usage" "$good" "$good" "$good"
 refused "$usage" "$good" "$good" --html
+refused "$usage" "$good" "$good" --html --html
 refused "$usage" "$good" "$good" --page "$out/page"
 refused "$usage" "$good" "$good" --html "$out/page" --html "$out/page"
 refused "cannot be written" "$good" "$good" --html "$out/absent/page"
 cp "$good" "$out/kept.in"
 refused "is an input" "$out/kept.in" "$good" --html "$out/kept.in"
 refused "is an input" "$good" "$out/kept.in" --html "$out/../support/kept.in"
+ln "$out/kept.in" "$out/hard.html"
+ln -s kept.in "$out/soft.html"
+for link in hard soft; do refused "is an input" "$out/kept.in" "$good" --html "$out/$link.html"; done
 cmp "$good" "$out/kept.in" || fail "an input is written over"
 "$program" --help | grep -qxF "$usage" || fail "--help has not the usage"
 status=0

@@ -3,6 +3,7 @@
 
 use std::fmt;
 
+use crate::answer;
 use crate::layout::*;
 
 /// A clause that does not hold, with the place or the word. Entries of lists count from 0 here and
@@ -56,9 +57,17 @@ impl fmt::Display for Broken {
         match *self {
             Broken::Size(words) => write!(f, "it has {words} words, not {STATE_WORDS}"),
             Broken::MemberCount(0) => write!(f, "the member count is 0: it was never opened"),
-            Broken::MemberCount(n) => write!(f, "the member count is {n}"),
-            Broken::CurrentRound(round) => write!(f, "the current round is {round}"),
-            Broken::CommittedRound(round) => write!(f, "the committed round is {round}"),
+            Broken::MemberCount(n) => {
+                write!(f, "the member count is {n}, not one of {LEGAL_SIZES:?}")
+            }
+            Broken::CurrentRound(round) => write!(
+                f,
+                "the current round is {round}, not 1 to {LAST_CURRENT_ROUND}"
+            ),
+            Broken::CommittedRound(round) => write!(
+                f,
+                "the committed round is {round}, not 0 to {LAST_COMMITTABLE_ROUND}"
+            ),
             Broken::OwnMember(word) => write!(f, "word {OWN} is {word}, above the member count"),
             Broken::WatcherMarks => write!(
                 f,
@@ -82,7 +91,8 @@ impl fmt::Display for Broken {
                 number,
             } => write!(
                 f,
-                "the held record of round {round}, member {member} fails question {number}"
+                "the held record of round {round}, member {member} fails question {number}, of {}",
+                asked_of(number)
             ),
             Broken::CellNotHeld { round, member } => write!(
                 f,
@@ -96,7 +106,11 @@ impl fmt::Display for Broken {
 impl Broken {
     fn write_list_clause(&self, f: &mut fmt::Formatter) -> fmt::Result {
         match *self {
-            Broken::LeaderCount(count) => write!(f, "the leader count is {count}"),
+            Broken::LeaderCount(count) => write!(
+                f,
+                "the leader count is {count}, above {}",
+                LEADER_LIST.len()
+            ),
             Broken::LeaderEntry(at) => write!(
                 f,
                 "leader list entry {} is no held leader of a higher round than before",
@@ -106,7 +120,9 @@ impl Broken {
                 f,
                 "the last leader's round, {round}, is not the committed round"
             ),
-            Broken::JournalCount(count) => write!(f, "the journal count is {count}"),
+            Broken::JournalCount(count) => {
+                write!(f, "the journal count is {count}, above {}", JOURNAL.len())
+            }
             Broken::JournalEntry(at) => write!(
                 f,
                 "journal entry {} is not ordered, or stands there twice",
@@ -123,5 +139,18 @@ impl Broken {
             }
             _ => write!(f, "words of the journal beyond its count are not 0"),
         }
+    }
+}
+
+/// What a question from 5 to 14 that a held record can fail is about.
+fn asked_of(number: u32) -> &'static str {
+    match number {
+        answer::MASK_BITS => "its masks",
+        answer::STRONG => "its strong mask",
+        answer::TIMEOUT => "its timeout mask",
+        answer::NO_VOTE => "its no-vote mask",
+        answer::WEAK => "its weak refs",
+        answer::MISSING_PARENT => "its parents",
+        _ => "its round and source",
     }
 }

@@ -330,16 +330,20 @@ fn the_first_clause_is_named() {
         .map(|(round, which, word)| [(mask_place(round, which), word)]);
     let first_round = [(mask_place(1, HEARD), 1), (mask_place(1, VOTES), 1)];
     let cases: [(&[(usize, u32)], Broken, &str); 20] = [
-        (&[(N, 5)], Broken::MemberCount(5), "the member count is 5"),
+        (
+            &[(N, 5)],
+            Broken::MemberCount(5),
+            "the member count is 5, not one of [4, 7, 10, 13, 16]",
+        ),
         (
             &[(CURRENT_ROUND, 34)],
             Broken::CurrentRound(34),
-            "the current round is 34",
+            "the current round is 34, not 1 to 33",
         ),
         (
             &[(COMMITTED_ROUND, 32)],
             Broken::CommittedRound(32),
-            "the committed round is 32",
+            "the committed round is 32, not 0 to 31",
         ),
         (
             &[(OWN, 5)],
@@ -377,7 +381,7 @@ fn the_first_clause_is_named() {
                 member: 0,
                 number: 8,
             },
-            "the held record of round 2, member 0 fails question 8",
+            "the held record of round 2, member 0 fails question 8, of its strong mask",
         ),
         (
             &third,
@@ -386,7 +390,7 @@ fn the_first_clause_is_named() {
                 member: 0,
                 number: 14,
             },
-            "the held record of round 3, member 0 fails question 14",
+            "the held record of round 3, member 0 fails question 14, of its parents",
         ),
         (
             &not_held,
@@ -399,7 +403,7 @@ fn the_first_clause_is_named() {
         (
             &[(LEADER_COUNT, 33)],
             Broken::LeaderCount(33),
-            "the leader count is 33",
+            "the leader count is 33, above 32",
         ),
         (
             &[(LEADER_LIST.start, 17)],
@@ -414,7 +418,7 @@ fn the_first_clause_is_named() {
         (
             &[(JOURNAL_COUNT, 513)],
             Broken::JournalCount(513),
-            "the journal count is 513",
+            "the journal count is 513, above 512",
         ),
         (
             &[(JOURNAL.start + 1, 16)],

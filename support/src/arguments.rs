@@ -35,11 +35,16 @@ pub fn parse(words: impl IntoIterator<Item = OsString>) -> Option<Command> {
     while let Some(word) = words.next() {
         match word.to_str() {
             Some("--help" | "-h") => return Some(Command::Help),
-            Some("--html") if page.is_none() => page = Some(PathBuf::from(words.next()?)),
-            Some(option) if option.starts_with("--") => return None,
-            _ => inputs.push(PathBuf::from(word)),
+            Some("--html") if page.is_none() => page = Some(path(words.next()?)?),
+            _ => inputs.push(path(word)?),
         }
     }
     let inputs = <[PathBuf; 2]>::try_from(inputs).ok()?;
     Some(Command::Compare { inputs, page })
+}
+
+/// A word as a path, unless it is an option.
+fn path(word: OsString) -> Option<PathBuf> {
+    let is_option = word.to_str().is_some_and(|word| word.starts_with("--"));
+    (!is_option).then(|| PathBuf::from(word))
 }

@@ -17,8 +17,8 @@ const ROW: u32 = 44;
 /// What stands around the rows and columns: row labels, rounds and leaders, and the margins.
 const LABELS: u32 = 96;
 const HEAD: u32 = 50;
-const RIGHT: u32 = 26;
-const FOOT: u32 = 8;
+const RIGHT: u32 = 34;
+const FOOT: u32 = 14;
 /// The two lines of text at the head.
 const ROUND_LINE: u32 = 14;
 const LEADER_LINE: u32 = 31;
@@ -100,13 +100,18 @@ impl Drawing<'_> {
         };
         let (wide, high) = (width * percent / 100, height * percent / 100);
         let side = self.side;
+        let [strong, other_strong] = self.edges("strong", strong_line, |record| {
+            record.strong_parents().collect()
+        });
+        let [weak, other_weak] =
+            self.edges("weak", weak_line, |record| record.weak_parents().collect());
         let layers = [
             self.rows(),
             self.heads(),
-            self.edges("strong", strong_line, |record| {
-                record.strong_parents().collect()
-            }),
-            self.edges("weak", weak_line, |record| record.weak_parents().collect()),
+            strong,
+            weak,
+            other_strong,
+            other_weak,
             self.chain(),
             self.lacking(),
             self.vertices(),
@@ -127,10 +132,7 @@ impl Drawing<'_> {
         let row = |member: u32| {
             let (y, top) = (y_of(member), HEAD + ROW * member);
             let (class, why) = match self.caught.contains(&member) {
-                true => (
-                    " caught",
-                    "<tspan x=\"0\" dy=\"1.2em\">broke the rules</tspan>",
-                ),
+                true => (" caught", "<tspan x=\"0\" dy=\"1.2em\">caught</tspan>"),
                 false => ("", ""),
             };
             format!(
@@ -158,21 +160,23 @@ impl Drawing<'_> {
         )
     }
 
-    /// The edges of one kind between held vertices.
-    fn edges(&self, class: &str, line: fn(u32, u32) -> String, parents: Parents) -> String {
+    /// The edges of one kind between held vertices; apart from them those that the other side's vertex
+    /// does not have, which are drawn above the others.
+    fn edges(&self, class: &str, line: fn(u32, u32) -> String, parents: Parents) -> [String; 2] {
         let there = self.pair.get(self.side.other()).vertices();
-        let mut out = String::new();
+        let mut out = [String::new(), String::new()];
         for (&id, record) in &self.state.vertices {
-            let shared = there.get(&id).map(parents).unwrap_or_default();
+            let shared = there.get(&id).map(parents);
             let mut held = parents(record);
             held.retain(|&parent| self.state.holds(parent));
             for parent in held {
-                let alone = match shared.contains(&parent) {
-                    true => "",
-                    false => " alone",
+                let (layer, mark) = match &shared {
+                    None => (0, " alone"),
+                    Some(shared) if shared.contains(&parent) => (0, ""),
+                    Some(_) => (1, " differs"),
                 };
                 let line = line(id, parent);
-                out += &format!("<path class=\"{class}{alone}\" d=\"{line}\"/>\n");
+                out[layer] += &format!("<path class=\"{class}{mark}\" d=\"{line}\"/>\n");
             }
         }
         out
@@ -190,14 +194,19 @@ impl Drawing<'_> {
         paths.map(line).collect()
     }
 
-    /// The leaders that are not held.
+    /// The leaders that are not held, or whose records cannot be read.
     fn lacking(&self) -> String {
-        let group = self.state.group;
+        let (group, here) = (self.state.group, self.pair.get(self.side));
         let empty = |round: u32| {
-            let ((x, y), leader) = (place(group.leader_id(round)), group.leader(round));
+            let (id, leader) = (group.leader_id(round), group.leader(round));
+            let (x, y) = place(id);
+            let why = match here.holds(id) {
+                true => "is held, with a record that fails the questions",
+                false => "is not held",
+            };
             format!(
                 "<g transform=\"translate({x} {y})\"><title>The leader of round {round}, \
-                 member {leader}, is not held.</title>{}</g>\n",
+                 member {leader}, {why}.</title>{}</g>\n",
                 lacking()
             )
         };

@@ -1,15 +1,15 @@
-//! Who broke the rules, from what both states hold: a member with two different records in a round,
+//! Who broke the rules, from what states hold: a member with two different records in a round,
 //! and one that votes for a leader and signs a no-vote against it.
 
 use std::collections::BTreeSet;
 
-use reference::group::has;
+use reference::group::{has, Group};
 use reference::layout::*;
 use reference::record::Record;
 use reference::state::ReplicaState;
 
 use crate::origin::Origin;
-use crate::pair::{Pair, Side, SIDES};
+use crate::pair::{Pair, Side};
 
 /// Two different records of one round and member.
 #[derive(Clone, Copy, Debug, PartialEq, Eq)]
@@ -30,7 +30,7 @@ pub struct Sighting {
     pub record: Option<Record>,
 }
 
-#[derive(Clone, Copy, Debug, PartialEq, Eq)]
+#[derive(Clone, Copy, Debug, PartialEq, Eq, PartialOrd, Ord)]
 pub enum Kind {
     Vertex,
     FirstMessage,
@@ -60,20 +60,19 @@ pub struct Evidence {
 }
 
 impl Evidence {
-    /// What both states show; nothing where they are not of one group.
-    pub fn of(pair: &Pair) -> Evidence {
-        let Some(group) = pair.group() else {
-            return Evidence::default();
-        };
-        let cells =
-            (1..=LAST_ROUND).flat_map(|round| (0..group.n()).map(move |member| (round, member)));
+    /// What the states of these sides show, of which an earlier one is believed more. They are of one
+    /// group; without sides there is nothing.
+    pub fn of(pair: &Pair, sides: &[Side]) -> Evidence {
+        let group = sides.first().and_then(|&side| pair.group_of(side));
+        let n = group.map_or(0, Group::n);
+        let cells = (1..=LAST_ROUND).flat_map(|round| (0..n).map(move |member| (round, member)));
         Evidence {
             two_records: cells
                 .clone()
-                .filter_map(|(round, member)| two_records(pair, round, member))
+                .filter_map(|(round, member)| two_records(pair, sides, round, member))
                 .collect(),
             votes_and_no_votes: cells
-                .filter_map(|(round, member)| vote_and_no_vote(pair, round, member))
+                .filter_map(|(round, member)| vote_and_no_vote(pair, sides, round, member))
                 .collect(),
         }
     }
@@ -99,8 +98,10 @@ impl Evidence {
     }
 }
 
-fn two_records(pair: &Pair, round: u32, member: u32) -> Option<TwoRecords> {
-    let sightings = sightings(pair, round, member);
+/// The left side's record stands first.
+fn two_records(pair: &Pair, sides: &[Side], round: u32, member: u32) -> Option<TwoRecords> {
+    let mut sightings = sightings(pair, sides, round, member);
+    sightings.sort_by_key(|sighting| (sighting.kind, sighting.side));
     let differ = |first: &Sighting, second: &Sighting| match (first.record, second.record) {
         (Some(first), Some(second)) => first != second,
         _ => first.votes != second.votes,
@@ -118,11 +119,12 @@ fn two_records(pair: &Pair, round: u32, member: u32) -> Option<TwoRecords> {
     })
 }
 
-/// All that was seen of a record that was admitted: vertices, then first messages.
-fn sightings(pair: &Pair, round: u32, member: u32) -> Vec<Sighting> {
-    [Kind::Vertex, Kind::FirstMessage]
-        .into_iter()
-        .flat_map(|kind| SIDES.map(|side| (side, kind)))
+/// All that was seen of a record that was admitted, side by side, vertices before first messages.
+fn sightings(pair: &Pair, sides: &[Side], round: u32, member: u32) -> Vec<Sighting> {
+    let kinds = |&side| [Kind::Vertex, Kind::FirstMessage].map(|kind| (side, kind));
+    sides
+        .iter()
+        .flat_map(kinds)
         .filter_map(|(side, kind)| sighting(pair, side, kind, vertex_id(round, member)))
         .collect()
 }
@@ -153,12 +155,12 @@ fn sighting(pair: &Pair, side: Side, kind: Kind, id: u32) -> Option<Sighting> {
 }
 
 /// A vote for the leader of the round before, and a no-vote against it.
-fn vote_and_no_vote(pair: &Pair, round: u32, member: u32) -> Option<VoteAndNoVote> {
+fn vote_and_no_vote(pair: &Pair, sides: &[Side], round: u32, member: u32) -> Option<VoteAndNoVote> {
     let before = round - 1;
-    let vote = sightings(pair, round, member)
+    let vote = sightings(pair, sides, round, member)
         .into_iter()
         .find(|sighting| sighting.votes)?;
-    let no_vote = SIDES.into_iter().find_map(|side| {
+    let no_vote = sides.iter().find_map(|&side| {
         let signed = signed(pair.get(side).decoded.as_ref()?, before, member)?;
         Some((side, signed))
     })?;

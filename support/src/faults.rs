@@ -5,6 +5,7 @@
 use std::collections::BTreeSet;
 
 use reference::layout::round_of;
+use reference::record::Record;
 use reference::state::ReplicaState;
 
 /// What the rules do not give.
@@ -23,6 +24,10 @@ pub enum Fault {
     Journal { at: usize, given: Option<u32> },
     /// The current round, and the one that the rules give.
     CurrentRound { is: u32, given: u32 },
+    /// A held vertex that carries timeouts which the round before does not have.
+    TimeoutsNotAdded(u32),
+    /// A round for which the own member signed a no-vote that is not among the no-votes.
+    SignedNotNoted(u32),
 }
 
 /// All faults of a well formed state.
@@ -31,6 +36,7 @@ pub fn faults(state: &ReplicaState) -> Vec<Fault> {
     faults.extend(state.lowest_committable_round().map(Fault::NotCommitted));
     faults.extend(journal_fault(state));
     faults.extend(round_fault(state));
+    faults.extend(mark_faults(state));
     faults
 }
 
@@ -82,4 +88,19 @@ fn round_fault(state: &ReplicaState) -> Option<Fault> {
     by_the_rule.advance_current_round();
     let (is, given) = (state.current_round, by_the_rule.current_round);
     (is != given).then_some(Fault::CurrentRound { is, given })
+}
+
+/// The first carried timeouts that were not added, and the first signed no-vote that is not noted.
+fn mark_faults(state: &ReplicaState) -> impl Iterator<Item = Fault> {
+    let is_added = |record: &Record| record.timeouts & !state.timeouts.get(record.round - 1) == 0;
+    let carried = state.vertices.iter().find(|(_, record)| !is_added(record));
+    let is_noted = |round: u32| state.own.is_some_and(|own| state.no_votes.has(round, own));
+    let signed = state
+        .signed_no_votes
+        .iter()
+        .find(|&&round| !is_noted(round));
+    carried
+        .map(|(&id, _)| Fault::TimeoutsNotAdded(id))
+        .into_iter()
+        .chain(signed.map(|&round| Fault::SignedNotNoted(round)))
 }

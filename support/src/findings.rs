@@ -4,6 +4,7 @@ use reference::layout::{round_of, LAST_ROUND};
 use reference::record::is_round;
 
 use crate::faults::Fault;
+use crate::origin::Origin;
 use crate::pair::{Side, SIDES};
 use crate::report::Report;
 use crate::text::{members_named, vertex_name, Text};
@@ -26,13 +27,20 @@ impl Report<'_> {
     /// The outcome first, then what shows it.
     pub fn say_findings(&self, text: &mut Text) {
         text.heading("WHO BROKE THE RULES");
-        if !self.pair.are_sound() {
-            text.say(1, "A sheet that is not sound catches nobody.");
-            text.say(1, "Where the two differ, that may be the damage.");
-        } else if self.pair.group().is_none() {
+        for side in SIDES
+            .into_iter()
+            .filter(|&side| !self.pair.get(side).is_sound())
+        {
             text.say(
                 1,
-                "The sheets are not of one group: they show nothing of each other.",
+                &format!("The {side} sheet is not sound, and catches nobody."),
+            );
+        }
+        if self.pair.are_sound() && self.pair.group().is_none() {
+            text.say(
+                1,
+                "The sheets are not of one group: they show nothing of each other. Ask each \
+                 member for the sheet of the group in question.",
             );
         }
         for (side, faults) in SIDES.into_iter().zip(&self.faults) {
@@ -40,9 +48,7 @@ impl Report<'_> {
         }
         self.say_caught(text);
         self.say_outcome(text);
-        if !self.evidence.is_empty() {
-            self.say_evidence(text);
-        }
+        self.say_evidence(text);
     }
 
     /// What of a state's own lists the rules do not give.
@@ -90,13 +96,19 @@ impl Report<'_> {
             Fault::CurrentRound { is, given } => {
                 format!("Its current round is {is}. What it holds gives round {given}.")
             }
+            Fault::TimeoutsNotAdded(id) => {
+                format!("It lacks timeouts that {} carries.", vertex_name(id))
+            }
+            Fault::SignedNotNoted(round) => {
+                format!("Its own signed no-vote for round {round} is not among its no-votes.")
+            }
         }
     }
 
     /// The members caught against f.
     fn say_caught(&self, text: &mut Text) {
         let caught = self.caught();
-        let Some(group) = self.pair.group().filter(|_| !caught.is_empty()) else {
+        let Some(group) = self.group().filter(|_| !caught.is_empty()) else {
             return;
         };
         let (count, f) = (caught.len(), group.f());
@@ -113,8 +125,14 @@ impl Report<'_> {
         );
         text.say(
             1,
-            "This is what the sheets say. Only the signed records prove it.",
+            "This is what the sheets show. Only the signed records prove it.",
         );
+        for (side, faults) in SIDES.into_iter().zip(&self.faults) {
+            if !faults.is_empty() {
+                let doubtful = format!("What the {side} sheet alone shows is doubtful.");
+                text.say(1, &doubtful);
+            }
+        }
     }
 
     /// What the findings say of the lists, what cannot be seen, and what to ask for.
@@ -133,12 +151,13 @@ impl Report<'_> {
                 "So few members cannot part the lists where all else is as it should be.",
             );
         }
-        match (self.parts(), found) {
-            (false, false) => text.say(1, "Nothing is found."),
-            (true, false) => text.say(1, "The lists part, and nothing is found on the sheets."),
-            _ => {}
+        match (self.parts(), found, self.pair.are_sound()) {
+            (_, true, _) => {}
+            (_, _, false) => text.say(1, "Beside the damage, nothing is found."),
+            (true, ..) => text.say(1, "The lists part, and nothing is found on the sheets."),
+            (false, ..) => text.say(1, "Nothing is found."),
         }
-        if self.parts() && !self.is_explained() {
+        if self.parts() && !self.is_explained() && self.pair.group().is_some() {
             text.say(
                 1,
                 "The agreement claim rests on premises. Sheets do not show all of them:",
@@ -154,14 +173,13 @@ impl Report<'_> {
         self.faults.iter().any(|faults| !faults.is_empty())
     }
 
-    /// Whether the sides, both well formed, hold different vertices of some round and member.
     fn has_two_vertices(&self) -> bool {
-        self.pair.are_sound() && self.evidence.has_two_vertices()
+        self.evidence.has_two_vertices()
     }
 
     fn are_more_than_f(&self) -> bool {
         let caught = self.caught().len();
-        let group = self.pair.group();
+        let group = self.group();
         group.is_some_and(|group| caught > group.f() as usize)
     }
 
@@ -174,8 +192,11 @@ impl Report<'_> {
         text.say(1, "Ask the members for:");
         let is_damaged = |side: &Side| !self.pair.get(*side).is_sound();
         for side in SIDES.into_iter().filter(is_damaged) {
-            let copy = format!("another copy of the {side} sheet, from before the damage;");
-            text.item(2, "-", &copy);
+            let again = match self.pair.get(side).origin {
+                Origin::Stored => "another copy of the sheet, from before the damage",
+                Origin::Lines(_) => "all lines from the opening on, which no line here is",
+            };
+            text.item(2, "-", &format!("on the {side}, {again};"));
         }
         let records = "all signed first messages, vertices, no-votes and timeouts of";
         let rounds = self.rounds_in_question();

@@ -2,6 +2,7 @@
 
 use std::fs;
 use std::io::{self, ErrorKind, Write};
+use std::os::unix::fs::MetadataExt;
 use std::path::{Path, PathBuf};
 use std::process::ExitCode;
 
@@ -57,9 +58,10 @@ fn compare(inputs: &[PathBuf; 2], page: Option<&Path>) -> Result<u8, String> {
     })
 }
 
-/// Whether two paths are one file. A page that is not there yet is no input.
+/// Whether two paths are one file, also by links. A page that is not there yet is no input.
 fn is_same(input: &Path, page: &Path) -> bool {
-    match (fs::canonicalize(input), fs::canonicalize(page)) {
+    let file = |path| fs::metadata(path).map(|file| (file.dev(), file.ino()));
+    match (file(input), file(page)) {
         (Ok(input), Ok(page)) => input == page,
         _ => false,
     }

@@ -3,9 +3,9 @@
 use std::collections::BTreeMap;
 use std::ops::Range;
 
-use reference::group::{members, Group};
+use reference::group::{has, members, Group};
 use reference::layout::*;
-use reference::record::{first_refusal, Record};
+use reference::record::{first_refusal, is_round, Record};
 use reference::state::ReplicaState;
 use reference::{first_broken, Broken};
 
@@ -65,7 +65,19 @@ impl MemberState {
         self.soundness == Soundness::Sound
     }
 
-    /// The held vertices, by id.
+    /// Whether the held masks have an id.
+    pub fn holds(&self, id: u32) -> bool {
+        let (round, member) = (round_of(id), member_of(id));
+        is_round(round) && has(self.words[mask_place(round, HELD)], member)
+    }
+
+    /// How many ids the held masks have.
+    pub fn held_count(&self) -> u32 {
+        let held = |round| self.words[mask_place(round, HELD)].count_ones();
+        (1..=LAST_ROUND).map(held).sum()
+    }
+
+    /// The held vertices, by id. Of a state that is not well formed, those that can be read.
     pub fn vertices(&self) -> &BTreeMap<u32, Record> {
         static NONE: BTreeMap<u32, Record> = BTreeMap::new();
         self.decoded.as_ref().map_or(&NONE, |state| &state.vertices)

@@ -5,7 +5,7 @@ use reference::layout::{member_of, round_of};
 use reference::record::Record;
 
 use crate::pair::{Beside, Pair, Side};
-use crate::text::{members_named, vertex_name};
+use crate::text::{digest_name, members_named, vertex_name};
 
 /// Half the width of a vertex, and of the outer outline of a committed leader.
 pub const HALF: u32 = 13;
@@ -22,16 +22,23 @@ pub struct Node {
     pub is_committed: bool,
     pub journal_entry: Option<usize>,
     pub beside: Beside,
+    /// Whether the other journal has it at another place or not, and whether only this leader list
+    /// has it.
+    pub is_moved: bool,
+    pub is_listed_alone: bool,
 }
 
 impl Node {
     pub fn of(pair: &Pair, side: Side, group: Group, record: &Record) -> Node {
-        let (here, id) = (pair.get(side), record.id());
+        let (here, there, id) = (pair.get(side), pair.get(side.other()), record.id());
+        let [listed, listed_there] = [here, there].map(|member| member.leader_entry(id).is_some());
         Node {
             is_leader: group.leader_id(record.round) == id,
-            is_committed: here.leader_entry(id).is_some(),
+            is_committed: listed,
             journal_entry: here.journal_entry(id),
             beside: pair.beside(side, id),
+            is_moved: here.journal_entry(id) != there.journal_entry(id),
+            is_listed_alone: listed && !listed_there,
         }
     }
 
@@ -42,6 +49,8 @@ impl Node {
             (self.is_committed, " committed"),
             (self.journal_entry.is_some(), " ordered"),
             (self.beside != Beside::Same, " alone"),
+            (self.is_moved, " moved"),
+            (self.is_listed_alone, " listed-alone"),
         ];
         let given = classes.iter().filter(|(is, _)| *is);
         given.map(|(_, class)| *class).collect()
@@ -98,7 +107,6 @@ pub fn details(pair: &Pair, side: Side, group: Group, record: &Record) -> String
         true => "the leader of its round",
         false => "not the leader of its round",
     };
-    let digest = record.digest.map(|word| format!("{word:08x}"));
     let mut lines = vec![
         format!("{}, {leader}", vertex_name(record.id())),
         format!(
@@ -114,7 +122,7 @@ pub fn details(pair: &Pair, side: Side, group: Group, record: &Record) -> String
             "no-vote signers: {}",
             members_named(members(record.no_votes))
         ),
-        format!("digest: {}", digest.join(" ")),
+        format!("digest: {}", digest_name(record.digest)),
     ];
     lines.extend(standing(pair, side, record.id()));
     lines.join("\n")

@@ -6,7 +6,7 @@ use std::fs::File;
 use std::io::{self, Read};
 use std::path::Path;
 
-use reference::layout::{EARLIER_STATE_WORDS, STATE_WORDS};
+use reference::layout::{EARLIER_RECORD_WORDS, EARLIER_STATE_WORDS, STATE_WORDS};
 use reference::record::Record;
 use reference::Call;
 use yardbook::number;
@@ -17,6 +17,9 @@ use crate::text::path_name;
 /// Bytes of a word, and of a state as the host stores it.
 const WORD_BYTES: usize = 4;
 pub const STATE_BYTES: usize = WORD_BYTES * STATE_WORDS;
+
+/// What some editors put before a text.
+const BYTE_ORDER_MARK: &[u8] = b"\xef\xbb\xbf";
 
 /// More is not read: a whole run of a group is some hundred thousand bytes.
 pub const MOST_BYTES: usize = 64 << 20;
@@ -34,11 +37,15 @@ pub struct Lines {
     /// Calls with answer 0, and the others.
     pub admitted: usize,
     pub refused: usize,
-    /// Lines of another form; bytes after the last line feed are one.
+    /// Lines of another form; bytes after the last line feed are one. So many of them have a record
+    /// of an earlier version, and the first may begin with a byte-order mark.
     pub other: usize,
+    pub older: usize,
+    pub has_mark: bool,
     /// Openings with answer 0.
     pub openings: usize,
-    /// Vertices that were answered 13.
+    /// Refused records beside which another one of their round and member was taken: vertices that
+    /// were answered 13, and first messages that were answered 12.
     pub conflicts: usize,
     /// The first messages taken since the last opening, by id.
     pub first_messages: BTreeMap<u32, Record>,
@@ -103,15 +110,27 @@ fn words_of(bytes: &[u8]) -> Vec<u32> {
 /// Makes the calls of all lines on a state that is all zero at first, as `sheetlog` does.
 fn follow(bytes: &[u8]) -> (Vec<u32>, Lines) {
     let mut words = vec![0; STATE_WORDS];
-    let mut lines = Lines::default();
+    let mut lines = Lines {
+        has_mark: bytes.starts_with(BYTE_ORDER_MARK),
+        ..Lines::default()
+    };
     for piece in bytes.split_inclusive(|&byte| byte == b'\n') {
         let call = piece.strip_suffix(b"\n").and_then(Call::parse);
         match call {
             Some(call) => lines.note(&call, make(&call, &mut words)),
-            None => lines.other += 1,
+            None => {
+                lines.other += 1;
+                lines.older += usize::from(is_older(piece));
+            }
         }
     }
     (words, lines)
+}
+
+/// Whether a line is that of a record of an earlier version.
+fn is_older(line: &[u8]) -> bool {
+    let words = line.split(|&byte| byte == b' ').count() - 1;
+    matches!(line, [b'V' | b'F', b' ', ..]) && EARLIER_RECORD_WORDS.contains(&words)
 }
 
 /// Makes a call through the library; the number of its answer.
@@ -152,6 +171,11 @@ impl Lines {
                 if let Some(record) = Record::from_words(words) {
                     self.first_messages.insert(record.id(), record);
                 }
+            }
+            (Call::First(words), number::DUPLICATE) => {
+                let taken = |record: Record| self.first_messages.get(&record.id()) == Some(&record);
+                let is_same = Record::from_words(words).is_some_and(taken);
+                self.conflicts += usize::from(!is_same);
             }
             (Call::Vertex(_), number::CONFLICT) => self.conflicts += 1,
             _ => {}

@@ -10,7 +10,7 @@ use crate::drawing::{label, partings, ring, Drawing, LABEL_ABOVE};
 use crate::node::{lacking, Node};
 use crate::pair::{Beside, Pair, Side, SIDES};
 use crate::report::Report;
-use crate::text::vertex_name;
+use crate::text::{is_plain, vertex_name};
 
 const STYLE: &str = include_str!("page.css");
 /// A graph has at least so many columns.
@@ -19,9 +19,9 @@ const FEWEST_COLUMNS: u32 = 2;
 /// What the legend says of the graphs, and of each mark, in the order of `marks`.
 const ABOUT: &str = "Rounds are columns and members are rows. Edges lead from a vertex to its parents, \
     which are on the left. Point at a vertex to read all that the sheet says of it. One colour marks \
-    what the other sheet does not hold or holds otherwise. Where a row says that a member broke the \
-    rules, the report says how.";
-const MEANINGS: [&str; 12] = [
+    what the other sheet does not have or has otherwise. Where a row says that a member is caught, \
+    the report at the end says by what.";
+const MEANINGS: [&str; 15] = [
     "A vertex that is held and not ordered.",
     "A vertex that is held and ordered. The number is its journal entry.",
     "A square: the vertex of its round's leader.",
@@ -29,10 +29,13 @@ const MEANINGS: [&str; 12] = [
     "The place of a leader whose vertex is not held.",
     "+ The other sheet does not hold this vertex.",
     "≠ The other sheet holds a different vertex here.",
+    "An underlined number: the other journal does not have it, or has it at another place.",
+    "A dashed outer line: the other leader list does not have this leader.",
     "The first entry at which the journal, the leader list or both part from the other sheet's.",
     "A strong edge, to a parent in the round before.",
     "A weak edge, to a parent in an earlier round.",
-    "An edge, strong or weak, that the other sheet does not have.",
+    "An edge of a vertex that the other sheet does not hold.",
+    "An edge that the other sheet's vertex does not have.",
     "The chain: a strong path from a committed leader to the one before it in the list.",
 ];
 
@@ -155,30 +158,58 @@ fn legend() -> String {
 
 /// The marks. Their classes are none of those by which vertices and edges of a graph are counted.
 fn marks() -> [String; MEANINGS.len()] {
-    let node = |is_leader, is_committed, journal_entry, beside| {
-        let node = Node {
-            is_leader,
-            is_committed,
-            journal_entry,
-            beside,
-        };
-        format!("<g class=\"sample{}\">{}</g>", node.classes(), node.marks())
+    let plain = Node {
+        is_leader: false,
+        is_committed: false,
+        journal_entry: None,
+        beside: Beside::Same,
+        is_moved: false,
+        is_listed_alone: false,
+    };
+    let ordered = Node {
+        journal_entry: Some(12),
+        ..plain
+    };
+    let leader = Node {
+        is_leader: true,
+        ..plain
+    };
+    let committed = Node {
+        is_committed: true,
+        journal_entry: Some(12),
+        ..leader
+    };
+    let beside = |beside| Node { beside, ..plain };
+    let moved = Node {
+        is_moved: true,
+        ..ordered
+    };
+    let listed_alone = Node {
+        is_listed_alone: true,
+        ..committed
     };
     let line = |class: &str| format!("<path class=\"{class}\" d=\"M-26 8L26 -8\"/>");
     [
-        node(false, false, None, Beside::Same),
-        node(false, false, Some(12), Beside::Same),
-        node(true, false, None, Beside::Same),
-        node(true, true, Some(12), Beside::Same),
+        sample(plain),
+        sample(ordered),
+        sample(leader),
+        sample(committed),
         lacking(),
-        node(false, false, None, Beside::OnlyHere),
-        node(false, false, None, Beside::Differs),
-        node(false, false, None, Beside::Same) + &ring() + &label("journal parts", LABEL_ABOVE),
+        sample(beside(Beside::OnlyHere)),
+        sample(beside(Beside::Differs)),
+        sample(moved),
+        sample(listed_alone),
+        sample(plain) + &ring() + &label("journal parts", LABEL_ABOVE),
         line("sample-strong"),
         line("sample-weak"),
         line("sample-strong alone"),
+        line("sample-strong differs"),
         line("chain"),
     ]
+}
+
+fn sample(node: Node) -> String {
+    format!("<g class=\"sample{}\">{}</g>", node.classes(), node.marks())
 }
 
 fn paragraphs(sentences: &[String]) -> String {
@@ -186,14 +217,12 @@ fn paragraphs(sentences: &[String]) -> String {
     sentences.iter().map(paragraph).collect()
 }
 
-/// Text for an element. Characters that XML does not allow are left out, and those that turn the
-/// direction of the text after them.
+/// Text for an element, with plain characters and line ends alone. Two more are forbidden in XML.
 fn escaped(text: &str) -> String {
-    let is_allowed = |c: &char| match c {
-        '\n' | '\t' => true,
+    let is_allowed = |&c: &char| match c {
+        '\n' => true,
         '\u{FFFE}' | '\u{FFFF}' => false,
-        '\u{202A}'..='\u{202E}' | '\u{2066}'..='\u{2069}' => false,
-        c => !c.is_control(),
+        c => is_plain(c),
     };
     let mut out = String::new();
     for c in text.chars().filter(is_allowed) {

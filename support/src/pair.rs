@@ -108,10 +108,14 @@ impl Pair {
         self.left.is_sound() && self.right.is_sound()
     }
 
+    pub fn group_of(&self, side: Side) -> Option<Group> {
+        Group::new(self.get(side).words[N])
+    }
+
     /// The group of both, if they have the same legal member count.
     pub fn group(&self) -> Option<Group> {
-        let [left, right] = [&self.left, &self.right].map(|member| member.words[N]);
-        Group::new(left).filter(|_| left == right)
+        let [left, right] = SIDES.map(|side| self.group_of(side));
+        left.filter(|_| left == right)
     }
 
     /// Both states are well formed and of one member count.

@@ -6,7 +6,7 @@ use std::collections::BTreeSet;
 use reference::group::Group;
 use reference::layout::*;
 
-use crate::evidence::Evidence;
+use crate::evidence::{Evidence, TwoRecords};
 use crate::faults::{faults, Fault};
 use crate::member::{MemberState, Soundness};
 use crate::origin::{Lines, Origin};
@@ -18,9 +18,12 @@ use crate::why::standing;
 pub struct Report<'a> {
     pub pair: &'a Pair,
     pub names: [&'a str; 2],
-    pub evidence: Evidence,
-    /// Of each side that is well formed: what its lists have that the rules do not give.
+    /// Of each side that is well formed: what it has that the rules do not give.
     pub faults: [Vec<Fault>; 2],
+    /// What the well formed states show, if they are of one group.
+    pub evidence: Evidence,
+    /// Where a state is not well formed: the records of one round and member that are not the same.
+    pub differences: Vec<TwoRecords>,
 }
 
 /// The two kinds of lists, as they are called where several are meant, and where one is.
@@ -60,12 +63,27 @@ impl<'a> Report<'a> {
             Some(state) if pair.get(side).is_sound() => faults(state),
             _ => Vec::new(),
         };
+        let faults = SIDES.map(of_side);
+        let evidence = Evidence::of(pair, &believed(pair, &faults));
+        let may_differ = pair.group().is_some() && !pair.are_sound();
+        let both = if may_differ { &SIDES[..] } else { &[] };
+        let mut differences = Evidence::of(pair, both).two_records;
+        differences.retain(|found| !evidence.two_records.contains(found));
         Report {
             pair,
             names,
-            evidence: Evidence::of(pair),
-            faults: SIDES.map(of_side),
+            faults,
+            evidence,
+            differences,
         }
+    }
+
+    /// The group that the evidence is about.
+    pub fn group(&self) -> Option<Group> {
+        let sound = SIDES
+            .into_iter()
+            .find(|&side| self.pair.get(side).is_sound());
+        sound.and_then(|side| self.pair.group_of(side))
     }
 
     /// Whether some list parts.
@@ -73,12 +91,9 @@ impl<'a> Report<'a> {
         LISTS.iter().any(|list| list.order(self.pair).parts())
     }
 
-    /// The members caught. States that are not well formed catch nobody.
+    /// The members caught.
     pub fn caught(&self) -> BTreeSet<u32> {
-        match self.pair.are_sound() {
-            true => self.evidence.members(),
-            false => BTreeSet::new(),
-        }
+        self.evidence.members()
     }
 
     /// The rounds of the entries at which lists part.
@@ -120,9 +135,10 @@ impl<'a> Report<'a> {
         }
         let two = self.pair.entries_of_two_records();
         if let Some(&first) = two.first() {
-            let entries = counted(two.len(), "entry names", "entries name");
+            let entries = counted(two.len(), "entry", "entries");
             answer.push(format!(
-                "In both journals {entries} the same ref, but the sheets hold DIFFERENT RECORDS of it: first entry {}, {}.",
+                "The sheets hold DIFFERENT RECORDS for {entries} that both journals have. The first is \
+                 entry {}, {}.",
                 first + 1,
                 vertex_name(self.pair.left.journal[first])
             ));
@@ -131,15 +147,13 @@ impl<'a> Report<'a> {
         answer
     }
 
-    /// Why lists are not comparable by the rules.
+    /// What must be known before the lists are compared: damage, two groups, and inputs of which not
+    /// all was taken.
     fn comparable_sentences(&self) -> Vec<String> {
-        let mut sentences = Vec::new();
-        for side in SIDES {
-            if let Soundness::Broken(clause) = self.pair.get(side).soundness {
-                let clause = clause.map_or("no clause is named".to_string(), |it| it.to_string());
-                sentences.push(format!("The {side} sheet is NOT SOUND: {clause}."));
-            }
-        }
+        let mut sentences: Vec<String> = SIDES
+            .into_iter()
+            .flat_map(|side| side_sentences(side, self.pair.get(side)))
+            .collect();
         if !self.pair.are_sound() {
             sentences.push("A sheet that is not sound has no lists by the rules.".to_string());
             sentences.push("They are compared here as its words have them.".to_string());
@@ -152,22 +166,22 @@ impl<'a> Report<'a> {
         sentences
     }
 
-    /// Who is caught, and which state's lists the rules do not give.
+    /// Which state the rules do not give, and who is caught.
     fn found_sentences(&self) -> Vec<String> {
         let mut found = Vec::new();
-        let caught = self.caught();
-        if !caught.is_empty() {
-            found.push(format!(
-                "Caught breaking the rules: {}.",
-                members_named(caught)
-            ));
-        }
         for (side, faults) in SIDES.into_iter().zip(&self.faults) {
             if !faults.is_empty() {
                 found.push(format!(
                     "The {side} sheet is NOT WHAT THE RULES GIVE from what it holds."
                 ));
             }
+        }
+        let caught = self.caught();
+        if !caught.is_empty() {
+            let caught = members_named(caught);
+            found.push(format!(
+                "By what the sheets show, {caught} BROKE THE RULES."
+            ));
         }
         found
     }
@@ -193,9 +207,7 @@ impl<'a> Report<'a> {
             ("journal entries", |member| {
                 member.words[JOURNAL_COUNT].to_string()
             }),
-            ("vertices held", |member| {
-                member.vertices().len().to_string()
-            }),
+            ("vertices held", |member| member.held_count().to_string()),
         ];
         let of_both = |fact: Fact| SIDES.map(|side| fact(self.pair.get(side)));
         facts.map(|(label, fact)| (label, of_both(fact))).to_vec()
@@ -212,19 +224,27 @@ impl<'a> Report<'a> {
                 say_lines(text, side, lines);
             }
         }
+        let [left, right] = SIDES.map(|side| self.pair.get(side).words[OWN]);
+        if let (Some(own), true) = (left.checked_sub(1), left == right) {
+            text.say(1, &format!("Both are sheets of member {own}."));
+        }
     }
 
     /// The first places at which the lists have not the same entry, and how the vertices there stand.
     fn say_first_differences(&self, text: &mut Text) {
+        if self.pair.are_sound() && self.pair.group().is_none() {
+            return;
+        }
         let mut ids = Vec::new();
         for list in LISTS {
             let Some(at) = list.order(self.pair).first_difference(list.of(self.pair)) else {
                 continue;
             };
             if ids.is_empty() {
-                text.heading(match self.parts() {
-                    true => "WHERE THEY PART",
-                    false => "WHERE ONE IS BEHIND",
+                text.heading(match (self.parts(), self.pair.are_comparable()) {
+                    (true, _) => "WHERE THEY PART",
+                    (false, true) => "WHERE ONE IS BEHIND",
+                    (false, false) => "WHERE ONE IS LONGER",
                 });
             }
             let [left, right] = list.of(self.pair).map(|list| list.get(at).copied());
@@ -294,35 +314,70 @@ fn order_sentence(list: List, pair: &Pair) -> String {
     }
 }
 
-/// What was not made or not admitted of a `sheetlog` input.
+/// The sides whose states are well formed and of one group, one that has no faults first.
+fn believed(pair: &Pair, faults: &[Vec<Fault>; 2]) -> Vec<Side> {
+    let mut sides: Vec<Side> = SIDES.to_vec();
+    sides.retain(|&side| pair.get(side).is_sound());
+    sides.sort_by_key(|&side| !faults[side as usize].is_empty());
+    if sides.len() == SIDES.len() && pair.group().is_none() {
+        sides.clear();
+    }
+    sides
+}
+
+/// What must be known of one side.
+fn side_sentences(side: Side, member: &MemberState) -> Vec<String> {
+    let mut sentences = Vec::new();
+    if let Soundness::Broken(clause) = member.soundness {
+        let clause = clause.map_or("no clause is named".to_string(), |it| it.to_string());
+        sentences.push(format!("The {side} sheet is NOT SOUND: {clause}."));
+        if matches!(member.origin, Origin::Stored)
+            && Group::new(member.words[N].swap_bytes()).is_some()
+        {
+            sentences.push(
+                "Its words seem to have their highest byte first, not their lowest.".to_string(),
+            );
+        }
+    }
+    if let Origin::Lines(lines) = &member.origin {
+        let (other, all) = (lines.other, lines.calls() + lines.other);
+        if other > 0 {
+            sentences.push(format!(
+                "Of the {side} input {other} of {all} lines are NO CALLS: what they were to say is missing."
+            ));
+        }
+        if lines.openings > 1 {
+            sentences.push(format!(
+                "The {side} input opens the sheet {} times: what came before the last is forgotten.",
+                lines.openings
+            ));
+        }
+    }
+    sentences
+}
+
+/// What was refused of a `sheetlog` input, and why lines may be of another form.
 fn say_lines(text: &mut Text, side: Side, lines: &Lines) {
     let mut say = |sentence: &str| text.say(1, &format!("The {side} input: {sentence}"));
     if lines.refused > 0 {
-        say(&format!(
-            "{} refused.",
-            counted(lines.refused, "call was", "calls were")
-        ));
-    }
-    if lines.other > 0 {
-        let other = counted(
-            lines.other,
-            "line is of another form",
-            "lines are of another form",
-        );
-        say(&format!("{other} and made no call."));
+        let calls = counted(lines.refused, "call was", "calls were");
+        say(&format!("{calls} refused."));
     }
     if lines.conflicts > 0 {
-        let vertices = counted(lines.conflicts, "vertex was", "vertices were");
+        let records = counted(lines.conflicts, "record was", "records were");
         say(&format!(
-            "{vertices} answered 13: another record of that round and member is held. A refused \
-             vertex catches nobody here: ask for it."
+            "{records} refused beside another one of the same round and member. What is refused \
+             catches nobody here: ask for it."
         ));
     }
-    if lines.openings > 1 {
+    if lines.older > 0 {
+        let records = counted(lines.older, "line has", "lines have");
         say(&format!(
-            "opened {} times; what came before the last opening is forgotten.",
-            lines.openings
+            "{records} records of an earlier version of the library."
         ));
+    }
+    if lines.has_mark {
+        say("it begins with a byte-order mark, so that its first line is no call.");
     }
 }
 

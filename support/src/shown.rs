@@ -9,42 +9,43 @@ use reference::record::Record;
 
 use crate::evidence::{Kind, Sighting, Signed, TwoRecords, VoteAndNoVote};
 use crate::report::Report;
-use crate::text::{members_named, vertex_name, Text};
+use crate::text::{digest_name, members_named, vertex_name, Text};
 
 /// So many pairs of records are printed whole; of the others, the words that differ.
 const PRINTED_WHOLE: usize = 8;
 
 impl Report<'_> {
-    /// By states that are not well formed nobody is caught: there only the records are shown.
+    /// What shows who broke the rules, and where records differ by what may be damage.
     pub fn say_evidence(&self, text: &mut Text) {
-        let two_records = &self.evidence.two_records;
-        let (whole, others) = two_records.split_at(PRINTED_WHOLE.min(two_records.len()));
-        match self.pair.are_sound() {
-            true => {
-                text.heading("WHAT SHOWS IT");
-                for found in &self.evidence.votes_and_no_votes {
-                    say_vote_and_no_vote(text, found);
-                }
-            }
-            false if two_records.is_empty() => return,
-            false => text.heading("WHERE THE RECORDS DIFFER"),
+        if !self.evidence.is_empty() {
+            text.heading("WHAT SHOWS IT");
         }
-        for found in whole {
-            text.say(1, &format!("{}:", self.name_two_records(found)));
-            say_two_records(text, found);
+        for found in &self.evidence.votes_and_no_votes {
+            say_vote_and_no_vote(text, found);
         }
-        for found in others {
-            let name = self.name_two_records(found);
-            text.say(1, &format!("{name}: {}.", differing_words(found)));
+        say_pairs(text, &self.evidence.two_records, |found| {
+            let (member, round) = (found.member, found.round);
+            format!("Member {member} has two different records in round {round}")
+        });
+        if !self.differences.is_empty() {
+            text.heading("WHERE THE RECORDS DIFFER, PERHAPS BY THE DAMAGE");
         }
+        say_pairs(text, &self.differences, |found| {
+            let (member, round) = (found.member, found.round);
+            format!("The records of member {member} in round {round}")
+        });
     }
+}
 
-    fn name_two_records(&self, found: &TwoRecords) -> String {
-        let (member, round) = (found.member, found.round);
-        match self.pair.are_sound() {
-            true => format!("Member {member} has two different records in round {round}"),
-            false => format!("The records of member {member} in round {round} are not the same"),
-        }
+/// The first pairs whole, the others by the words that differ.
+fn say_pairs(text: &mut Text, pairs: &[TwoRecords], name: fn(&TwoRecords) -> String) {
+    let (whole, others) = pairs.split_at(PRINTED_WHOLE.min(pairs.len()));
+    for found in whole {
+        text.say(1, &format!("{}:", name(found)));
+        say_two_records(text, found);
+    }
+    for found in others {
+        text.say(1, &format!("{}: {}.", name(found), differing_words(found)));
     }
 }
 
@@ -88,6 +89,11 @@ fn say_two_records(text: &mut Text, found: &TwoRecords) {
         text.raw(&format!("    {name:<16}{here:<24}{there:<24}{mark}"));
     }
     say_masks(text, &a, &b);
+    if a.digest != b.digest {
+        text.say(2, "The digest by bytes, in the first and in the second:");
+        text.say(2, &digest_name(a.digest));
+        text.say(2, &digest_name(b.digest));
+    }
 }
 
 /// Who is in the masks that differ.

@@ -3,7 +3,7 @@
 use std::path::Path;
 
 use reference::layout::{member_of, round_of};
-use reference::record::is_round;
+use reference::record::{is_round, Digest};
 
 /// Lines are folded at this many characters.
 const WIDTH: usize = 78;
@@ -113,7 +113,21 @@ pub fn joined(parts: &[String]) -> String {
     }
 }
 
-/// A path without control characters, which a terminal would obey.
+/// A digest as the host's 32 bytes, in their order.
+pub fn digest_name(digest: Digest) -> String {
+    let bytes = yardbook::Digest(digest).to_bytes();
+    bytes.map(|byte| format!("{byte:02x}")).concat()
+}
+
+/// Whether a character can stand in a name: none that a terminal obeys or that turns the direction of
+/// the text.
+pub fn is_plain(c: char) -> bool {
+    let turns = matches!(c, '\u{202A}'..='\u{202E}' | '\u{2066}'..='\u{2069}');
+    !c.is_control() && !turns
+}
+
+/// A path as it can be printed.
 pub fn path_name(path: &Path) -> String {
-    path.display().to_string().replace(char::is_control, "?")
+    let name = path.display().to_string();
+    name.replace(|c| !is_plain(c), "?")
 }

@@ -1,12 +1,12 @@
 //! How one entry stands on one side: held, ordered, and if not, why not yet.
 
-use reference::group::members;
+use reference::group::{bit, members};
 use reference::layout::{round_of, vertex_id, LAST_COMMITTABLE_ROUND};
 use reference::state::ReplicaState;
 use yardbook::number;
 
 use crate::pair::{Beside, Pair, Side};
-use crate::text::{joined, vertex_name};
+use crate::text::{members_named, vertex_name};
 
 /// Sentences on how a vertex stands on a side. Of a state that is not well formed only what its words
 /// say, not why.
@@ -22,10 +22,11 @@ pub fn standing(pair: &Pair, side: Side, id: u32) -> Vec<String> {
 /// Whether the vertex is held, and where it stands in the lists.
 fn place(pair: &Pair, side: Side, id: u32) -> String {
     let here = pair.get(side);
-    let held = match here.vertices().contains_key(&id) {
-        false => "not held",
-        true if pair.beside(side, id) == Beside::Differs => "held, and not the same record",
-        true => "held",
+    let held = match (here.holds(id), here.vertices().contains_key(&id)) {
+        (false, _) => "not held",
+        (true, false) => "held, with a record that fails the questions",
+        _ if pair.beside(side, id) == Beside::Differs => "held, and not the same record",
+        _ => "held",
     };
     let [ordered, listed] = here.places(id);
     format!("{held}; {ordered}; {listed}.")
@@ -53,13 +54,17 @@ fn why_not_yet(pair: &Pair, side: Side, state: &ReplicaState, id: u32) -> Vec<St
 
 /// The other side's record is handed to a copy of this side's state.
 fn why_not_held(pair: &Pair, side: Side, state: &ReplicaState, id: u32) -> String {
-    let Some(record) = pair.get(side.other()).vertices().get(&id) else {
-        return "Neither sheet holds it.".to_string();
+    let other = pair.get(side.other());
+    let Some(record) = other.vertices().get(&id) else {
+        return match other.holds(id) {
+            true => "The other sheet's record of it fails the questions.".to_string(),
+            false => "Neither sheet holds it.".to_string(),
+        };
     };
     let mut copy = pair.get(side).words.clone();
     let answer = yardbook::take_vertex(&mut copy, &record.words());
     match answer.number {
-        number::OK => "Its parents are all held here: it has not been taken yet.".to_string(),
+        number::OK => "Nothing that it needs is missing: it has not been taken yet.".to_string(),
         number::MISSING_PARENT => {
             let missing = record.parents().filter(|&id| !state.holds(id)).count();
             let name = vertex_name(answer.id);
@@ -104,25 +109,27 @@ fn passed_over(state: &ReplicaState, id: u32) -> String {
     }
 }
 
-/// How many voters a held leader has, of how many, and who they are.
+/// How many voters a held leader has, of how many, and who they are by what was seen of them.
 pub fn voters(state: &ReplicaState, round: u32) -> String {
     let voters = state.voters(round);
-    let seen = |member: u32| {
-        let id = vertex_id(round + 1, member);
-        let vertex = state
-            .vertices
-            .get(&id)
-            .is_some_and(|record| record.votes(state.group));
-        match (vertex, state.votes.has(round + 1, member)) {
-            (true, true) => "vertex and first message",
-            (true, false) => "vertex",
-            _ => "first message",
-        }
-    };
-    let named: Vec<String> = members(voters)
-        .map(|member| format!("member {member} ({})", seen(member)))
-        .collect();
-    let (count, needed) = (named.len(), state.group.quorum() as usize);
+    let heard = voters & state.votes.get(round + 1);
+    let vertices: u32 = members(voters)
+        .filter(|&member| {
+            let vertex = state.vertices.get(&vertex_id(round + 1, member));
+            vertex.is_some_and(|record| record.votes(state.group))
+        })
+        .map(bit)
+        .sum();
+    let named: Vec<String> = [
+        (vertices & !heard, "vertex"),
+        (vertices & heard, "vertex and first message"),
+        (heard & !vertices, "first message"),
+    ]
+    .into_iter()
+    .filter(|(mask, _)| *mask != 0)
+    .map(|(mask, seen)| format!("{} ({seen})", members_named(members(mask))))
+    .collect();
+    let (count, needed) = (voters.count_ones(), state.group.quorum());
     let sentence = match count < needed {
         true => {
             format!("No quorum of voters: round {round} has {count} of the {needed} that it needs")
@@ -131,7 +138,7 @@ pub fn voters(state: &ReplicaState, round: u32) -> String {
     };
     match named.is_empty() {
         true => format!("{sentence}."),
-        false => format!("{sentence}, {}.", joined(&named)),
+        false => format!("{sentence}: {}.", named.join(", ")),
     }
 }
 
@@ -151,17 +158,20 @@ fn not_reached(state: &ReplicaState, id: u32) -> Vec<String> {
             ),
             voters(state, round),
         ],
-        None => vec![no_leader(state)],
+        None => vec![no_leader(state, id)],
     }
 }
 
-/// No leader held above the committed round reaches a vertex: which one is not held.
-fn no_leader(state: &ReplicaState) -> String {
-    let committed = state.committed_round;
-    let lacking = (committed + 1..=LAST_COMMITTABLE_ROUND)
+/// No leader held above the committed round reaches a vertex: which one above the vertex is not held.
+fn no_leader(state: &ReplicaState, id: u32) -> String {
+    let from = state.committed_round.max(round_of(id));
+    if from >= LAST_COMMITTABLE_ROUND {
+        return format!("It stays so: no leader above round {from} can be committed.");
+    }
+    let lacking = (from + 1..=LAST_COMMITTABLE_ROUND)
         .map(|round| state.group.leader_id(round))
         .find(|&leader| !state.holds(leader));
-    let sentence = format!("No leader held above round {committed} has it in its history");
+    let sentence = format!("No leader held above round {from} has it in its history");
     match lacking {
         Some(leader) => format!(
             "{sentence}; the next one not held is {}.",

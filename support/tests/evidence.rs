@@ -5,6 +5,7 @@ mod common;
 use std::collections::BTreeSet;
 
 use common::*;
+use reference::layout::CURRENT_ROUND;
 use reference::record::Record;
 use reference::Call;
 use sidebyside::evidence::{Kind, Signed};
@@ -188,7 +189,18 @@ fn what_catches_nobody() {
         right: state(&conflict[..1]),
     };
     assert_eq!(caught(&lines), BTreeSet::new());
-    assert!(report(&lines).print().contains("1 vertex was answered 13"));
+    let text = "1 record was refused beside another one of the same round and member.";
+    assert!(printed(&report(&lines)).contains(text));
+    let twice = [
+        first(record(2, 2, 15)),
+        first(record(2, 2, 15)),
+        first(record(2, 2, 7)),
+    ];
+    let lines = Pair {
+        left: of_lines(&calls(&twice)),
+        right: state(&[]),
+    };
+    assert!(printed(&report(&lines)).contains(text));
     let seven = words_after(&[Call::Open(7, 0), vertex(record(1, 0, 0).with_tag(99))]);
     let groups = Pair {
         left: state(&[]),
@@ -196,4 +208,54 @@ fn what_catches_nobody() {
     };
     assert_eq!(caught(&groups), BTreeSet::new());
     assert!(!groups.agrees());
+}
+
+/// A damaged state catches nobody, but what the other shows alone counts, and where the records differ is
+/// printed.
+#[test]
+fn a_well_formed_state_beside_a_damaged_one() {
+    let breaker = [
+        vertex(record(2, 2, 7)),
+        vertex(without_leader(2, 1, 14, 14)),
+    ];
+    let mut damaged = words_after(&calls(&[vertex(record(2, 2, 7).with_tag(99))]));
+    damaged[CURRENT_ROUND] = 99;
+    let pair = Pair {
+        left: state(&breaker),
+        right: stored(damaged),
+    };
+    let report = report(&pair);
+    assert_eq!(report.caught(), BTreeSet::from([2]));
+    assert!(report.evidence.two_records.is_empty());
+    assert_eq!(report.differences.len(), 1);
+    let text = printed(&report);
+    assert!(
+        text.contains("The right sheet is not sound, and catches nobody. Caught: member 2."),
+        "{text}"
+    );
+    assert!(
+        text.contains("PERHAPS BY THE DAMAGE The records of member 2 in round 2:"),
+        "{text}"
+    );
+    let digest = format!("in the second: 16{}", "0".repeat(62));
+    assert!(text.contains(&digest), "{text}");
+}
+
+/// What a state without faults shows is cited from it, and what the other alone shows is called doubtful.
+#[test]
+fn a_state_with_faults_is_believed_less() {
+    let calls = [
+        vertex(record(2, 2, 7)),
+        vertex(without_leader(2, 1, 14, 14)),
+    ];
+    let mut changed = words_after(&self::calls(&calls));
+    changed[CURRENT_ROUND] = 1;
+    let pair = Pair {
+        left: stored(changed),
+        right: state(&calls),
+    };
+    let report = report(&pair);
+    let found = report.evidence.votes_and_no_votes[0];
+    assert_eq!((found.vote.0, found.no_vote.0), (Side::Right, Side::Right));
+    assert!(printed(&report).contains("What the left sheet alone shows is doubtful."));
 }

@@ -71,12 +71,7 @@ fn check(state: Vec<u32>, fault: Fault, text: &str) {
     let report = report(&pair);
     assert!(pair.are_comparable(), "{:?}", pair.left.soundness);
     assert_eq!(report.faults, [vec![fault], vec![]]);
-    let printed: Vec<String> = report
-        .print()
-        .split_whitespace()
-        .map(String::from)
-        .collect();
-    let printed = printed.join(" ");
+    let printed = printed(&report);
     assert!(
         printed.contains("The left sheet is not what the rules give"),
         "{printed}"
@@ -165,4 +160,28 @@ fn another_current_round() {
         fault,
         "Its current round is 3. What it holds gives round 5.",
     );
+}
+
+#[test]
+fn carried_timeouts_that_were_not_added() {
+    let mut state = passed_over();
+    state[mask_place(1, TIMEOUTS)] = 6;
+    check(
+        state,
+        Fault::TimeoutsNotAdded(33),
+        "It lacks timeouts that ref 33 (round 2, member 1) carries.",
+    );
+}
+
+#[test]
+fn a_signed_no_vote_that_is_not_noted() {
+    let mut state = full_rounds();
+    state[OWN] = 3;
+    state[SIGNED_NO_VOTES] = round_bit(2);
+    let text = "Its own signed no-vote for round 2 is not among its no-votes.";
+    check(state.clone(), Fault::SignedNotNoted(2), text);
+    state[mask_place(2, NO_VOTES)] = 1 << 2;
+    let pair = stored_pair(&state, &full_rounds());
+    assert_eq!(report(&pair).faults, [vec![], vec![]]);
+    assert_eq!(report(&pair).caught().into_iter().collect::<Vec<_>>(), [2]);
 }

@@ -51,7 +51,7 @@ fn check_pair(pair: &Pair, premises: bool, faulty: u32, seen: &mut Seen) {
     let report = report(pair);
     assert!(pair.are_comparable());
     assert_eq!(report.faults, [vec![], vec![]]);
-    assert!(!report.print().is_empty());
+    assert_eq!(report.print().contains(" PART at entry "), report.parts());
     seen.parted += usize::from(report.parts());
     seen.caught += report.caught().len();
     let firsts = report.evidence.two_records.iter();

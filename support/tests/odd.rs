@@ -8,18 +8,13 @@ use reference::rng::Rng;
 use reference::simulate::{simulate, Options};
 use sidebyside::member::Soundness;
 use sidebyside::origin::{of_bytes, Origin, STATE_BYTES};
-use sidebyside::page::Page;
 use sidebyside::pair::Pair;
 
-/// Everything that is made of a pair.
-fn render(pair: &Pair) -> (String, String) {
+/// Everything that is made of a pair: a page of nested tags, and the text.
+fn render(pair: &Pair) -> String {
     let report = report(pair);
-    let text = report.print();
-    let page = Page {
-        report: &report,
-        text: &text,
-    };
-    (page.render(), text)
+    tags(&page_of(&report));
+    printed(&report)
 }
 
 /// A state that is neither full nor empty.
@@ -48,23 +43,21 @@ fn damaged_states_are_named_and_drawn() {
     let (mut sound, mut broken) = (0, 0);
     for n in SIZES {
         let state = some_state(n);
+        let by_itself = report(&stored_pair(&state, &state)).caught();
         for _ in 0..120 {
             let mut damaged = state.clone();
             damage(&mut rng, &mut damaged);
             let pair = stored_pair(&state, &damaged);
-            let (page, text) = render(&pair);
-            assert!(page.contains("</html>"));
+            let text = render(&pair);
             match pair.right.soundness {
                 Soundness::Sound => sound += 1,
                 Soundness::Broken(clause) => {
                     broken += 1;
-                    let clause = clause
-                        .expect("both implementations say the same")
-                        .to_string();
-                    let first = clause.split(' ').next().unwrap_or_default();
-                    assert!(text.contains(&format!("The right sheet is NOT SOUND: {first}")));
+                    let clause = clause.expect("both implementations say the same");
+                    let text_of_clause = format!("The right sheet is NOT SOUND: {clause}.");
+                    assert!(text.contains(&text_of_clause), "{text}");
                     assert!(!pair.agrees());
-                    assert!(report(&pair).caught().is_empty());
+                    assert_eq!(report(&pair).caught(), by_itself);
                 }
             }
         }
@@ -142,10 +135,7 @@ fn what_is_neither_is_told_why() {
         (&b""[..], "it is empty"),
         (b"O 4", "no line feed at the end"),
         (b"O 4\r\n", "carriage return and line feed"),
-        (
-            b"L 4\n",
-            "it has 4 bytes and not 37792, and no line of it is a call",
-        ),
+        (b"L 4\n", "it has 4 bytes and not"),
         (&[0; STATE_BYTES - 1], "no line of it is a call"),
         (&[0; STATE_BYTES + 1], "no line of it is a call"),
         (&older, "an earlier version of the library"),
@@ -167,15 +157,59 @@ fn stored_words_are_read_back() {
     }
 }
 
-/// What is held, and where lists part, of states that were opened again.
+/// What of an input made no call, and what was forgotten, is said before all else.
 #[test]
-fn lines_of_another_form_and_openings_are_counted() {
-    let text = b"O 4\nT 1 0\nT 1 0\nx\nO 4\nT 1 1\nT 9 9\nT 1";
+fn lines_of_another_form_and_openings_are_said() {
+    let text = b"O 4\nT 1 0\nT 1 0\nx\nO 4\nT 1 1\nT 9 9\nV 1 0 0 0 0 10 0 0 0 0 0 0\nT 1";
     let state = of_bytes(text).expect("some line is a call");
     let Origin::Lines(lines) = &state.origin else {
         panic!("a text is no stored state");
     };
     assert_eq!((lines.admitted, lines.refused), (4, 2));
-    assert_eq!((lines.other, lines.openings), (2, 2));
+    assert_eq!((lines.other, lines.older, lines.openings), (3, 1, 2));
     assert_eq!(state.words[mask_place(1, TIMEOUTS)], 2);
+    let pair = Pair {
+        right: state.clone(),
+        left: state,
+    };
+    let report = report(&pair);
+    let answer = report.answer().join(" ");
+    assert!(
+        answer.starts_with("Of the left input 3 of 9 lines are NO CALLS"),
+        "{answer}"
+    );
+    assert!(
+        answer.contains("The right input opens the sheet 2 times"),
+        "{answer}"
+    );
+    let text = printed(&report);
+    assert!(
+        text.contains("The left input: 2 calls were refused."),
+        "{text}"
+    );
+    assert!(
+        text.contains("1 line has records of an earlier version of the library."),
+        "{text}"
+    );
+}
+
+/// A byte-order mark hides the opening, and words with the highest byte first are no state.
+#[test]
+fn odd_orders_of_bytes_are_said() {
+    let marked = of_bytes(b"\xef\xbb\xbfO 4\nT 1 0\n").expect("some line is a call");
+    let turned = some_state(4).into_iter().map(u32::swap_bytes).collect();
+    let pair = Pair {
+        left: marked,
+        right: stored(turned),
+    };
+    let text = render(&pair);
+    for said in [
+        "The left sheet is NOT SOUND: the member count is 0: it was never opened.",
+        "it begins with a byte-order mark",
+        "on the left, all lines from the opening on",
+        "Its words seem to have their highest byte first, not their lowest.",
+        "on the right, another copy of the sheet",
+    ] {
+        assert!(text.contains(said), "{text}");
+    }
 }

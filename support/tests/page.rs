@@ -3,46 +3,15 @@
 mod common;
 
 use common::*;
+use reference::layout::*;
 use reference::record::Record;
 use reference::simulate::{simulate, Options};
-use sidebyside::page::Page;
+use reference::Call;
 use sidebyside::pair::{Beside, Pair, Side, SIDES};
+use sidebyside::report::Report;
 
 fn page(pair: &Pair, names: [&str; 2]) -> String {
-    let mut report = report(pair);
-    report.names = names;
-    let text = report.print();
-    Page {
-        report: &report,
-        text: &text,
-    }
-    .render()
-}
-
-/// The tags of a page in their order, each without its brackets, after a test that they are nested, that
-/// texts have no bare mark, and that every value stands in quotes.
-fn tags(page: &str) -> Vec<&str> {
-    let rest = page.strip_prefix("<!DOCTYPE html>").expect("it is HTML");
-    let (mut open, mut found) = (Vec::new(), Vec::new());
-    for piece in rest.split('<').skip(1) {
-        let (tag, text) = piece.split_once('>').expect("a tag ends");
-        assert!(!text.contains('>'), "{text}");
-        for entity in text.split('&').skip(1) {
-            let names = ["amp;", "lt;", "gt;", "quot;", "#39;"];
-            assert!(names.iter().any(|name| entity.starts_with(name)), "{text}");
-        }
-        assert_eq!(tag.matches('"').count() % 2, 0, "{tag}");
-        match (tag.strip_prefix('/'), tag.strip_suffix('/')) {
-            (Some(name), _) => assert_eq!(open.pop(), Some(name)),
-            (None, Some(tag)) => found.push(tag),
-            (None, None) => {
-                open.push(tag.split(' ').next().expect("a tag has a name"));
-                found.push(tag);
-            }
-        }
-    }
-    assert!(open.is_empty(), "{open:?}");
-    found
+    page_of(&Report::new(pair, names))
 }
 
 /// How many elements of a class a side's graph has.
@@ -68,32 +37,53 @@ fn count(tags: &[&str], side: Side, class: &str) -> usize {
 fn check(pair: &Pair) {
     let page = page(pair, ["left", "right"]);
     let tags = tags(&page);
+    let report = report(pair);
+    let columns = SIDES.map(|side| pair.get(side).vertices().keys().next_back().copied());
+    let columns = columns
+        .into_iter()
+        .flatten()
+        .map(round_of)
+        .fold(2, u32::max);
     for side in SIDES {
-        let vertices = pair.get(side).vertices();
+        let count = |class| count(&tags, side, class);
+        let here = pair.get(side);
+        let vertices = here.vertices();
         let sum = |edges: fn(&Record) -> usize| vertices.values().map(edges).sum::<usize>();
-        assert_eq!(count(&tags, side, "vertex"), vertices.len());
+        assert_eq!(count("vertex"), vertices.len());
         assert_eq!(
-            count(&tags, side, "strong"),
+            count("strong"),
             sum(|record| record.strong_parents().count())
         );
-        assert_eq!(
-            count(&tags, side, "weak"),
-            sum(|record| record.weak_parents().count())
-        );
-        assert_eq!(
-            count(&tags, side, "committed"),
-            pair.get(side).leaders.len()
-        );
-        assert_eq!(count(&tags, side, "entry"), pair.get(side).journal.len());
-        let caught = report(pair).caught().len();
-        assert_eq!(count(&tags, side, "caught"), caught);
+        assert_eq!(count("weak"), sum(|record| record.weak_parents().count()));
+        assert_eq!(count("differs"), differing_edges(pair, side));
+        assert_eq!(count("committed"), here.leaders.len());
+        assert_eq!(count("entry"), here.journal.len());
+        assert_eq!(count("caught"), report.caught().len());
         let alone = vertices
             .keys()
             .filter(|&&id| pair.beside(side, id) != Beside::Same);
-        assert_eq!(count(&tags, side, "badge"), alone.count());
-        let rings = count(&tags, side, "ring");
-        assert_eq!(rings > 0, report(pair).parts());
+        assert_eq!(count("badge"), alone.count());
+        assert_eq!(count("ring") > 0, report.parts());
+        let state = here.decoded.as_ref().expect("the size is legal");
+        let reached = state.leader_list.windows(2);
+        let reached = reached.filter(|pair| state.has_strong_path(pair[1], pair[0]));
+        assert_eq!(count("chain"), reached.count());
+        let lacking = (1..=columns).filter(|&round| !state.holds(state.group.leader_id(round)));
+        assert_eq!(count("lacking"), lacking.count());
     }
+}
+
+/// The edges of vertices that both sides hold which only this side's have.
+fn differing_edges(pair: &Pair, side: Side) -> usize {
+    let there = pair.get(side.other()).vertices();
+    let both = pair.get(side).vertices().iter();
+    let both = both.filter_map(|(id, here)| Some((here, there.get(id)?)));
+    both.map(|(here, there)| {
+        let strong = here.strong & !there.strong;
+        let is_new = |id: &u32| !there.weak_parents().any(|other| other == *id);
+        strong.count_ones() as usize + here.weak_parents().filter(is_new).count()
+    })
+    .sum()
 }
 
 #[test]
@@ -133,4 +123,95 @@ fn a_page_stands_alone() {
         assert!(!tag.contains("href") && !tag.contains("src="), "{tag}");
     }
     assert!(!page.contains("@import") && !page.contains("url("));
+}
+
+/// All that the sheet says of a vertex stands in its tooltip.
+#[test]
+fn tooltips_have_the_details() {
+    let record = Record {
+        round: 3,
+        source: 2,
+        strong: 14,
+        timeouts: 0,
+        ..Record::default()
+    };
+    let lines: Vec<Call> = [0, 1, 2, 3]
+        .map(|source| Record {
+            round: 1,
+            source,
+            ..Record::default()
+        })
+        .into_iter()
+        .chain([1, 2, 3].map(|source| Record {
+            round: 2,
+            source,
+            strong: 15,
+            ..Record::default()
+        }))
+        .chain([record.with_tag(0x0403_0201).with_weak(&[16])])
+        .map(|record| Call::Vertex(record.words().to_vec()))
+        .collect();
+    let state = words_after(&[&[Call::Open(4, 0)][..], &lines].concat());
+    let empty = words_after(&[Call::Open(4, 0)]);
+    let page = page(&stored_pair(&state, &empty), ["left", "right"]);
+    let digest = format!("01020304{}", "0".repeat(56));
+    for text in [
+        "<title>ref 50 (round 3, member 2), the leader of its round\nstrong parents: 2/1, 2/2, 2/3\n\
+         weak parents: 1/0\ntimeout signers: no member\nno-vote signers: no member\n",
+        &format!("digest: {digest}\nnot ordered\nnot in the leader list\nthe right sheet does not hold it</title>"),
+        "ordered, journal entry 1\nleader list entry 1\n",
+        "<title>The leader of round 1, member 0, is not held.</title>",
+    ] {
+        assert!(page.contains(text), "{text}");
+    }
+}
+
+/// A number in another colour where the journals have a vertex at two places, and an outline in it where
+/// only one leader list has a leader.
+#[test]
+fn what_is_ordered_otherwise_is_marked() {
+    let vertex = |round, source, strong| Record {
+        round,
+        source,
+        strong,
+        ..Record::default()
+    };
+    let rounds = (1..=3).flat_map(|round| (0..4).map(move |source| (round, source)));
+    let calls = rounds.map(|(round, source)| {
+        let strong = if round == 1 { 0 } else { 15 };
+        Call::Vertex(vertex(round, source, strong).words().to_vec())
+    });
+    let calls: Vec<Call> = [Call::Open(4, 0)].into_iter().chain(calls).collect();
+    let ahead = words_after(&calls);
+    let behind = words_after(&calls[..calls.len() - 2]);
+    let page = page(&stored_pair(&ahead, &behind), ["left", "right"]);
+    let tags = tags(&page);
+    assert_eq!(
+        (
+            count(&tags, Side::Left, "moved"),
+            count(&tags, Side::Right, "moved")
+        ),
+        (4, 4)
+    );
+    assert_eq!(count(&tags, Side::Left, "listed-alone"), 1);
+    assert_eq!(count(&tags, Side::Right, "listed-alone"), 0);
+}
+
+/// A state that cannot be drawn, and one that can in part, are said to be so.
+#[test]
+fn damaged_states_are_said_to_be_so() {
+    let good = words_after(&simulate(1, 4, &Options::calm()).replicas[0]);
+    let mut no_group = good.clone();
+    no_group[N] = 5;
+    let mut in_part = good.clone();
+    in_part[cell_word(2, 1, CELL_STRONG)] = 1;
+    let drawn = page(&stored_pair(&in_part, &no_group), ["left", "right"]);
+    tags(&drawn);
+    for text in [
+        "It cannot be drawn.",
+        "It is drawn as it stands",
+        "The leader of round 2, member 1, is held, with a record that fails the questions.",
+    ] {
+        assert!(drawn.contains(text), "{text}");
+    }
 }

@@ -6,6 +6,7 @@ use reference::layout::STATE_WORDS;
 use reference::Call;
 use sidebyside::member::MemberState;
 use sidebyside::origin::{make, of_bytes, Origin};
+use sidebyside::page::Page;
 use sidebyside::pair::Pair;
 use sidebyside::report::Report;
 
@@ -40,6 +41,52 @@ pub fn stored_pair(left: &[u32], right: &[u32]) -> Pair {
         left: stored(left.to_vec()),
         right: stored(right.to_vec()),
     }
+}
+
+/// A printed text on one line, so that sentences can be looked for.
+pub fn printed(report: &Report) -> String {
+    let words: Vec<String> = report
+        .print()
+        .split_whitespace()
+        .map(String::from)
+        .collect();
+    words.join(" ")
+}
+
+/// The page of a report.
+pub fn page_of(report: &Report) -> String {
+    let text = report.print();
+    Page {
+        report,
+        text: &text,
+    }
+    .render()
+}
+
+/// The tags of a page in their order, each without its brackets, after a test that they are nested, that
+/// texts have no bare mark, and that every value stands in quotes.
+pub fn tags(page: &str) -> Vec<&str> {
+    let rest = page.strip_prefix("<!DOCTYPE html>").expect("it is HTML");
+    let (mut open, mut found) = (Vec::new(), Vec::new());
+    for piece in rest.split('<').skip(1) {
+        let (tag, text) = piece.split_once('>').expect("a tag ends");
+        assert!(!text.contains('>'), "{text}");
+        for entity in text.split('&').skip(1) {
+            let names = ["amp;", "lt;", "gt;", "quot;", "#39;"];
+            assert!(names.iter().any(|name| entity.starts_with(name)), "{text}");
+        }
+        assert_eq!(tag.matches('"').count() % 2, 0, "{tag}");
+        match (tag.strip_prefix('/'), tag.strip_suffix('/')) {
+            (Some(name), _) => assert_eq!(open.pop(), Some(name)),
+            (None, Some(tag)) => found.push(tag),
+            (None, None) => {
+                open.push(tag.split(' ').next().expect("a tag has a name"));
+                found.push(tag);
+            }
+        }
+    }
+    assert!(open.is_empty() && found.first().is_some_and(|tag| tag.starts_with("html ")));
+    found
 }
 
 pub fn report(pair: &Pair) -> Report<'_> {

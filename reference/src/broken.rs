@@ -73,6 +73,15 @@ impl fmt::Display for Broken {
                 f,
                 "a watcher's words {MADE_ROUNDS} and {SIGNED_NO_VOTES} are not 0"
             ),
+            _ => self.write_round_clause(f),
+        }
+    }
+}
+
+impl Broken {
+    /// Of the masks and the cells.
+    fn write_round_clause(&self, f: &mut fmt::Formatter) -> fmt::Result {
+        match *self {
             Broken::MaskBit { round, mask } => write!(
                 f,
                 "the {} mask of round {round} has a bit at n or above",
@@ -101,9 +110,7 @@ impl fmt::Display for Broken {
             _ => self.write_list_clause(f),
         }
     }
-}
 
-impl Broken {
     fn write_list_clause(&self, f: &mut fmt::Formatter) -> fmt::Result {
         match *self {
             Broken::LeaderCount(count) => write!(

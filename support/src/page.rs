@@ -158,54 +158,55 @@ fn legend() -> String {
 
 /// The marks. Their classes are none of those by which vertices and edges of a graph are counted.
 fn marks() -> [String; MEANINGS.len()] {
-    let plain = Node {
-        is_leader: false,
-        is_committed: false,
-        journal_entry: None,
-        beside: Beside::Same,
-        is_moved: false,
-        is_listed_alone: false,
-    };
-    let ordered = Node {
-        journal_entry: Some(12),
-        ..plain
-    };
-    let leader = Node {
-        is_leader: true,
-        ..plain
-    };
-    let committed = Node {
-        is_committed: true,
-        journal_entry: Some(12),
-        ..leader
-    };
-    let beside = |beside| Node { beside, ..plain };
-    let moved = Node {
-        is_moved: true,
-        ..ordered
-    };
-    let listed_alone = Node {
-        is_listed_alone: true,
-        ..committed
+    let node = |change: fn(&mut Node)| {
+        let mut node = PLAIN;
+        change(&mut node);
+        sample(node)
     };
     let line = |class: &str| format!("<path class=\"{class}\" d=\"M-26 8L26 -8\"/>");
     [
-        sample(plain),
-        sample(ordered),
-        sample(leader),
-        sample(committed),
+        sample(PLAIN),
+        node(order),
+        node(|node| node.is_leader = true),
+        node(commit),
         lacking(),
-        sample(beside(Beside::OnlyHere)),
-        sample(beside(Beside::Differs)),
-        sample(moved),
-        sample(listed_alone),
-        sample(plain) + &ring() + &label("journal parts", LABEL_ABOVE),
+        node(|node| node.beside = Beside::OnlyHere),
+        node(|node| node.beside = Beside::Differs),
+        node(|node| {
+            order(node);
+            node.is_moved = true;
+        }),
+        node(|node| {
+            commit(node);
+            node.is_listed_alone = true;
+        }),
+        sample(PLAIN) + &ring() + &label("journal parts", LABEL_ABOVE),
         line("sample-strong"),
         line("sample-weak"),
         line("sample-strong alone"),
         line("sample-strong differs"),
         line("chain"),
     ]
+}
+
+/// Vertices of the legend.
+const PLAIN: Node = Node {
+    is_leader: false,
+    is_committed: false,
+    journal_entry: None,
+    beside: Beside::Same,
+    is_moved: false,
+    is_listed_alone: false,
+};
+
+fn order(node: &mut Node) {
+    node.journal_entry = Some(12);
+}
+
+fn commit(node: &mut Node) {
+    order(node);
+    node.is_leader = true;
+    node.is_committed = true;
 }
 
 fn sample(node: Node) -> String {

@@ -148,9 +148,9 @@ fn a_missing_leader_or_parent() {
     );
 }
 
-/// Voters by what was seen of them, a leader listed by a path, and one that was left out.
+/// Voters by what was seen of them.
 #[test]
-fn other_voters_and_leaders() {
+fn voters_seen_both_ways() {
     let first = |source| {
         let Call::Vertex(words) = vertices(2, &[source], 15)[0].clone() else {
             panic!("these are vertices");
@@ -169,6 +169,11 @@ fn other_voters_and_leaders() {
         16,
         &format!("Enough voters: round 1 has 3 and needs 3: {voters}"),
     );
+}
+
+/// A leader listed by a path, and one that was left out.
+#[test]
+fn leaders_without_a_quorum() {
     let by_path = [
         vertices(1, &ALL, 0),
         vertices(2, &[0, 1], 15),

@@ -157,7 +157,8 @@ impl Report<'_> {
             (true, ..) => text.say(1, "The lists part, and nothing is found on the sheets."),
             (false, ..) => text.say(1, "Nothing is found."),
         }
-        if self.parts() && !self.is_explained() && self.pair.group().is_some() {
+        let are_two_groups = self.pair.are_sound() && self.pair.group().is_none();
+        if self.parts() && !self.is_explained() && !are_two_groups {
             text.say(
                 1,
                 "The agreement claim rests on premises. Sheets do not show all of them:",

@@ -142,12 +142,14 @@ impl Pair {
         }
     }
 
-    /// The places, from 0, at which both journals have the same id and the sides hold different
-    /// records for it.
+    /// The places, from 0, at which both journals of one group have the same id and the sides hold
+    /// different records for it.
     pub fn entries_of_two_records(&self) -> Vec<usize> {
         let shared = self.left.journal.iter().zip(&self.right.journal);
+        let is_one_group = self.group().is_some();
         let differs = |(here, there): (&u32, &u32)| {
-            here == there
+            is_one_group
+                && here == there
                 && self.left.vertices().contains_key(here)
                 && self.beside(Side::Left, *here) == Beside::Differs
         };

@@ -210,6 +210,31 @@ fn what_catches_nobody() {
     assert!(!groups.agrees());
 }
 
+/// The same id in both journals with two records is said, and only of states of one group.
+#[test]
+fn entries_of_two_records_are_said() {
+    let committed = |n: u32, tag: u32| {
+        let all = (1 << n) - 1;
+        let first = (0..n).map(|source| vertex(record(1, source, 0).with_tag(tag)));
+        let second = (0..n).map(|source| vertex(record(2, source, all)));
+        words_after(
+            &[Call::Open(n, 0)]
+                .into_iter()
+                .chain(first)
+                .chain(second)
+                .collect::<Vec<_>>(),
+        )
+    };
+    let said = |left: &[u32], right: &[u32]| {
+        let pair = stored_pair(left, right);
+        let text = printed(&report(&pair));
+        (pair.agrees(), text.contains("DIFFERENT RECORDS for 1 entry that both journals have. The first is entry 1, ref 16"))
+    };
+    assert_eq!(said(&committed(4, 1), &committed(4, 2)), (true, true));
+    assert_eq!(said(&committed(4, 1), &committed(4, 1)), (true, false));
+    assert_eq!(said(&committed(4, 1), &committed(7, 2)), (false, false));
+}
+
 /// A damaged state catches nobody, but what the other shows alone counts, and where the records differ is
 /// printed.
 #[test]

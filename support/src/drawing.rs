@@ -9,7 +9,7 @@ use reference::record::Record;
 use reference::state::ReplicaState;
 
 use crate::node::{details, lacking, Node, HALF};
-use crate::pair::{Order, Pair, Side};
+use crate::pair::{List, Order, Pair, Side, LISTS};
 
 /// The width of a column and the height of a row.
 const COLUMN: u32 = 48;
@@ -59,19 +59,14 @@ pub struct Parting {
 
 /// Where this side's lists part from the other's.
 pub fn partings(pair: &Pair, side: Side) -> Vec<Parting> {
-    let here = pair.get(side);
-    let lists = [
-        ("journal", pair.journals(), &here.journal),
-        ("leader list", pair.leaders(), &here.leaders),
-    ];
-    let mut partings = Vec::new();
-    for (list, order, ids) in lists {
-        if let Order::Part(at) = order {
-            let entry = at + 1;
-            partings.extend(ids.get(at).map(|&id| Parting { list, entry, id }));
+    let parting = |list: List| match list.order(pair) {
+        Order::Part(at) => {
+            let (list, entry, ids) = (list.one, at + 1, list.of(pair)[side as usize]);
+            ids.get(at).map(|&id| Parting { list, entry, id })
         }
-    }
-    partings
+        _ => None,
+    };
+    LISTS.into_iter().filter_map(parting).collect()
 }
 
 /// The middle of a round's column, of a member's row, and of both.

@@ -33,8 +33,8 @@ fn main() -> ExitCode {
     }
 }
 
-/// The exit status, or a sentence that says what could not be done. The page is written first, so
-/// that the printed answer is whole only if it was.
+/// The exit status, or a sentence that says what could not be done. The page is written first: the
+/// answer is printed only if it was.
 fn compare(inputs: &[PathBuf; 2], page: Option<&Path>) -> Result<u8, String> {
     let [left, right] = inputs;
     if let Some(page) = page.filter(|page| inputs.iter().any(|input| is_same(input, page))) {

@@ -73,6 +73,38 @@ impl Order {
     }
 }
 
+/// The two kinds of lists, as they are called where several are meant, and where one is.
+#[derive(Clone, Copy)]
+pub struct List {
+    pub several: &'static str,
+    pub one: &'static str,
+    of: fn(&MemberState) -> &[u32],
+}
+
+pub const LISTS: [List; 2] = [
+    List {
+        several: "leader lists",
+        one: "leader list",
+        of: |member| &member.leaders,
+    },
+    List {
+        several: "journals",
+        one: "journal",
+        of: |member| &member.journal,
+    },
+];
+
+impl List {
+    /// The left one and the right one.
+    pub fn of(self, pair: &Pair) -> [&[u32]; 2] {
+        SIDES.map(|side| (self.of)(pair.get(side)))
+    }
+
+    pub fn order(self, pair: &Pair) -> Order {
+        Order::of(self.of(pair))
+    }
+}
+
 /// Two states.
 #[derive(Clone, Debug)]
 pub struct Pair {
@@ -94,14 +126,6 @@ impl Pair {
             Side::Left => &self.left,
             Side::Right => &self.right,
         }
-    }
-
-    pub fn leaders(&self) -> Order {
-        Order::of([&self.left.leaders, &self.right.leaders])
-    }
-
-    pub fn journals(&self) -> Order {
-        Order::of([&self.left.journal, &self.right.journal])
     }
 
     pub fn are_sound(&self) -> bool {
@@ -126,10 +150,8 @@ impl Pair {
     /// The conclusion of the agreement claim: the states are comparable, and leader list and journal
     /// of one side are the first entries of the other's.
     pub fn agrees(&self) -> bool {
-        self.are_comparable()
-            && SIDES
-                .into_iter()
-                .any(|side| self.leaders().is_behind(side) && self.journals().is_behind(side))
+        let is_behind = |side| LISTS.iter().all(|list| list.order(self).is_behind(side));
+        self.are_comparable() && SIDES.into_iter().any(is_behind)
     }
 
     /// What a vertex that this side holds is beside the other's.

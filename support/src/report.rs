@@ -10,7 +10,7 @@ use crate::evidence::{Evidence, TwoRecords};
 use crate::faults::{faults, Fault};
 use crate::member::{MemberState, Soundness};
 use crate::origin::{Lines, Origin};
-use crate::pair::{Order, Pair, Side, SIDES};
+use crate::pair::{List, Order, Pair, Side, LISTS, SIDES};
 use crate::text::{counted, entry_name, members_named, vertex_name, Text};
 use crate::why::standing;
 
@@ -24,37 +24,6 @@ pub struct Report<'a> {
     pub evidence: Evidence,
     /// Where a state is not well formed: the records of one round and member that are not the same.
     pub differences: Vec<TwoRecords>,
-}
-
-/// The two kinds of lists, as they are called where several are meant, and where one is.
-#[derive(Clone, Copy)]
-struct List {
-    several: &'static str,
-    one: &'static str,
-    of: fn(&MemberState) -> &[u32],
-}
-
-const LISTS: [List; 2] = [
-    List {
-        several: "leader lists",
-        one: "leader list",
-        of: |member| &member.leaders,
-    },
-    List {
-        several: "journals",
-        one: "journal",
-        of: |member| &member.journal,
-    },
-];
-
-impl List {
-    fn of(self, pair: &Pair) -> [&[u32]; 2] {
-        [(self.of)(&pair.left), (self.of)(&pair.right)]
-    }
-
-    fn order(self, pair: &Pair) -> Order {
-        Order::of(self.of(pair))
-    }
 }
 
 impl<'a> Report<'a> {
@@ -225,7 +194,8 @@ impl<'a> Report<'a> {
             }
         }
         let [left, right] = SIDES.map(|side| self.pair.get(side).words[OWN]);
-        if let (Some(own), true) = (left.checked_sub(1), left == right) {
+        let is_same = self.pair.are_comparable() && left == right;
+        if let (Some(own), true) = (left.checked_sub(1), is_same) {
             text.say(1, &format!("Both are sheets of member {own}."));
         }
     }
@@ -342,8 +312,9 @@ fn side_sentences(side: Side, member: &MemberState) -> Vec<String> {
     if let Origin::Lines(lines) = &member.origin {
         let (other, all) = (lines.other, lines.calls() + lines.other);
         if other > 0 {
+            let other = counted(other, "is NO CALL", "are NO CALLS");
             sentences.push(format!(
-                "Of the {side} input {other} of {all} lines are NO CALLS: what they were to say is missing."
+                "Of {all} lines of the {side} input {other}: what was to be said there is missing."
             ));
         }
         if lines.openings > 1 {

@@ -105,7 +105,7 @@ pub fn members_named(members: impl IntoIterator<Item = u32>) -> String {
 }
 
 /// "a", "a and b", "a, b and c".
-pub fn joined(parts: &[String]) -> String {
+fn joined(parts: &[String]) -> String {
     match parts {
         [] => String::new(),
         [only] => only.clone(),

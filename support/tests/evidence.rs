@@ -12,17 +12,6 @@ use sidebyside::evidence::{Kind, Signed};
 use sidebyside::member::MemberState;
 use sidebyside::pair::{Pair, Side};
 
-/// A record of four members; tags are those of 01's cases.
-fn record(round: u32, source: u32, strong: u32) -> Record {
-    let record = Record {
-        round,
-        source,
-        strong,
-        ..Record::default()
-    };
-    record.with_tag(10 * round + source)
-}
-
 /// A record that lacks the previous leader, with the certificates that it needs.
 fn without_leader(round: u32, source: u32, strong: u32, no_votes: u32) -> Record {
     Record {
@@ -30,10 +19,6 @@ fn without_leader(round: u32, source: u32, strong: u32, no_votes: u32) -> Record
         no_votes,
         ..record(round, source, strong)
     }
-}
-
-fn vertex(record: Record) -> Call {
-    Call::Vertex(record.words().to_vec())
 }
 
 fn first(record: Record) -> Call {

@@ -8,27 +8,9 @@ use reference::record::Record;
 use reference::Call;
 use sidebyside::faults::Fault;
 
-fn vertex(round: u32, source: u32, strong: u32, timeouts: u32, no_votes: u32) -> Call {
-    let record = Record {
-        round,
-        source,
-        strong,
-        timeouts,
-        no_votes,
-        ..Record::default()
-    };
-    Call::Vertex(record.words().to_vec())
-}
-
-fn round_of_all(round: u32, strong: u32) -> Vec<Call> {
-    (0..4)
-        .map(|source| vertex(round, source, strong, 0, 0))
-        .collect()
-}
-
 /// Four full rounds: leaders 16, 33 and 50.
 fn full_rounds() -> Vec<u32> {
-    let rounds = (1..=4).flat_map(|round| round_of_all(round, if round == 1 { 0 } else { 15 }));
+    let rounds = (1..=4).flat_map(|round| vertices(round, &ALL, if round == 1 { 0 } else { 15 }));
     words_after(
         &[Call::Open(4, 0)]
             .into_iter()
@@ -40,10 +22,14 @@ fn full_rounds() -> Vec<u32> {
 /// Round 1's leader, with two votes, is passed over by a no-vote certificate: leader 33.
 fn passed_over() -> Vec<u32> {
     let mut calls = vec![Call::Open(4, 0)];
-    calls.extend(round_of_all(1, 0));
-    calls.extend([0, 2].map(|source| vertex(2, source, 7, 0, 0)));
-    calls.push(vertex(2, 1, 14, 14, 14));
-    calls.extend([0, 1, 2].map(|source| vertex(3, source, 7, 0, 0)));
+    calls.extend(vertices(1, &ALL, 0));
+    calls.extend(vertices(2, &[0, 2], 7));
+    calls.push(vertex(Record {
+        timeouts: 14,
+        no_votes: 14,
+        ..record(2, 1, 14)
+    }));
+    calls.extend(vertices(3, &[0, 1, 2], 7));
     words_after(&calls)
 }
 
@@ -93,8 +79,8 @@ fn the_states_themselves_have_no_fault() {
 #[test]
 fn a_leader_committed_a_vote_short() {
     let mut calls = vec![Call::Open(4, 0)];
-    calls.extend(round_of_all(1, 0));
-    calls.extend([0, 2].map(|source| vertex(2, source, 7, 0, 0)));
+    calls.extend(vertices(1, &ALL, 0));
+    calls.extend(vertices(2, &[0, 2], 7));
     let short = with_lists(words_after(&calls), &[16], &[16]);
     check(
         short,

@@ -175,7 +175,7 @@ fn lines_of_another_form_and_openings_are_said() {
     let report = report(&pair);
     let answer = report.answer().join(" ");
     assert!(
-        answer.starts_with("Of the left input 3 of 9 lines are NO CALLS"),
+        answer.starts_with("Of 9 lines of the left input 3 are NO CALLS"),
         "{answer}"
     );
     assert!(

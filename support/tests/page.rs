@@ -128,30 +128,14 @@ fn a_page_stands_alone() {
 /// All that the sheet says of a vertex stands in its tooltip.
 #[test]
 fn tooltips_have_the_details() {
-    let record = Record {
-        round: 3,
-        source: 2,
-        strong: 14,
-        timeouts: 0,
-        ..Record::default()
-    };
-    let lines: Vec<Call> = [0, 1, 2, 3]
-        .map(|source| Record {
-            round: 1,
-            source,
-            ..Record::default()
-        })
-        .into_iter()
-        .chain([1, 2, 3].map(|source| Record {
-            round: 2,
-            source,
-            strong: 15,
-            ..Record::default()
-        }))
-        .chain([record.with_tag(0x0403_0201).with_weak(&[16])])
-        .map(|record| Call::Vertex(record.words().to_vec()))
-        .collect();
-    let state = words_after(&[&[Call::Open(4, 0)][..], &lines].concat());
+    let leader = record(3, 2, 14).with_tag(0x0403_0201).with_weak(&[16]);
+    let calls = [
+        vec![Call::Open(4, 0)],
+        vertices(1, &ALL, 0),
+        vertices(2, &[1, 2, 3], 15),
+        vec![vertex(leader)],
+    ];
+    let state = words_after(&calls.concat());
     let empty = words_after(&[Call::Open(4, 0)]);
     let page = page(&stored_pair(&state, &empty), ["left", "right"]);
     let digest = format!("01020304{}", "0".repeat(56));
@@ -170,18 +154,13 @@ fn tooltips_have_the_details() {
 /// only one leader list has a leader.
 #[test]
 fn what_is_ordered_otherwise_is_marked() {
-    let vertex = |round, source, strong| Record {
-        round,
-        source,
-        strong,
-        ..Record::default()
-    };
-    let rounds = (1..=3).flat_map(|round| (0..4).map(move |source| (round, source)));
-    let calls = rounds.map(|(round, source)| {
-        let strong = if round == 1 { 0 } else { 15 };
-        Call::Vertex(vertex(round, source, strong).words().to_vec())
-    });
-    let calls: Vec<Call> = [Call::Open(4, 0)].into_iter().chain(calls).collect();
+    let calls = [
+        vec![Call::Open(4, 0)],
+        vertices(1, &ALL, 0),
+        vertices(2, &ALL, 15),
+        vertices(3, &ALL, 15),
+    ];
+    let calls = calls.concat();
     let ahead = words_after(&calls);
     let behind = words_after(&calls[..calls.len() - 2]);
     let page = page(&stored_pair(&ahead, &behind), ["left", "right"]);

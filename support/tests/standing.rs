@@ -9,25 +9,10 @@ use reference::Call;
 use sidebyside::pair::{Order, Pair, Side};
 use sidebyside::why::standing;
 
-fn vertices(round: u32, sources: &[u32], strong: u32) -> Vec<Call> {
-    let record = |&source: &u32| Record {
-        round,
-        source,
-        strong,
-        ..Record::default()
-    };
-    sources
-        .iter()
-        .map(|source| Call::Vertex(record(source).words().to_vec()))
-        .collect()
-}
-
 /// A state of four members with these vertices.
 fn state(parts: &[Vec<Call>]) -> Vec<u32> {
     words_after(&[&[Call::Open(4, 0)][..], &parts.concat()].concat())
 }
-
-const ALL: [u32; 4] = [0, 1, 2, 3];
 
 #[test]
 fn orders_of_lists() {
@@ -199,16 +184,11 @@ fn leaders_without_a_quorum() {
 
 /// Vertices of round 2 that do not vote.
 fn lacking_leader() -> Vec<Call> {
-    let record = |source| Record {
-        round: 2,
-        source,
-        strong: 14,
+    let lacking = |source| Record {
         timeouts: 7,
-        ..Record::default()
+        ..record(2, source, 14)
     };
-    [2, 3]
-        .map(|source| Call::Vertex(record(source).words().to_vec()))
-        .to_vec()
+    [2, 3].map(|source| vertex(lacking(source))).to_vec()
 }
 
 /// What no leader that can be committed has in its history stays as it is.

@@ -3,6 +3,7 @@
 #![allow(dead_code)]
 
 use reference::layout::STATE_WORDS;
+use reference::record::Record;
 use reference::Call;
 use sidebyside::member::MemberState;
 use sidebyside::origin::{make, of_bytes, Origin};
@@ -11,6 +12,30 @@ use sidebyside::pair::Pair;
 use sidebyside::report::Report;
 
 pub const SIZES: [u32; 5] = [4, 7, 10, 13, 16];
+
+/// The members of a group of four.
+pub const ALL: [u32; 4] = [0, 1, 2, 3];
+
+/// A record without certificates and weak ids, with a tag as 01's cases have them.
+pub fn record(round: u32, source: u32, strong: u32) -> Record {
+    let record = Record {
+        round,
+        source,
+        strong,
+        ..Record::default()
+    };
+    record.with_tag(10 * round + source)
+}
+
+pub fn vertex(record: Record) -> Call {
+    Call::Vertex(record.words().to_vec())
+}
+
+/// The vertices of these members, all with one strong mask.
+pub fn vertices(round: u32, sources: &[u32], strong: u32) -> Vec<Call> {
+    let one = |&source: &u32| vertex(record(round, source, strong));
+    sources.iter().map(one).collect()
+}
 
 /// The words after these calls.
 pub fn words_after(calls: &[Call]) -> Vec<u32> {

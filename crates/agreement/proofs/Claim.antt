@@ -5,14 +5,15 @@ use mathlib.Core.Logic.{_⊎_, inl, inr, ⊎-elim}
 use mathlib.Core.List.{List, [], _∷_, List·Memᴰ·tail}
 use Prim.Native.Nat.{ℕ, zero, suc, _+_, _-_, _≤_, _<_}
 use native.Mathlib.Omega.{arith}
-use borrow.Author.Tests.{not-true}
+use borrow.Author.Tests.{not-true, ne-eqb}
 use Rattle.record.specs.Members.{legal, leader, votedRounds}
 use Rattle.record.specs.Refusals.{numberOf, firstNo}
 use Rattle.record.specs.Layout.{roundOf, sourceOf, bodyOf}
 use Rattle.record.specs.declared.refusal.Refusal.{Refusal}
 use Rattle.record.proofs.Booleans.{and-left, and-right}
-use Rattle.protocol.specs.Dag.{recordsOf, present, votes, committed}
-use Rattle.protocol.proofs.Commit.{committed-cong}
+use Rattle.protocol.specs.Dag.{recordsOf, present, votes, backed, committed}
+use Rattle.protocol.proofs.Commit.{backed-cong}
+use Rattle.protocol.proofs.Tracking.{at-open, at-leaders, at-journal}
 use Rattle.protocol.proofs.Agreement.{agreement}
 use Rattle.replica.specs.Layout.{committedRoundAt, madeAt, masksAt, timeoutsAt, timeoutsKind, noVotesKind, orderedKind}
 use Rattle.replica.specs.State.{currentRound, committedRound, leaderList, journalList, vertices, firsts, dag, addMember, addMembers}
@@ -20,6 +21,7 @@ use Rattle.replica.specs.Outcome.{outcome}
 use Rattle.replica.specs.Opening.{opened, openState}
 use Rattle.replica.proofs.Formed.{well-formed}
 use Rattle.protocol.specs.Chain.{leaders}
+use Rattle.protocol.specs.Single.{oneTaken}
 use Rattle.protocol.specs.Journal.{journal}
 use Rattle.replica.proofs.Opened.{opened-members, opened-word, opened-leaders, opened-journal, opened-vertices, opened-firsts, opened-formed}
 use Rattle.commits.specs.Commit.{raiseRound, commitAll}
@@ -48,10 +50,9 @@ use Rattle.agreement.specs.Model.{Model, empty, admit, follow, modelOf, 
 use Rattle.agreement.specs.Claim.{Premises, Matches, Agreed, AgreementClaim}
 use Rattle.agreement.proofs.Records.{records-none}
 use Rattle.agreement.proofs.Family.{Inside, inside-self, inside-then, Either, either-before, Part, partDag, family}
-use Rattle.agreement.proofs.Tracking.{at-open, at-leaders, at-journal}
 use Rattle.agreement.proofs.Handing.{hand-leaders, hand-journal}
 use Rattle.agreement.proofs.Released.{release-more, release-follows}
-use Rattle.agreement.proofs.Following.{Follows, alike, at-cast, formed, follows-alike, vertex-follows, first-follows}
+use Rattle.agreement.proofs.Following.{Follows, alike, at-cast, formed, certified-model, follows-alike, vertex-follows, first-follows}
 
 -- ---- refused records
 
@@ -117,11 +118,11 @@ opened-follows n own g few =
         members = opened-members n own;
         vertex = same;
         first = λ r p. ap present (none r p);
-        vote = λ r p. ap (votes n (r - 1)) (none r p);
+        vote = λ r p. ap (votes n (r - 1) 0) (none r p);
         lists = at-cast (opened-word n own committedRoundAt (omega arith) (λ e. omega arith)) (opened-leaders n own) (opened-journal n own)
-            (at-open n (dagOf (empty n)));
+            (at-open n 1 (dagOf (empty n)));
       };
-      over = λ q x y. sym (not-led n (dag (opened n own)) q (ap present (opened-vertices n own q (leader n q))));
+      over = λ q x y. sym (not-led n (dag (opened n own)) q 0 (ap present (opened-vertices n own q (leader n q))));
     }
 
 -- ---- a call, and all calls
@@ -244,7 +245,11 @@ module _ (n : ℕ) (a b : Model) (honest : ℕ → Bool) (g : legal n ≡ true) 
   module _ (l : List ℕ) (m : Model) (count : m .n ≡ n) (f : Follows n l m) where
     -- no round of the model is left to commit
     over-model : (q : ℕ) → committedRound l < q → q ≤ votedRounds → committed n (dagOf m) q ≡ false
-    over-model q x y = sym (committed-cong n (dag l) (dagOf m) (f .holds .vertex) (alike (f .holds)) q) ∙ f .over q x y
+    over-model q x y = sym (backed-cong n 1 (omega arith) (dag l) (dagOf m) (f .holds .vertex) (alike (f .holds)) q 0 (omega arith)) ∙ f .over q x y
+
+    -- and none of its one leader
+    full : 0 < committedRound l → oneTaken (committedRound l) < 1 → backed n (dagOf m) (committedRound l) (oneTaken (committedRound l)) ≡ false
+    full p k = absurd (omega (arith, rw (ne-eqb (committedRound l) 0 (λ e. omega arith)) at k))
 
     -- the lists are the model's
     matches : Matches l m
@@ -252,11 +257,13 @@ module _ (n : ℕ) (a b : Model) (honest : ℕ → Bool) (g : legal n ≡ true) 
         let S = f .holds .formed in
         record {
           leader-list = hand-leaders l (S .size) (well-formed l S)
-              ∙ at-leaders n (dagOf m) (committedRound l) (leaderList l) (journalList l) (f .holds .lists) (S .leaders .committed-high) over-model
-              ∙ ap (λ (x : ℕ). leaders x (dagOf m)) (sym count);
+              ∙ at-leaders n 1 (dagOf m) (committedRound l) (oneTaken (committedRound l)) (leaderList l) (journalList l) (f .holds .lists)
+              (omega arith) (S .leaders .committed-high) full over-model
+              ∙ ap (λ (x : ℕ). leaders x 1 (dagOf m)) (sym count);
           journal-list = hand-journal l (S .size) (well-formed l S)
-              ∙ at-journal n (dagOf m) (committedRound l) (leaderList l) (journalList l) (f .holds .lists) (S .leaders .committed-high) over-model
-              ∙ ap (λ (x : ℕ). journal x (dagOf m)) (sym count);
+              ∙ at-journal n 1 (dagOf m) (committedRound l) (oneTaken (committedRound l)) (leaderList l) (journalList l) (f .holds .lists)
+              (omega arith) (S .leaders .committed-high) full over-model
+              ∙ ap (λ (x : ℕ). journal x 1 (dagOf m)) (sym count);
         }
 
   -- and those of the one are prefixes of the other's
@@ -267,16 +274,16 @@ module _ (n : ℕ) (a b : Model) (honest : ℕ → Bool) (g : legal n ≡ true) 
       let i : Part n a b = record {
         model = a;
         inside = inl (inside-self a);
-        formed = formed n l a (f .holds .formed) (f .holds .members)
-            (f .holds .vertex);
+        formed = formed n l a (f .holds .formed) (f .holds .members) (f .holds .vertex);
+        certified = certified-model n l a (f .holds .formed) (f .holds .members) (f .holds .vertex);
       } in
       let j : Part n a b = record {
         model = b;
         inside = inr (inside-self b);
-        formed = formed n k b (h .holds .formed) (h .holds .members)
-            (h .holds .vertex);
+        formed = formed n k b (h .holds .formed) (h .holds .members) (h .holds .vertex);
+        certified = certified-model n k b (h .holds .formed) (h .holds .members) (h .holds .vertex);
       } in
-      let both = agreement n (partDag n a b) honest (family n a b honest g P) i j in
+      let both = agreement n 1 (partDag n a b) honest (family n a b honest g P) i j in
       record {
         first = x;
         second = y;

@@ -2,36 +2,39 @@
 use mathlib.Core.Path.{_≡_, refl, sym, ap, ap₂, _∙_}
 use mathlib.Core.Bool.{Bool, true, false, _&&_}
 use mathlib.Core.Logic.{_⊎_, inl, inr, ⊎-elim}
-use mathlib.Core.List.{List, [], _∷_, _++_, map}
+use mathlib.Core.List.{List, [], _∷_, _++_}
 use Prim.Native.Nat.{ℕ, zero, suc, _+_, _-_, _^_, _≤_, _<_}
 use native.Mathlib.Omega.{arith}
 use lib.Dec.{eqb, ltb}
 use lib.ListN.{length}
-use borrow.Author.Tests.{ltb-true, ltb-false}
+use borrow.Author.Tests.{ltb-true, ltb-false, ne-eqb}
 use Rattle.record.specs.Members.{legal, has, isRound, rounds, slots, votedRounds}
 use Rattle.record.specs.Refusals.{numberOf, firstNo}
 use Rattle.record.specs.Layout.{roundOf, sourceOf, bodyOf, timeoutsOf, bodySize}
-use Rattle.record.specs.Admitted.{Admitted}
+use Rattle.record.specs.Admitted.{Admitted, Certified}
 use Rattle.record.proofs.Booleans.{which, never, and-fails-right, cond-false}
 use Rattle.record.proofs.Below.{least-sat, least-off}
 use Rattle.record.proofs.Turn.{admitted}
 use Rattle.protocol.specs.Dag.{Records, Dag, recordsOf, present, held, votes, committed}
-use Rattle.protocol.specs.Chain.{chain, leaderId}
+use Rattle.protocol.specs.Chain.{chain}
+use Rattle.protocol.specs.Single.{oneTaken}
 use Rattle.protocol.specs.Journal.{extend}
 use Rattle.protocol.specs.Premises.{ValidVertices}
 use Rattle.protocol.proofs.Laws.{records-ext}
-use Rattle.protocol.proofs.Commit.{committed-cong}
+use Rattle.protocol.proofs.Commit.{backed-cong}
+use Rattle.protocol.proofs.Tracking.{At, at-grow, at-commit, settled-main}
 use Rattle.replica.specs.State.{memberCount, committedRound, heldMask, heardMask, votesMask, leaderList, journalList, vertices, firsts, dag}
 use Rattle.replica.proofs.Words.{legal-pow}
 use Rattle.replica.proofs.Formed.{WellFormed}
-use Rattle.replica.proofs.Dags.{held-vertex, dag-well-formed}
-use Rattle.commits.specs.Commit.{commit, committable, lowest, commitUpTo, raiseRound}
+use Rattle.replica.proofs.Dags.{held-vertex, dag-well-formed, dag-certified}
+use Rattle.commits.specs.Commit.{commit, committable, lowest, isReady, commitOnce, commitUpTo, mostCommits, raiseRound}
+use Rattle.commits.proofs.Repeating.{committable-ready, one-once, one-ready}
 use Rattle.ordering.specs.Calls.{putVertex, hear, vertexQuestions, firstQuestions}
 use Rattle.ordering.proofs.Carried.{written, VertexWritten, vertex-written, carry-calm, carry-alike}
 use Rattle.commits.proofs.Steps.{committable-at}
 use Rattle.commits.proofs.Frame.{Alike, vertices-same, firsts-same}
 use Rattle.commits.proofs.Frames.{lists-members}
-use Rattle.commits.proofs.Growing.{grown, commit-vertices, commit-firsts, commit-round, commit-leaders, commit-journal}
+use Rattle.commits.proofs.Growing.{taken-one, grown, commit-vertices, commit-firsts, commit-round, commit-leaders, commit-journal}
 use Rattle.ordering.proofs.Marks.{formed-raise, formed-hear}
 use Rattle.ordering.proofs.Kept.{formed-commit, committable-round}
 use Rattle.ordering.proofs.Numbers.{vertex-yes, first-yes}
@@ -39,7 +42,6 @@ use Rattle.agreement.specs.Model.{Model, dagOf}
 use Rattle.agreement.specs.Claim.{Premises}
 use Rattle.agreement.proofs.Records.{records-here, records-there, by-record, records-more}
 use Rattle.agreement.proofs.Family.{Either, Part, partDag, family}
-use Rattle.agreement.proofs.Tracking.{At, at-grow, at-commit}
 use Rattle.ordering.proofs.Writing.{Calm, calm-members, calm-committed, calm-leaders, calm-journal, raise-calm, raise-alike, hear-calm, hear-vertices}
 use Rattle.ordering.proofs.Writing.{hear-other, hear-here, hear-vote, put-firsts, put-here, put-other}
 
@@ -49,13 +51,14 @@ pub record Holds (n : ℕ) (l : List ℕ) (m : Model) : Type 0 where
   pub members : memberCount l ≡ n
   pub vertex : (r p : ℕ) → vertices l r p ≡ recordsOf (m .vertices) r p
   pub first : (r p : ℕ) → present (firsts l r p) ≡ present (recordsOf (m .firsts) r p)
-  pub vote : (r p : ℕ) → votes n (r - 1) (firsts l r p) ≡ votes n (r - 1) (recordsOf (m .firsts) r p)
+  pub vote : (r p : ℕ) → votes n (r - 1) 0 (firsts l r p) ≡ votes n (r - 1) 0 (recordsOf (m .firsts) r p)
   -- the lists are those of the committed round
-  pub lists : At n (dagOf m) (committedRound l) (leaderList l) (journalList l)
+  pub lists : At n 1 (dagOf m) (committedRound l) (oneTaken (committedRound l)) (leaderList l) (journalList l)
 
 -- the votes for the leader of round r
-pub alike : {n : ℕ} {l : List ℕ} {m : Model} → Holds n l m → (r p : ℕ) → votes n r (firsts l (suc r) p) ≡ votes n r (recordsOf (m .firsts) (suc r) p)
-alike h r p = let e : suc r - 1 ≡ r = omega arith in rw e at (h .vote (suc r) p)
+pub alike : {n : ℕ} {l : List ℕ} {m : Model} → Holds n l m → (r x p : ℕ) → x < 1
+    → votes n r x (firsts l (suc r) p) ≡ votes n r x (recordsOf (m .firsts) (suc r) p)
+alike h r x p lx = let e : suc r - 1 ≡ r = omega arith in let z : x ≡ 0 = omega arith in rw z (rw e at (h .vote (suc r) p))
 
 -- no round is left to commit
 abbrev pub Over : ℕ → List ℕ → Type 0
@@ -66,8 +69,17 @@ pub record Follows (n : ℕ) (l : List ℕ) (m : Model) : Type 0 where
   pub over : Over n l
 
 -- the lists of equal states
-pub at-cast : {n : ℕ} {d : Dag} {c k : ℕ} {L M I J : List ℕ} → k ≡ c → M ≡ L → J ≡ I → At n d c L I → At n d k M J
+pub at-cast : {n : ℕ} {d : Dag} {c k : ℕ} {L M I J : List ℕ} → k ≡ c → M ≡ L → J ≡ I → At n 1 d c (oneTaken c) L I → At n 1 d k (oneTaken k) M J
 at-cast e f g a = rw (e, f, g) a
+
+-- of a round its one leader is taken
+one-place : {n : ℕ} {d : Dag} {L J : List ℕ} (q : ℕ) → 0 < q → At n 1 d q 1 L J → At n 1 d q (oneTaken q) L J
+one-place q l a = rw (ne-eqb q 0 (λ e. omega arith)) a
+
+-- the vertices of the model are certified
+pub certified-model : (n : ℕ) (l : List ℕ) (m : Model) → WellFormed l → memberCount l ≡ n → ((r p : ℕ) → vertices l r p ≡ recordsOf (m .vertices) r p)
+    → (r p : ℕ) → held (recordsOf (m .vertices)) r p ≡ true → Certified n 1 r p (recordsOf (m .vertices) r p)
+certified-model n l m S e same r p h = rw (e, same r p) at (dag-certified l S r p (rw (same r p) h))
 
 -- the vertices of the model are well formed
 pub formed : (n : ℕ) (l : List ℕ) (m : Model) → WellFormed l → memberCount l ≡ n → ((r p : ℕ) → vertices l r p ≡ recordsOf (m .vertices) r p)
@@ -83,8 +95,8 @@ first-none l r p e = ap present (cond-false _ _ (and-fails-right (isRound r) e))
 
 module _ (n : ℕ) (l k : List ℕ) (m : Model) (C : Calm l k) (S : WellFormed k) where
   -- the lists
-  calm-lists : WellFormed l → At n (dagOf m) (committedRound l) (leaderList l) (journalList l)
-      → At n (dagOf m) (committedRound k) (leaderList k) (journalList k)
+  calm-lists : WellFormed l → At n 1 (dagOf m) (committedRound l) (oneTaken (committedRound l)) (leaderList l) (journalList l)
+      → At n 1 (dagOf m) (committedRound k) (oneTaken (committedRound k)) (leaderList k) (journalList k)
   calm-lists s a = at-cast (calm-committed C) (calm-leaders C (s .leaders .few)) (calm-journal C (s .journal .few)) a
 
   module _ (A : Alike l k) where
@@ -95,7 +107,7 @@ module _ (n : ℕ) (l k : List ℕ) (m : Model) (C : Calm l k) (S : WellFormed k
       members = calm-members C ∙ h .members;
       vertex = λ r p. ap (λ (v : Records). v r p) (vertices-same A) ∙ h .vertex r p;
       first = λ r p. ap (λ (v : Records). present (v r p)) (firsts-same A) ∙ h .first r p;
-      vote = λ r p. ap (λ (v : Records). votes n (r - 1) (v r p)) (firsts-same A) ∙ h .vote r p;
+      vote = λ r p. ap (λ (v : Records). votes n (r - 1) 0 (v r p)) (firsts-same A) ∙ h .vote r p;
       lists = calm-lists (h .formed) (h .lists);
     }
 
@@ -113,50 +125,66 @@ module _ (n : ℕ) (l k : List ℕ) (m : Model) (C : Calm l k) (S : WellFormed k
 module _ (n : ℕ) (a b : Model) (honest : ℕ → Bool) (g : legal n ≡ true) (P : Premises n a b honest) where
   -- a model that a state holds is one of the family
   abbrev part : (l : List ℕ) (m : Model) → Either a b m → Holds n l m → Part n a b
-  part l m i h = record { model = m; inside = i; formed = formed n l m (h .formed) (h .members) (h .vertex) }
+  part l m i h = record {
+    model = m;
+    inside = i;
+    formed = formed n l m (h .formed) (h .members) (h .vertex);
+    certified = certified-model n l m
+        (h .formed) (h .members) (h .vertex);
+  }
 
   -- ---- a commit
 
   module _ (l : List ℕ) (m : Model) (i : Either a b m) (h : Holds n l m) (q : ℕ) (c : committable l q ≡ true) where
     -- what is held stays, and the lists grow to those of round q
-    commit-holds : Holds n (commit l q) m
+    commit-holds : Holds n (commit l q 0) m
     commit-holds =
         let w = committable-round l q c in
         let S = h .formed in
+        let ready = committable-ready l q c in
         let v = records-ext (vertices l) (recordsOf (m .vertices)) (h .vertex) in
-        let there : committed n (dagOf m) q ≡ true = sym (committed-cong n (dag l) (dagOf m) (h .vertex) (alike h) q) ∙ (rw (h .members) at (w .2)) in
+        let there : committed n (dagOf m) q ≡ true = sym (backed-cong n 1 (omega arith) (dag l) (dagOf m) (h .vertex) (alike h) q 0 (omega arith))
+        ∙ (rw (h .members) at (w .2)) in
         record {
-          formed = formed-commit l S q (w .0) (w .1) (w .3);
-          members = lists-members l (commit l q) (grown l S q (w .0) (w .1) (w .3) .kept) ∙ h .members;
-          vertex = λ r p. ap (λ (x : Records). x r p) (commit-vertices l S q (w .0) (w .1) (w .3)) ∙ h .vertex r p;
-          first = λ r p. ap (λ (x : Records). present (x r p)) (commit-firsts l S q (w .0) (w .1) (w .3)) ∙ h .first r p;
-          vote = λ r p. ap (λ (x : Records). votes n (r - 1) (x r p)) (commit-firsts l S q (w .0) (w .1) (w .3)) ∙ h .vote r p;
-          lists = at-cast (commit-round l S q (w .0) (w .1) (w .3))
-              (commit-leaders l S q (w .0) (w .1) (w .3)
-              ∙ ap₂ (λ (k : ℕ) (x : Records). leaderList l ++ map (leaderId k) (chain k x (committedRound l) q)) (h .members) v)
-              (commit-journal l S q (w .0) (w .1) (w .3)
-              ∙ ap₂ (λ (k : ℕ) (x : Records). extend k x (journalList l) (chain k x (committedRound l) q)) (h .members) v)
-              (at-commit n (partDag n a b) honest (family n a b honest g P) (part l m i h) (committedRound l) q (leaderList l) (journalList l) (h .lists)
-              (omega (arith, w .0)) there);
+          formed = formed-commit l S q 0 ready;
+          members = lists-members l (commit l q 0) (grown l S q 0 ready .kept) ∙ h .members;
+          vertex = λ r p. ap (λ (x : Records). x r p) (commit-vertices l S q 0 ready) ∙ h .vertex r p;
+          first = λ r p. ap (λ (x : Records). present (x r p)) (commit-firsts l S q 0 ready) ∙ h .first r p;
+          vote = λ r p. ap (λ (x : Records). votes n (r - 1) 0 (x r p)) (commit-firsts l S q 0 ready) ∙ h .vote r p;
+          lists = at-cast (commit-round l S q 0 ready)
+              (commit-leaders l S q 0 ready ∙ ap (λ (xs : List ℕ). leaderList l ++ xs) (taken-one l S q)
+              ∙ ap₂ (λ (k : ℕ) (x : Records). leaderList l ++ chain k 1 x (committedRound l) (oneTaken (committedRound l)) q 1) (h .members) v)
+              (commit-journal l S q 0 ready ∙ ap (extend (memberCount l) (vertices l) (journalList l)) (taken-one l S q)
+              ∙ ap₂ (λ (k : ℕ) (x : Records). extend k x (journalList l) (chain k 1 x (committedRound l) (oneTaken (committedRound l)) q 1)) (h .members) v)
+              (one-place q (omega (arith, w .0)) (at-commit n 1 (partDag n a b) honest (family n a b honest g P) (part l m i h) (committedRound l)
+              (oneTaken (committedRound l)) q 1 (leaderList l) (journalList l) (h .lists)
+              (inl (w .0)) (settled-main n 1 (dagOf m) q (omega arith) (omega (arith, w .0)) there)));
         }
 
     -- the committed round rises
-    raised : committedRound l < committedRound (commit l q)
-    raised = let w = committable-round l q c in rw (commit-round l (h .formed) q (w .0) (w .1) (w .3)) (w .0)
+    raised : committedRound l < committedRound (commit l q 0)
+    raised = let w = committable-round l q c in rw (commit-round l (h .formed) q 0 (committable-ready l q c)) (w .0)
 
   -- all commits: then no round is left
   pub commits : (k : ℕ) (l : List ℕ) (m : Model) → Either a b m → Holds n l m → votedRounds ≤ k + committedRound l → Follows n (commitUpTo l k) m
   unfolding commitUpTo
   commits zero l m i h e = record { holds = h; over = λ q x y. absurd (omega arith) }
-  commits (suc k) l m i h e = go (which (ltb (lowest l) rounds)) (commits k (commit l (lowest l)) m i)
+  commits (suc k) l m i h e = go (which (ltb (lowest l) rounds)) (commits k (commit l (lowest l) 0) m i)
     where
+      -- a round has one leader, so the committed round does not grow
+      none : isReady l ≡ ltb (lowest l) rounds
+      none = one-ready l (h .formed)
+
+      next : commitOnce l ≡ commit l (lowest l) 0
+      next = one-once l (h .formed)
+
       go : (ltb (lowest l) rounds ≡ true) ⊎ (ltb (lowest l) rounds ≡ false)
-          → (Holds n (commit l (lowest l)) m → votedRounds ≤ k + committedRound (commit l (lowest l)) → Follows n (commitUpTo (commit l (lowest l)) k) m)
+          → (Holds n (commit l (lowest l) 0) m → votedRounds ≤ k + committedRound (commit l (lowest l) 0) → Follows n (commitUpTo (commit l (lowest l) 0) k) m)
           → Follows n (commitUpTo l (suc k)) m
       go (inl d) ih =
           let c = least-sat rounds (committable l) (ltb-true _ _ d) in
-          rw d (ih (commit-holds l m i h (lowest l) c) (omega (arith, raised l m i h (lowest l) c)))
-      go (inr d) ih = rw d (record {
+          rw (none ∙ d, next) (ih (commit-holds l m i h (lowest l) c) (omega (arith, raised l m i h (lowest l) c)))
+      go (inr d) ih = rw (none ∙ d) (record {
         holds = h;
         over = λ q x y. committable-at l n q (sym (h .members)) x y ∙ least-off rounds (committable l) q (omega (arith, ltb-false (lowest l) rounds d));
       })
@@ -212,15 +240,22 @@ module _ (n : ℕ) (a b : Model) (honest : ℕ → Bool) (g : legal n ≡ true) 
     -- the state holds it then
     vertex-holds : Either a b m → Either a b more → Holds n put more
     vertex-holds i j =
-        let j′ : Part n a b = record { model = more; inside = j; formed = formed n put more put-formed (calm-members calm ∙ h .members) put-vertex } in
+        let j′ : Part n a b = record {
+          model = more;
+          inside = j;
+          formed = formed n put more put-formed
+              (calm-members calm ∙ h .members) put-vertex;
+          certified = certified-model n put more put-formed (calm-members calm ∙ h .members) put-vertex;
+        } in
         record {
           formed = put-formed;
           members = calm-members calm ∙ h .members;
           vertex = put-vertex;
           first = λ s q. ap present (stay s q) ∙ h .first s q;
-          vote = λ s q. ap (votes n (s - 1)) (stay s q) ∙ h .vote s q;
+          vote = λ s q. ap (votes n (s - 1) 0) (stay s q) ∙ h .vote s q;
           lists = calm-lists n l put more calm put-formed (h .formed)
-              (at-grow n (partDag n a b) honest (family n a b honest g P) (part l m i h) j′ (committedRound l) (leaderList l) (journalList l)
+              (at-grow n 1 (partDag n a b) honest (family n a b honest g P) (part l m i h) j′ (committedRound l) (oneTaken (committedRound l))
+              (leaderList l) (journalList l)
               (record { vertices = records-more rec (m .vertices) new; firsts = λ s q e. refl }) (h .lists));
         }
       where
@@ -236,8 +271,8 @@ module _ (n : ℕ) (a b : Model) (honest : ℕ → Bool) (g : legal n ≡ true) 
         (carry-alike put (roundOf rec) (timeoutsOf (bodyOf rec)) (A .round-high)) (vertex-holds i j)
 
     -- and follows the model after all commits
-    pub vertex-follows : Either a b m → Either a b more → Follows n (commitUpTo (raiseRound carried) votedRounds) more
-    vertex-follows i j = commits votedRounds (raiseRound carried) more j
+    pub vertex-follows : Either a b m → Either a b more → Follows n (commitUpTo (raiseRound carried) mostCommits) more
+    vertex-follows i j = commits mostCommits (raiseRound carried) more j
         (holds-alike n carried (raiseRound carried) more (raise-calm carried) (formed-raise carried (W .formed)) (raise-alike carried) (carried-holds i j))
         (omega arith)
 
@@ -294,16 +329,22 @@ module _ (n : ℕ) (a b : Model) (honest : ℕ → Bool) (g : legal n ≡ true) 
         long (w ∷ body) e = refl
 
     -- and so are their votes
-    heard-vote : (s q : ℕ) → votes n (s - 1) (firsts after s q) ≡ votes n (s - 1) (recordsOf (rec ∷ m .firsts) s q)
-    heard-vote = by-record rec (λ s q. votes n (s - 1) (firsts after s q) ≡ votes n (s - 1) (recordsOf (rec ∷ m .firsts) s q))
+    heard-vote : (s q : ℕ) → votes n (s - 1) 0 (firsts after s q) ≡ votes n (s - 1) 0 (recordsOf (rec ∷ m .firsts) s q)
+    heard-vote = by-record rec (λ s q. votes n (s - 1) 0 (firsts after s q) ≡ votes n (s - 1) 0 (recordsOf (rec ∷ m .firsts) s q))
         (hear-vote l (roundOf rec) (sourceOf rec) (bodyOf rec) (h .formed .size) (B .round-low) (B .round-high) voteless n (sym (h .members))
-        ∙ ap (votes n (roundOf rec - 1)) (sym (records-here rec (m .firsts))))
-        (λ s q e. ap (votes n (s - 1)) (other s q e) ∙ h .vote s q ∙ ap (votes n (s - 1)) (sym (records-there rec (m .firsts) s q e)))
+        ∙ ap (votes n (roundOf rec - 1) 0) (sym (records-here rec (m .firsts))))
+        (λ s q e. ap (votes n (s - 1) 0) (other s q e) ∙ h .vote s q ∙ ap (votes n (s - 1) 0) (sym (records-there rec (m .firsts) s q e)))
 
     -- the state holds it then
     first-holds : Either a b m → Either a b further → Holds n after further
     first-holds i j =
-        let j′ : Part n a b = record { model = further; inside = j; formed = formed n l m (h .formed) (h .members) (h .vertex) } in
+        let j′ : Part n a b = record {
+          model = further;
+          inside = j;
+          formed = formed n l m (h .formed) (h .members)
+              (h .vertex);
+          certified = certified-model n l m (h .formed) (h .members) (h .vertex);
+        } in
         record {
           formed = heard-formed;
           members = calm-members heard-calm ∙ h .members;
@@ -313,10 +354,11 @@ module _ (n : ℕ) (a b : Model) (honest : ℕ → Bool) (g : legal n ≡ true) 
           first = heard-first;
           vote = heard-vote;
           lists = calm-lists n l after further heard-calm heard-formed (h .formed)
-              (at-grow n (partDag n a b) honest (family n a b honest g P) (part l m i h) j′ (committedRound l) (leaderList l) (journalList l)
+              (at-grow n 1 (partDag n a b) honest (family n a b honest g P) (part l m i h) j′ (committedRound l) (oneTaken (committedRound l))
+              (leaderList l) (journalList l)
               (record { vertices = λ s q e. refl; firsts = records-more rec (m .firsts) none }) (h .lists));
         }
 
     -- and follows the model after all commits
-    pub first-follows : Either a b m → Either a b further → Follows n (commitUpTo after votedRounds) further
-    first-follows i j = commits votedRounds after further j (first-holds i j) (omega arith)
+    pub first-follows : Either a b m → Either a b further → Follows n (commitUpTo after mostCommits) further
+    first-follows i j = commits mostCommits after further j (first-holds i j) (omega arith)

@@ -1,6 +1,5 @@
 pub mod Records
 pub mod Family
-pub mod Tracking
 pub mod Handing
 pub mod Following
 pub mod Released

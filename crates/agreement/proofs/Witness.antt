@@ -9,13 +9,13 @@ use lib.Count.{ones}
 use lib.Dec.{eqb, lit≤}
 use borrow.Author.Tests.{eq-eqb, not-true}
 use Rattle.record.specs.Below.{all, any, count}
-use Rattle.record.specs.Members.{legal, leader, has, within, meets, isRound}
+use Rattle.record.specs.Members.{legal, leaderAt, has, within, meets, isRound}
 use Rattle.record.specs.Refusals.{firstNo}
 use Rattle.record.specs.Layout.{roundOf, sourceOf, bodyOf, strongOf, timeoutsOf, noVotesOf, weakCountOf, weakOf}
 use Rattle.record.specs.Questions.{masksOk, strongOk, lacksLeader, quorumIf, timeoutsOk, noVotesOk, weakIdOk, rises, slotOk, weakOk}
 use Rattle.record.specs.Questions.{signerQuestions, recordQuestions}
 use Rattle.record.proofs.Booleans.{which, never, and-left, and-right, and-both, imp, imp-elim}
-use Rattle.protocol.specs.Dag.{Records, recordsOf, present, votes}
+use Rattle.protocol.specs.Dag.{Records, Dag, recordsOf, present, votes}
 use Rattle.protocol.specs.Chain.{leaders}
 use Rattle.protocol.specs.Journal.{journal}
 use Rattle.protocol.specs.Witness.{early, late, vertexOf, firstOf, witnessDag, honest}
@@ -91,7 +91,7 @@ same-records l m e d = records-ext (recordsOf l) (recordsOf m) (λ r p. go r p (
 
 -- every call is taken
 all-taken : (i : Bool) → allTaken 4 (empty 4) (callsOf i) ≡ true
-unfolding callsOf vertexCalls vertexOf firstOf early late allTaken taken vertexTaken parentsThere isParent pass passes recordsOf legal leader has within meets
+unfolding callsOf vertexCalls vertexOf firstOf early late allTaken taken vertexTaken parentsThere isParent pass passes recordsOf legal leaderAt has within meets
     strongOf timeoutsOf noVotesOf weakCountOf weakOf signerQuestions recordQuestions bufferOf wordsOf recordsFrom recordsOk restZero bufferOk
     firstNo isRound masksOk strongOk lacksLeader quorumIf timeoutsOk noVotesOk weakIdOk rises slotOk weakOk all any ones
 all-taken true = refl
@@ -146,7 +146,7 @@ oneRecord : List ℕ → List ℕ → Bool
 oneRecord x y = imp (twin x y && honest (sourceOf x)) (same x y)
 
 both : List ℕ → List ℕ → Bool
-both x y = eqb (roundOf x) (roundOf y) && (honest (sourceOf x) && (votes 4 (roundOf x - 1) (bodyOf x) && has (noVotesOf (bodyOf y)) (sourceOf x)))
+both x y = eqb (roundOf x) (roundOf y) && (honest (sourceOf x) && (votes 4 (roundOf x - 1) 0 (bodyOf x) && has (noVotesOf (bodyOf y)) (sourceOf x)))
 
 -- they are met
 vertices-one : pairs oneVertex allVertices allVertices ≡ true
@@ -160,7 +160,7 @@ unfolding allVertices allFirsts made dry callsOf vertexCalls vertexOf firstOf ea
 records-one = refl
 
 never-both : pairs (λ x y. not (both x y)) (allVertices ++ allFirsts) allVertices ≡ true
-unfolding allVertices allFirsts made dry callsOf vertexCalls vertexOf firstOf early late pairs every both leader has strongOf noVotesOf
+unfolding allVertices allFirsts made dry callsOf vertexCalls vertexOf firstOf early late pairs every both leaderAt has strongOf noVotesOf
     pass passes bufferOf wordsOf recordsFrom recordsOf parentsThere isParent any weakCountOf weakOf all
 never-both = refl
 
@@ -229,8 +229,8 @@ witness = record {
   premises = premises;
   same-dag = same-dag;
   agreed = agreed;
-  leaders-first = agreed .first .leader-list ∙ ap₂ leaders (counted true) (same-dag true) ∙ protocol.witness .leaders-first;
-  leaders-second = agreed .second .leader-list ∙ ap₂ leaders (counted false) (same-dag false) ∙ protocol.witness .leaders-second;
-  journal-first = agreed .first .journal-list ∙ ap₂ journal (counted true) (same-dag true) ∙ protocol.witness .journal-first;
-  journal-second = agreed .second .journal-list ∙ ap₂ journal (counted false) (same-dag false) ∙ protocol.witness .journal-second;
+  leaders-first = agreed .first .leader-list ∙ ap₂ (λ (n : ℕ) (d : Dag). leaders n 1 d) (counted true) (same-dag true) ∙ protocol.witness .leaders-first;
+  leaders-second = agreed .second .leader-list ∙ ap₂ (λ (n : ℕ) (d : Dag). leaders n 1 d) (counted false) (same-dag false) ∙ protocol.witness .leaders-second;
+  journal-first = agreed .first .journal-list ∙ ap₂ (λ (n : ℕ) (d : Dag). journal n 1 d) (counted true) (same-dag true) ∙ protocol.witness .journal-first;
+  journal-second = agreed .second .journal-list ∙ ap₂ (λ (n : ℕ) (d : Dag). journal n 1 d) (counted false) (same-dag false) ∙ protocol.witness .journal-second;
 }

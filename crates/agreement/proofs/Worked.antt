@@ -9,8 +9,8 @@ use lib.Count.{ones, onesIn}
 use lib.Dec.{eqb}
 use lib.ListN.{length, take, drop, length-replicate}
 use borrow.Author.Tests.{eq-eqb, le-leb}
-use Rattle.record.specs.Below.{all, any, count, select, least}
-use Rattle.record.specs.Members.{legal, leader, has, within, meets, isRound}
+use Rattle.record.specs.Below.{all, any, count, select, least, longest}
+use Rattle.record.specs.Members.{legal, leaderAt, has, within, meets, isRound}
 use Rattle.record.specs.Refusals.{firstNo}
 use Rattle.record.specs.Layout.{strongOf, timeoutsOf, noVotesOf, weakCountOf, weakOf}
 use Rattle.record.specs.Questions.{masksOk, strongOk, lacksLeader, quorumIf, timeoutsOk, noVotesOk, weakIdOk, rises, slotOk, weakOk}
@@ -19,11 +19,12 @@ use Rattle.record.specs.declared.refusal.Refusal.{Refusal}
 use Rattle.record.specs.declared.refusal.Refusal.the-variants.{None, MemberCount}
 use Rattle.record.proofs.Booleans.{and-both}
 use Rattle.record.proofs.Turn.{next, stop, done}
-use Rattle.protocol.specs.Dag.{voter, committed}
+use Rattle.protocol.specs.Dag.{voter, backed}
 use Rattle.protocol.specs.Paths.{path, historyUpTo}
-use Rattle.protocol.specs.Chain.{chain, walk}
+use Rattle.protocol.specs.Chain.{chain, walk, seats}
 use Rattle.replica.specs.Layout.{stateSize, watcher}
 use Rattle.replica.specs.State.{currentRound, committedRound, leaderList, journalList, vertices, firsts, addMember, addMembers}
+use Rattle.replica.specs.State.{width, leaderIndex, lastPlace}
 use Rattle.replica.specs.Parents.{isParent, missing, parentsHeld}
 use Rattle.replica.specs.WellFormed.{wellFormed}
 use Rattle.replica.specs.Outcome.{Outcome, outcome}
@@ -31,12 +32,13 @@ use Rattle.replica.specs.Opening.{opened, openState}
 use Rattle.replica.specs.Lists.{spanIf}
 use Rattle.replica.proofs.Formed.{WellFormed, well-formed}
 use Rattle.replica.proofs.Opened.{opened-formed}
-use Rattle.commits.specs.Commit.{passable, highestPassable, raiseRound, appendLeader, appendLeaders, enter, enterAll, orderLeader, orderLeaders}
+use Rattle.commits.specs.Commit.{passable, highestPassable, raiseRound, appendLeader, appendLeaders, enter, enterAll, orderLeader, orderLeaders, grows, isReady}
 use Rattle.commits.specs.Commit.{committable}
 use Rattle.ordering.specs.Calls.{sameBody, putVertex, carryTimeouts, hear, isNew}
 use Rattle.runs.specs.Call.{Call, opening, outcomeOf, Given, nothing, givenOf, run}
 use Rattle.runs.proofs.Asked.{four, open-yes, open-taken}
-use Rattle.runs.proofs.Short.{line, listed, byList, commitBy, shortCommits, shortVertex, shortFirst, shortNote, shortList, shortSpan, shortOf, shortGiven}
+use Rattle.runs.proofs.Short.{line, listed, byList, commitBy, onceBy, shortCommits, shortVertex, shortFirst, shortNote, shortList, shortSpan, shortOf}
+use Rattle.runs.proofs.Short.{shortGiven}
 use Rattle.pending.specs.Buffer.{sameRecord, some, putIn, recordsFrom, wordsOf, bufferOf, recordsOk, restZero, bufferOk}
 use Rattle.pending.specs.Passes.{pass, passes}
 use Rattle.pending.specs.Early.{inPlace}
@@ -145,13 +147,14 @@ computed x = (shortAdmitted (opened 4 watcher) (drop 1 (x .calls)), shortEnd x)
 ends : map computed later ≡ map (λ (x : Row). (true, x .end)) later
 unfolding later rows computed shortAdmitted shortEnd shortSeen shortOf shortGiven shortSpan spanIf shortVertex shortFirst shortNote shortBundle shortList
     shortTake shortWith shortTry shortEnding inPlace pass passes bufferOf wordsOf recordsFrom sameRecord some putIn recordsOk restZero bufferOk
-    shortRun opened outcome legal leader
+    shortRun opened outcome legal leaderAt
     has within meets
     firstNo strongOf timeoutsOf noVotesOf weakCountOf weakOf isRound masksOk strongOk lacksLeader quorumIf timeoutsOk noVotesOk weakIdOk rises
     slotOk weakOk signerQuestions recordQuestions
-    all any count select least voter committed path historyUpTo chain walk vertices firsts isParent missing parentsHeld passable
-    highestPassable raiseRound appendLeader appendLeaders enter enterAll orderLeader orderLeaders line listed byList commitBy shortCommits
-    committable addMember addMembers sameBody putVertex carryTimeouts hear isNew ones onesIn
+    all any count select least voter backed path historyUpTo chain walk seats longest width leaderIndex lastPlace vertices firsts isParent missing
+    parentsHeld passable
+    highestPassable raiseRound appendLeader appendLeaders enter enterAll orderLeader orderLeaders line listed byList commitBy onceBy shortCommits
+    grows isReady committable addMember addMembers sameBody putVertex carryTimeouts hear isNew ones onesIn
 ends = refl
 
 -- what is seen after an opening with answer 0

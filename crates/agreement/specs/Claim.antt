@@ -1,4 +1,5 @@
--- Demand 3, the agreement claim: one statement about two lists of calls.
+-- Demand 3, the agreement claim: one statement about two lists of calls. A round has one leader so far: it is leader 0 of its round, and the number of leaders
+-- is 1. That these are 01's lists is `SingleClaim` in `protocol/specs/Single.antt`.
 use mathlib.Core.Path.{_≡_}
 use mathlib.Core.Bool.{Bool, true, not}
 use mathlib.Core.Logic.{_⊎_}
@@ -41,7 +42,7 @@ module _ (n : ℕ) (a b : Model) (honest : ℕ → Bool) where
     pub one-record : (x y : List ℕ) → First x → Vertex y → Twins x y → honest (sourceOf x) ≡ true → x ≡ y
     -- an honest member that votes for the leader of a round signs no no-vote against it
     pub no-both : (x y : List ℕ) → Vertex x ⊎ First x → Vertex y → roundOf x ≡ roundOf y → honest (sourceOf x) ≡ true
-        → votes n (roundOf x - 1) (bodyOf x) ≡ true → has (noVotesOf (bodyOf y)) (sourceOf x) ≡ true → ⊥
+        → votes n (roundOf x - 1) 0 (bodyOf x) ≡ true → has (noVotesOf (bodyOf y)) (sourceOf x) ≡ true → ⊥
 
 -- leader list and journal of a state: the words of the parts that handing over from entry 0 gives
 abbrev pub leadersIn : List ℕ → List ℕ
@@ -55,10 +56,10 @@ pub record Behind (l k : List ℕ) : Type 0 where
   pub leader-list : Prefix (leadersIn l) (leadersIn k)
   pub journal-list : Prefix (journalIn l) (journalIn k)
 
--- the lists of a state are those of the model
+-- the lists of a state are those of the model, with one leader a round
 pub record Matches (l : List ℕ) (m : Model) : Type 0 where
-  pub leader-list : leadersIn l ≡ leaders (m .n) (dagOf m)
-  pub journal-list : journalIn l ≡ journal (m .n) (dagOf m)
+  pub leader-list : leadersIn l ≡ leaders (m .n) 1 (dagOf m)
+  pub journal-list : journalIn l ≡ journal (m .n) 1 (dagOf m)
 
 -- The states l and k after two lists of calls: each has exactly its model's lists, and leader list and journal of the one are prefixes of the other's.
 pub record Agreed (l k : List ℕ) (a b : Model) : Type 0 where

@@ -28,11 +28,11 @@ module _ (l : List ℕ) (S : Standing l) (q : ℕ) (w : ReadyAlone l q) where
       sym (held-word l S q (leader n q) (omega (arith, w .above)) (omega (arith, w .high)) (omega (arith, S .high))) ∙ w .led
 
   -- and a quorum of one kind votes for it there
-  quorum-of-one : (enough n (λ p. votes n q (firsts l (suc q) p)) ≡ true) ⊎ (enough n (λ p. votes n q (vertices l (suc q) p)) ≡ true)
+  quorum-of-one : (enough n (λ p. votes n q 0 (firsts l (suc q) p)) ≡ true) ⊎ (enough n (λ p. votes n q 0 (vertices l (suc q) p)) ≡ true)
   quorum-of-one = ⊎-elim (λ e. inl (sym (first-quorum l S n q refl (omega (arith, w .above)) (w .high)) ∙ e)) (λ e. inr e) (w .alone)
 
   ready : committable l q ≡ true
-  ready = sym (committable-at l n q refl (w .above) (w .high)) ∙ by-either n (dag l) q led quorum-of-one
+  ready = sym (committable-at l n q refl (w .above) (w .high)) ∙ by-either n (dag l) q 0 led quorum-of-one
 
 pub either-alone : EitherAlone
 either-alone l size ok = ready l (standing l (formed l size ok))

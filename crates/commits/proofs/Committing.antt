@@ -1,93 +1,133 @@
 -- One commit, step by step: what stays alike, and what is left to do. Assumes nothing.
 use mathlib.Core.Path.{_≡_, refl, sym, ap, ap₂, _∙_}
-use mathlib.Core.Bool.{true, false}
-use mathlib.Core.Logic.{⊎-elim}
-use mathlib.Core.List.{List, [], _∷_, _++_}
-use Prim.Native.Nat.{ℕ, _+_, _≤_, _<_}
+use mathlib.Core.Bool.{true}
+use mathlib.Core.Logic.{inl, inr}
+use mathlib.Core.List.{List, [], _∷_}
+use Prim.Native.Nat.{ℕ, zero, suc, _+_, _-_, _*_, _≤_, _<_}
 use native.Mathlib.Omega.{arith}
-use borrow.Author.Tests.{lt-ltb, eq-eqb}
+use borrow.Author.Tests.{eq-eqb}
 use lib.Dec.{eqb}
 use lib.ListN.{length, getD, set}
 use lib.Seq.{getD-set-other}
-use Rattle.record.specs.Below.{count, select}
-use Rattle.record.specs.Members.{leader, has, add, idRound, idMember, isRound, idLimit, rounds, votedRounds}
-use Rattle.record.proofs.Booleans.{which, and-cong, or-left, or-right}
+use Rattle.record.specs.Below.{count}
+use Rattle.record.specs.Members.{mostLeaders, has, add, idRound, idMember, isRound, idLimit, rounds, votedRounds}
+use Rattle.record.proofs.Booleans.{and-cong, or-left, or-right}
 use Rattle.record.proofs.Below.{count-cong}
 use Rattle.record.proofs.Rounds.{round-range}
 use Rattle.protocol.specs.Dag.{Records, held}
-use Rattle.protocol.specs.Chain.{chain, leaderId}
 use Rattle.protocol.specs.Journal.{among}
-use Rattle.protocol.proofs.Lists.{among-select}
-use Rattle.protocol.proofs.Chain.{chain-held}
-use Rattle.protocol.proofs.Laws.{chain-bounds, chain-length}
-use Rattle.replica.specs.Layout.{orderedAt, stateSize, leadersAt, journalAt, cellsAt, leadersSize, leaderCountAt, journalCountAt, committedRoundAt}
-use Rattle.replica.specs.State.{memberCount, committedRound, leaderCount, journalCount, orderedMask, vertices, orderedId, addMember}
-use Rattle.commits.specs.Commit.{appendLeader, appendLeaders, enter, enterAll, orderLeader, orderLeaders, commit}
-use Rattle.commits.specs.Standing.{Standing, Room, LeaderRoom, LeadersReady}
-use Rattle.commits.proofs.Steps.{select-zero, select-in, select-out, length-select, append-count}
-use Rattle.commits.proofs.Frame.{Alike, alike-self, alike-then, alike-set, loose-head, loose-list, vertices-same, standing-kept}
+use Rattle.protocol.specs.Chain.{leaderId}
+use Rattle.protocol.proofs.Laws.{chain-length}
+use Rattle.replica.specs.Layout.{orderedAt, stateSize, leadersAt, journalAt, leadersSize, leaderCountAt, journalCountAt, committedRoundAt, leadersEnd}
+use Rattle.replica.specs.State.{memberCount, committedRound, leaderCount, journalCount, leaderWord, orderedMask, vertices, orderedId, addMember}
+use Rattle.replica.specs.State.{width, lastPlace}
+use Rattle.replica.proofs.Width.{width-some, width-most}
+use Rattle.commits.specs.Commit.{appendLeader, appendLeaders, enter, enterAll, orderLeader, orderLeaders, taken, commit}
+use Rattle.commits.specs.Taken.{gather, TakenRuns}
+use Rattle.commits.specs.Standing.{Standing, Room, LeaderRoom, LeaderReady, RunsReady, entries, orderFrom, LeadersReady}
+use Rattle.commits.specs.Standing.{Going, Ready, Next, Further}
+use Rattle.commits.proofs.Readying.{ready-before, taken-held, further-one}
+use Rattle.commits.proofs.Steps.{append-count}
+use Rattle.commits.proofs.Frame.{Alike, alike-self, alike-then, alike-set, loose-head, loose-leader, vertices-same, standing-kept}
 use Rattle.commits.proofs.Entering.{leader-alike, leader-room}
+use Rattle.commits.proofs.Growing.{order-one}
+use Rattle.commits.proofs.Ground.{width-fits}
+use Rattle.commits.proofs.Appending.{entries-none, entries-more, entries-cong, entries-among, entries-new}
 
 -- ---- the histories of the leaders taken, one after the other
 
-pub order-none : (v : Records) (l : List ℕ) → l ≡ orderLeaders v l []
+pub order-none : (v : Records) (l : List ℕ) → orderLeaders v l [] ≡ l
 unfolding orderLeaders
 order-none v l = refl
 
-pub order-more : (v : Records) (l rs : List ℕ) (r : ℕ) → orderLeader v (orderLeaders v l rs) r ≡ orderLeaders v l (rs ++ r ∷ [])
+pub order-first : (v : Records) (l xs : List ℕ) (x : ℕ) → orderLeaders v l (x ∷ xs) ≡ orderLeaders v (orderLeader v l x) xs
 unfolding orderLeaders
-order-more v l [] r = refl
-order-more v l (x ∷ rs) r = order-more v (orderLeader v l x) rs r
+order-first v l xs x = refl
 
--- the histories of the leaders of the rounds below r that are taken have been ordered
-pub record Ordering (n : ℕ) (l₀ : List ℕ) (mask r : ℕ) (l : List ℕ) : Type 0 where
+-- what ordering one history leaves of the leader list
+leader-words : (l : List ℕ) → Standing l → Room l → (x : ℕ) → held (vertices l) (idRound x) (idMember x) ≡ true → (j : ℕ) → j < leadersSize
+    → leaderWord (orderLeader (vertices l) l x) j ≡ leaderWord l j
+leader-words l S R x h j k =
+    order-one (memberCount l) (vertices l) (S .members) (S .valid) l x refl (S .size) R h .kept .same (leadersAt + j)
+    (λ e. omega arith, λ a b. omega arith, λ r a b e. omega arith)
+
+-- the histories of the leaders before entry i of the list have been ordered, those from entry first on
+pub record Ordering (n : ℕ) (l₀ : List ℕ) (first i : ℕ) (l : List ℕ) : Type 0 where
   pub alike : Alike l₀ l
-  pub led : LeadersReady n mask l
-  pub is : l ≡ orderLeaders (vertices l₀) l₀ (select r (has mask))
+  pub standing : Standing l
+  pub room : Room l
+  pub members : n ≡ memberCount l
+  pub low : first ≤ i
+  pub words : (j : ℕ) → j < leadersSize → leaderWord l j ≡ leaderWord l₀ j
+  pub is : orderLeaders (vertices l₀) l₀ (entries l₀ first (leaderCount l₀ - first)) ≡ orderLeaders (vertices l₀) l (entries l₀ i (leaderCount l₀ - i))
 
-module _ (n : ℕ) (l₀ : List ℕ) (mask : ℕ) where
-  pub ordering-start : LeadersReady n mask l₀ → has mask 0 ≡ false → Ordering n l₀ mask 1 l₀
-  ordering-start L z = record {
+module _ (n : ℕ) (l₀ : List ℕ) (first : ℕ) (L : LeadersReady l₀ n first) where
+  pub ordering-start : Ordering n l₀ first first l₀
+  ordering-start = record {
     alike = alike-self l₀;
-    led = L;
-    is = order-none (vertices l₀) l₀ ∙ ap (orderLeaders (vertices l₀) l₀) (sym (select-out 0 (has mask) z ∙ select-zero (has mask)));
+    standing = L .standing;
+    room = L .room;
+    members = L .members;
+    low = omega arith;
+    words = λ j k. refl;
+    is = refl;
   }
 
-  pub ordering-in : (r : ℕ) (l m : List ℕ) → Ordering n l₀ mask r l → r < rounds → has mask r ≡ true → m ≡ orderLeader (vertices l) l r
-      → Ordering n l₀ mask (r + 1) m
-  ordering-in r l m o b h d =
-      let L = o .led in
-      let k : held (vertices l) r (leader (memberCount l) r) ≡ true = rw (L .members) at (L .there r b h) in
-      let A = leader-alike l (L .standing) (L .room) r k in
-      rw d (record {
-        alike = alike-then (o .alike) A;
-        led = record {
-          standing = standing-kept A (L .standing);
-          room = leader-room l (L .standing) (L .room) r k;
-          members = L .members ∙ sym (A .members);
-          there = λ q a t. rw (vertices-same A) (L .there q a t);
-        };
-        is = ap₂ (λ (v : Records) (x : List ℕ). orderLeader v x r) (vertices-same (o .alike)) (o .is) ∙ order-more (vertices l₀) l₀ (select r (has mask)) r
-            ∙ ap (orderLeaders (vertices l₀) l₀) (sym (select-in r (has mask) h));
+  -- the next entry's history may be ordered
+  pub ordering-ready : (i count : ℕ) (l : List ℕ) → Ordering n l₀ first i l → count ≡ leaderCount l₀ → i < count → LeaderReady l n (leaderWord l i)
+  ordering-ready i count l o e h =
+      let same = o .words i (omega (arith, L .few)) in
+      rw same (record {
+        standing = o .standing;
+        room = o .room;
+        members = o .members;
+        low = L .low i (o .low) (omega arith);
+        high = L .high i (o .low) (omega arith);
+        there = rw (vertices-same (o .alike)) (L .there i (o .low) (omega arith));
       })
 
-  pub ordering-out : (r : ℕ) (l m : List ℕ) → Ordering n l₀ mask r l → has mask r ≡ false → m ≡ l → Ordering n l₀ mask (r + 1) m
-  ordering-out r l m o h d =
-      rw d (record { alike = o .alike; led = o .led; is = o .is ∙ ap (orderLeaders (vertices l₀) l₀) (sym (select-out r (has mask) h)) })
+  pub ordering-next : (i count : ℕ) (l m : List ℕ) → Ordering n l₀ first i l → count ≡ leaderCount l₀ → i < count
+      → m ≡ orderLeader (vertices l) l (leaderWord l i)
+      → Ordering n l₀ first (i + 1) m
+  ordering-next i count l m o e h d =
+      let R = ordering-ready i count l o e h in
+      let x = leaderWord l i in
+      let A = leader-alike l (o .standing) (o .room) x (R .there) in
+      let k : leaderCount l₀ - i ≡ suc (leaderCount l₀ - (i + 1)) = omega arith in
+      rw d (record {
+        alike = alike-then (o .alike) A;
+        standing = standing-kept A (o .standing);
+        room = leader-room l (o .standing) (o .room) x (R .there);
+        members = o .members ∙ sym (A .members);
+        low = omega (arith, o .low);
+        words = λ j b. leader-words l (o .standing) (o .room) x (R .there) j b ∙ o .words j b;
+        is = o .is ∙ ap (λ (z : ℕ). orderLeaders (vertices l₀) l (entries l₀ i z)) k
+            ∙ ap (orderLeaders (vertices l₀) l) (entries-more l₀ i (leaderCount l₀ - (i + 1)))
+            ∙ order-first (vertices l₀) l (entries l₀ (i + 1) (leaderCount l₀ - (i + 1))) (leaderWord l₀ i)
+            ∙ ap₂ (λ (v : Records) (y : ℕ). orderLeaders (vertices l₀) (orderLeader v l y) (entries l₀ (i + 1) (leaderCount l₀ - (i + 1))))
+            (sym (vertices-same (o .alike))) (sym (o .words i (omega (arith, L .few))));
+      })
 
--- so for any list of rounds whose leaders' vertices are held
+  pub ordering-end : (i count : ℕ) (l : List ℕ) → Ordering n l₀ first i l → count ≡ leaderCount l₀ → count ≤ i
+      → l ≡ orderLeaders (vertices l₀) l₀ (entries l₀ first (leaderCount l₀ - first))
+  ordering-end i count l o e h =
+      sym (o .is ∙ ap (orderLeaders (vertices l₀) l) (entries-none l₀ i (leaderCount l₀ - i) (omega arith)) ∙ order-none (vertices l₀) l)
+
+-- so for any list of ids of held vertices
 pub ordered-kept : (rs l : List ℕ) (v : Records) → v ≡ vertices l → Standing l → Room l
-    → ((r : ℕ) → among rs r ≡ true → held (vertices l) r (leader (memberCount l) r) ≡ true) → Alike l (orderLeaders v l rs) × Room (orderLeaders v l rs)
+    → ((x : ℕ) → among rs x ≡ true → held (vertices l) (idRound x) (idMember x) ≡ true)
+    → Alike l (orderLeaders v l rs) × Room (orderLeaders v l rs) × ((j : ℕ) → j < leadersSize → leaderWord (orderLeaders v l rs) j ≡ leaderWord l j)
 unfolding orderLeaders among
-ordered-kept [] l v e S R h = (alike-self l, R)
+ordered-kept [] l v e S R h = (alike-self l, R, λ j k. refl)
 ordered-kept (r ∷ rs) l v e S R h =
-    let k : held (vertices l) r (leader (memberCount l) r) ≡ true = h r (or-left _ (eq-eqb r r refl)) in
+    let k : held (vertices l) (idRound r) (idMember r) ≡ true = h r (or-left _ (eq-eqb r r refl)) in
     let A : Alike l (orderLeader v l r) = rw e (leader-alike l S R r k) in
     let B : Room (orderLeader v l r) = rw e (leader-room l S R r k) in
+    let C : (j : ℕ) → j < leadersSize → leaderWord (orderLeader v l r) j ≡ leaderWord l j = rw e (leader-words l S R r k) in
     let w = ordered-kept rs (orderLeader v l r) v (e ∙ sym (vertices-same A)) (standing-kept A S) B
-    (λ x m. rw (vertices-same A, A .members) (h x (or-right (eqb r x) m)))
+    (λ x m. rw (vertices-same A) (h x (or-right (eqb r x) m)))
     in
-    (alike-then A (w .0), w .1)
+    (alike-then A (w .0), w .1, λ j b. w .2 j b ∙ C j b)
 
 -- ---- words 0 to 3, which the journal's growth leaves
 
@@ -128,9 +168,9 @@ quiet-head l j x a b = record {
   journal = getD-set-other l j journalCountAt x 0 (λ e. omega arith);
 }
 
-quiet-list : (l : List ℕ) (j x : ℕ) → leadersAt ≤ j → j < cellsAt → Quiet l (set l j x)
+quiet-list : (l : List ℕ) (j x : ℕ) → leadersAt ≤ j → j < leadersEnd → Quiet l (set l j x)
 quiet-list l j x a b = record {
-  alike = alike-set l j x (loose-list j a b);
+  alike = alike-set l j x (loose-leader j a b);
   ordered = λ r c d. getD-set-other l j (orderedAt r) x 0 (λ e. omega arith);
   journal = getD-set-other l j journalCountAt x 0 (λ e. omega arith);
 }
@@ -138,8 +178,8 @@ quiet-list l j x a b = record {
 pub quiet-leader : (l : List ℕ) (r : ℕ) → leaderCount l < leadersSize → Quiet l (appendLeader l r)
 unfolding appendLeader
 quiet-leader l r h =
-    quiet-then (quiet-list l (leadersAt + leaderCount l) (leaderId (memberCount l) r) (omega arith) (omega arith))
-    (quiet-head (set l (leadersAt + leaderCount l) (leaderId (memberCount l) r)) leaderCountAt (leaderCount l + 1) (omega arith) (omega arith))
+    quiet-then (quiet-list l (leadersAt + leaderCount l) r (omega arith) (omega arith))
+    (quiet-head (set l (leadersAt + leaderCount l) r) leaderCountAt (leaderCount l + 1) (omega arith) (omega arith))
 
 pub quiet-leaders : (rs l : List ℕ) → length l ≡ stateSize → leaderCount l + length rs ≤ leadersSize → Quiet l (appendLeaders l rs)
     × (leaderCount (appendLeaders l rs) ≡ leaderCount l + length rs)
@@ -164,64 +204,141 @@ quiet-room {l} {m} q R = omega (
 
 -- ---- one commit
 
--- what each later step may use of the rounds taken
-pub record Taken (l : List ℕ) (n q mask : ℕ) : Type 0 where
-  pub none : has mask 0 ≡ false
-  pub fits : LeaderRoom l (count rounds (has mask))
-  pub led : (m : List ℕ) → m ≡ appendLeaders l (select rounds (has mask)) → LeadersReady n mask (set m committedRoundAt q)
-  pub done : (m o : List ℕ) → m ≡ appendLeaders l (select rounds (has mask))
-      → o ≡ orderLeaders (vertices (set m committedRoundAt q)) (set m committedRoundAt q) (select rounds (has mask))
-      → o ≡ commit l q
+module _ (l : List ℕ) (G : Going l) (q seat : ℕ) (r : Ready l q seat) where
+  -- those taken are held, and not of round 0
+  pub going-held : (y : ℕ) → among (taken l q seat) y ≡ true → (held (vertices l) (idRound y) (idMember y) ≡ true) × (1 ≤ idRound y) × (idRound y ≤ votedRounds)
+  going-held = taken-held l (G .standing .members) (G .standing .valid) q seat r
 
-module _ (n : ℕ) (l : List ℕ) (S : Standing l) (R : Room l) (e : n ≡ memberCount l) (few : leaderCount l ≤ committedRound l) (q : ℕ)
-    (low : committedRound l < q) (high : q ≤ votedRounds)
-    (there : held (vertices l) q (leader n q) ≡ true) (mask : ℕ) (is : select rounds (has mask) ≡ chain n (vertices l) (committedRound l) q) where
-  -- a round that is taken is in the chain
-  in-chain : (r : ℕ) → r < rounds → has mask r ≡ true → among (chain n (vertices l) (committedRound l) q) r ≡ true
-  in-chain r h t = ap (λ (x : List ℕ). among x r) (sym is) ∙ among-select rounds (has mask) r ∙ rw (lt-ltb r rounds h, t)
+  -- they find room
+  pub taken-fit : leaderCount l + length (taken l q seat) ≤ width l * q + (seat + 1)
+  taken-fit = omega (
+    arith,
+    G .few,
+    chain-length (memberCount l) (width l) (vertices l) (committedRound l) (lastPlace l) q (seat + 1) (G .place)
+        (ready-before l (G .standing .members) (G .standing .valid) q seat r),
+  )
 
-  taken-none : has mask 0 ≡ false
-  taken-none = ⊎-elim (λ t. absurd (omega (arith, chain-bounds n (vertices l) (committedRound l) q 0 (in-chain 0 (omega arith) t) .0))) (λ t. t)
-      (which (has mask 0))
+  pub taken-room : leaderCount l + length (taken l q seat) ≤ leadersSize
+  taken-room = omega (arith, taken-fit, width-fits l q (r .high), r .index)
 
-  taken-held : (r : ℕ) → r < rounds → has mask r ≡ true → held (vertices l) r (leader n r) ≡ true
-  taken-held r h t = chain-held n (vertices l) (committedRound l) q r there (in-chain r h t)
+  -- the state with the leaders appended and the committed round set
+  abbrev pub second : List ℕ
+  second = set (appendLeaders l (taken l q seat)) committedRoundAt q
 
-  quiet-led : Quiet l (set (appendLeaders l (select rounds (has mask))) committedRoundAt q) × (leaderCount (appendLeaders l (select rounds (has mask))) ≤ q)
+  pub quiet-led : Quiet l second × (leaderCount (appendLeaders l (taken l q seat)) ≡ leaderCount l + length (taken l q seat))
   quiet-led =
-      let size = chain-length n (vertices l) (committedRound l) q (omega arith) in
-      let same : length (select rounds (has mask)) ≡ length (chain n (vertices l) (committedRound l) q) = ap length is in
-      let w = quiet-leaders (select rounds (has mask)) l (S .size) (omega arith) in
-      (quiet-then (w .0) (quiet-head (appendLeaders l (select rounds (has mask))) committedRoundAt q (omega arith) (omega arith)), omega (arith, w .1))
+      let w = quiet-leaders (taken l q seat) l (G .standing .size) taken-room in
+      (quiet-then (w .0) (quiet-head (appendLeaders l (taken l q seat)) committedRoundAt q (omega arith) (omega arith)), w .1)
 
-  committed-is : (m : List ℕ)
-      → m ≡ orderLeaders (vertices (set (appendLeaders l (select rounds (has mask))) committedRoundAt q))
-      (set (appendLeaders l (select rounds (has mask))) committedRoundAt q)
-      (select rounds (has mask)) → m ≡ commit l q
+  -- the entries of the list then
+  second-count : leaderCount second ≡ leaderCount l + length (taken l q seat)
+  second-count = getD-set-other (appendLeaders l (taken l q seat)) committedRoundAt leaderCountAt q 0 (λ e. omega arith) ∙ quiet-led .1
+
+  second-new : entries second (leaderCount l) (length (taken l q seat)) ≡ taken l q seat
+  second-new =
+      entries-cong (appendLeaders l (taken l q seat)) second (leaderCount l) (length (taken l q seat))
+      (λ j. getD-set-other (appendLeaders l (taken l q seat)) committedRoundAt (leadersAt + j) q 0 (λ e. omega arith))
+      ∙ entries-new (taken l q seat) l (G .standing .size) taken-room
+
+  second-taken : (j : ℕ) → leaderCount l ≤ j → j < leaderCount second → among (taken l q seat) (leaderWord second j) ≡ true
+  second-taken j a b =
+      let e = entries-among second (leaderCount l) (length (taken l q seat)) j a (omega (arith, second-count)) in
+      rw second-new at e
+
+  pub led-ready : LeadersReady second (memberCount l) (leaderCount l)
+  led-ready =
+      let Q = quiet-led .0 in
+      record {
+        standing = standing-kept (Q .alike) (G .standing);
+        room = quiet-room Q (G .room);
+        members = sym (Q .alike .members);
+        few = omega (arith, second-count, taken-room);
+        low = λ j a b. going-held _ (second-taken j a b) .1;
+        high = λ j a b. going-held _ (second-taken j a b) .2;
+        there = λ j a b. rw (vertices-same (Q .alike)) (going-held _ (second-taken j a b) .0);
+      }
+
+  pub committed-is : (o : List ℕ) → o ≡ orderFrom second (leaderCount l) → o ≡ commit l q seat
   unfolding commit
-  committed-is m d =
-      d ∙ ap (λ (v : Records). orderLeaders v (set (appendLeaders l (select rounds (has mask))) committedRoundAt q) (select rounds (has mask)))
-      (vertices-same (quiet-led .0 .alike))
-      ∙ ap (λ (rs : List ℕ). orderLeaders (vertices l) (set (appendLeaders l rs) committedRoundAt q) rs) (is
-      ∙ ap (λ (x : ℕ). chain x (vertices l) (committedRound l) q) e)
+  committed-is o d =
+      let k : leaderCount second - leaderCount l ≡ length (taken l q seat) = omega (arith, second-count) in
+      d ∙ ap₂ (λ (v : Records) (z : ℕ). orderLeaders v second (entries second (leaderCount l) z)) (vertices-same (quiet-led .0 .alike)) k
+      ∙ ap (orderLeaders (vertices l) second) second-new
 
-  pub taken : Taken l n q mask
-  taken = record {
-    none = taken-none;
-    fits = record {
-      size = S .size;
-      room = omega (
-        arith,
-        length-select rounds (has mask),
-        ap length is,
-        chain-length n (vertices l) (committedRound l) q (omega arith),
-      );
-    };
-    led = λ m d. rw d (let Q = quiet-led .0 in record {
-      standing = standing-kept (Q .alike) S;
-      room = quiet-room Q R;
-      members = e ∙ sym (Q .alike .members);
-      there = λ r h t. rw (vertices-same (Q .alike)) (taken-held r h t);
-    });
-    done = λ m o d f. committed-is o (rw d at f);
-  }
+-- what each later step may use of the leaders taken, of how many of each round
+pub record Taken (l : List ℕ) (n q c a : ℕ) (runs : List ℕ) : Type 0 where
+  pub fits : RunsReady l n c a runs
+  pub led : (m : List ℕ) (k : ℕ) → m ≡ appendLeaders l (gather n c a runs rounds) → k ≡ leaderCount l → LeadersReady (set m committedRoundAt q) n k
+  pub done : (m o : List ℕ) (k : ℕ) → m ≡ appendLeaders l (gather n c a runs rounds) → k ≡ leaderCount l
+      → o ≡ orderFrom (set m committedRoundAt q) k
+      → o ≡ commit l q 0
+
+pub taken-known : (l : List ℕ) (n m c a q : ℕ) (runs : List ℕ) → Next l n q → m ≡ width l → c ≡ committedRound l → a ≡ lastPlace l
+    → TakenRuns n m (vertices l) c q runs
+    → Taken l n q c a runs
+taken-known l n m c a q runs N em ec ea T =
+    let en = N .members in
+    let r : Ready l q 0 = record { step = inl (refl, N .low); high = N .high; index = width-some l; there = rw (← en) (N .there) } in
+    let G = N .going in
+    let is : gather n c a runs rounds ≡ taken l q 0 = T .is a ∙ rw (en, em, ec, ea) in
+    record {
+      fits = record {
+        room = record { size = G .standing .size; room = rw is (taken-room l G q 0 r) };
+        members = en;
+        some = omega (arith, G .standing .low);
+        none = T .none;
+        few = λ t. omega (arith, T .few t, width-most l);
+      };
+      led = λ x k d e. rw (d, e, is, en) (led-ready l G q 0 r);
+      done = λ x o k d e f. committed-is l G q 0 r o (rw (d, e, is) at f);
+    }
+
+-- and of the next leader of the committed round
+pub record Grown (l : List ℕ) (n q i : ℕ) : Type 0 where
+  pub room : LeaderRoom l 1
+  pub low : 1 ≤ q
+  pub high : q ≤ votedRounds
+  pub few : i < mostLeaders
+  pub led : (m : List ℕ) (k : ℕ) → m ≡ appendLeader l (leaderId n q i) → k ≡ leaderCount l → LeadersReady m n k
+  pub done : (m o : List ℕ) (k : ℕ) → m ≡ appendLeader l (leaderId n q i) → k ≡ leaderCount l → o ≡ orderFrom m k
+      → o ≡ commit l q i
+
+append-only : (l : List ℕ) (x : ℕ) → appendLeader l x ≡ appendLeaders l (x ∷ [])
+unfolding appendLeaders
+append-only l x = refl
+
+-- a word set to what it holds
+set-self : (l : List ℕ) (i d : ℕ) → set l i (getD l i d) ≡ l
+set-self [] i d = refl
+set-self (x ∷ l) zero d = refl
+set-self (x ∷ l) (suc i) d = ap (λ (k : List ℕ). x ∷ k) (set-self l i d)
+
+-- the committed round stays with a leader more
+append-round : (l : List ℕ) (x q : ℕ) → q ≡ committedRound l → set (appendLeader l x) committedRoundAt q ≡ appendLeader l x
+unfolding appendLeader
+append-round l x q e =
+    ap (set (appendLeader l x) committedRoundAt)
+    (e ∙ sym (getD-set-other (set l (leadersAt + leaderCount l) x) leaderCountAt committedRoundAt (leaderCount l + 1) 0 (λ d. omega arith)
+    ∙ getD-set-other l (leadersAt + leaderCount l) committedRoundAt x 0 (λ d. omega arith)))
+    ∙ set-self (appendLeader l x) committedRoundAt 0
+
+pub grown-known : (l : List ℕ) (n q i : ℕ) → Further l n q i → Grown l n q i
+grown-known l n q i F =
+    let A = F .at in
+    let en = A .members in
+    let G = A .going in
+    let high : q ≤ votedRounds = omega (arith, A .round, G .high) in
+    let r : Ready l q i = record { step = inr (A .round, A .place, F .some); high = high; index = F .index; there = rw (← en) (F .there) } in
+    let one = further-one l q i (A .round) (A .place) in
+    let is : appendLeader l (leaderId n q i) ≡ set (appendLeaders l (taken l q i)) committedRoundAt q =
+    sym (append-round l (leaderId n q i) q (A .round))
+    ∙ ap (λ (m : List ℕ). set m committedRoundAt q)
+    (append-only l (leaderId n q i) ∙ ap (appendLeaders l) (ap (λ (z : ℕ). leaderId z q i ∷ []) en ∙ sym one)) in
+    record {
+      room = record { size = G .standing .size; room = omega (arith, taken-room l G q i r, ap length one) };
+      low = F .some;
+      high = high;
+      few = omega (arith, F .index, width-most l);
+      led = λ m k d e. rw (d, e, is, en) (led-ready l G q i r);
+      done = λ m o k d e f. committed-is l G q i r o (rw (d, e, is) at f);
+    }

@@ -9,7 +9,7 @@ use native.Mathlib.Omega.{arith}
 use lib.ListN.{length, getD}
 use borrow.Author.Tests.{not-true, ne-eqb}
 use Rattle.record.specs.Below.{select}
-use Rattle.record.specs.Members.{leader, has, idOf, idRound, idMember, rounds, slots, votedRounds, idLimit}
+use Rattle.record.specs.Members.{has, idOf, idRound, idMember, rounds, slots, votedRounds, idLimit}
 use Rattle.record.proofs.Booleans.{which, and-both, and-left, and-right, and-fails-left, and-fails-right}
 use Rattle.protocol.specs.Dag.{held}
 use Rattle.protocol.specs.Paths.{history}
@@ -20,8 +20,7 @@ use Rattle.replica.specs.Layout.{stateSize}
 use Rattle.replica.specs.State.{memberCount, vertices, orderedId}
 use Rattle.commits.specs.Commit.{enter, enterAll, orderLeader}
 use Rattle.commits.specs.Standing.{Standing, Room, orderId, orderRound}
-use Rattle.commits.proofs.Walking.{select-none}
-use Rattle.commits.proofs.Steps.{select-zero, select-in, select-out, enter-none, enter-more, order-out, order-old, order-new}
+use Rattle.commits.proofs.Steps.{select-none, select-zero, select-in, select-out, enter-none, enter-more, order-out, order-old, order-new}
 use Rattle.commits.proofs.Frame.{Alike, alike-self, alike-then, alike-enter}
 use Rattle.commits.proofs.Growing.{enter-ordered, enter-fits, enter-room}
 use Rattle.record.proofs.Rounds.{id-same, id-member}
@@ -51,26 +50,26 @@ round-keeps l mask r (suc k) low high few h =
 pub round-kept : (l m : List ℕ) (mask r k : ℕ) → 1 ≤ r → r ≤ rounds → k ≤ slots → length l ≡ stateSize → Room l → m ≡ orderRound l mask r k → Roomy m
 round-kept l m mask r k low high few size room e = rw e (round-keeps l mask r k low high few (size, room))
 
--- an id of the history of round r's leader that was not ordered at first
+-- an id of the history of the leader x that was not ordered at first
 pub wantedIn : ℕ → List ℕ → ℕ → ℕ → Bool
-wantedIn n l r y = not (orderedId l y) && history n (vertices l) r (leader n r) y
+wantedIn n l x y = not (orderedId l y) && history n (vertices l) (idRound x) (idMember x) y
 
 -- the state after the wanted ids below y
 pub soFarIn : ℕ → List ℕ → ℕ → ℕ → List ℕ
-soFarIn n l r y = enterAll l (select y (wantedIn n l r))
+soFarIn n l x y = enterAll l (select y (wantedIn n l x))
 
-module _ (n : ℕ) (l : List ℕ) (S : Standing l) (R : Room l) (e : n ≡ memberCount l) (r : ℕ) (there : held (vertices l) r (leader n r) ≡ true) where
+module _ (n : ℕ) (l : List ℕ) (S : Standing l) (R : Room l) (e : n ≡ memberCount l) (x : ℕ) (there : held (vertices l) (idRound x) (idMember x) ≡ true) where
   abbrev wanted : ℕ → Bool
-  wanted = wantedIn n l r
+  wanted = wantedIn n l x
 
   abbrev soFar : ℕ → List ℕ
-  soFar = soFarIn n l r
+  soFar = soFarIn n l x
 
   -- a wanted id is that of a vertex of rounds 1 to 32, and of none above the leader's
-  wanted-range : (y : ℕ) → wanted y ≡ true → (slots ≤ y) × (y < idLimit) × (y < slots * (r + 1))
+  wanted-range : (y : ℕ) → wanted y ≡ true → (slots ≤ y) × (y < idLimit) × (y < slots * (idRound x + 1))
   unfolding wantedIn
   wanted-range y h =
-      let d = history-held n (vertices l) (rw e (S .members)) (rw e (S .valid)) r (leader n r) y there (and-right (not (orderedId l y)) _ h) in
+      let d = history-held n (vertices l) (rw e (S .members)) (rw e (S .valid)) (idRound x) (idMember x) y there (and-right (not (orderedId l y)) _ h) in
       (omega (arith, d .low), d .limit, omega (arith, d .high))
 
   record Entering (y : ℕ) : Type 0 where
@@ -130,15 +129,15 @@ module _ (n : ℕ) (l : List ℕ) (S : Standing l) (R : Room l) (e : n ≡ membe
       ∙ ap (enterAll l) (sym (select-none slots wanted (λ y k. ⊎-elim (λ h. absurd (omega (arith, wanted-range y h .0))) (λ h. h) (which (wanted y)))))
 
   -- one id, by the mask of its round
-  step : (y mask : ℕ) → has mask (idMember y) ≡ history n (vertices l) r (leader n r) y → orderId (soFar y) mask y ≡ soFar (y + 1)
+  step : (y mask : ℕ) → has mask (idMember y) ≡ history n (vertices l) (idRound x) (idMember x) y → orderId (soFar y) mask y ≡ soFar (y + 1)
   unfolding wantedIn
-  step y mask h = go (which (orderedId l y)) (which (history n (vertices l) r (leader n r) y))
+  step y mask h = go (which (orderedId l y)) (which (history n (vertices l) (idRound x) (idMember x) y))
     where
       same : orderedId (soFar y) y ≡ orderedId l y
       same = entering y .later y (omega arith)
 
       go : (orderedId l y ≡ true) ⊎ (orderedId l y ≡ false)
-          → (history n (vertices l) r (leader n r) y ≡ true) ⊎ (history n (vertices l) r (leader n r) y ≡ false)
+          → (history n (vertices l) (idRound x) (idMember x) y ≡ true) ⊎ (history n (vertices l) (idRound x) (idMember x) y ≡ false)
           → orderId (soFar y) mask y ≡ soFar (y + 1)
       go (inl a) b = sym (order-old (soFar y) mask y (same ∙ a)) ∙ so-far-out y (and-fails-left _ (ap not a))
       go (inr a) (inl b) = sym (order-new (soFar y) mask y (h ∙ b) (same ∙ a)) ∙ so-far-in y (and-both (ap not a) b)
@@ -151,20 +150,20 @@ module _ (n : ℕ) (l : List ℕ) (S : Standing l) (R : Room l) (e : n ≡ membe
   so-far-room y = entering y .room
 
   -- after the last id the history has been ordered
-  finish : soFar idLimit ≡ orderLeader (vertices l) l r
+  finish : soFar idLimit ≡ orderLeader (vertices l) l x
   unfolding soFarIn wantedIn orderLeader
-  finish = ap (λ (m : ℕ). enterAll l (select idLimit (λ y. not (orderedId l y) && history m (vertices l) r (leader m r) y))) e
+  finish = ap (λ (m : ℕ). enterAll l (select idLimit (λ y. not (orderedId l y) && history m (vertices l) (idRound x) (idMember x) y))) e
 
   -- the mask of an id's round, in the history's masks
-  mask-of : (y : ℕ) → slots ≤ y → y < idLimit → has (getD (historyMasks n (vertices l) r (leader n r)) (idRound y - 1) 0) (idMember y)
-      ≡ history n (vertices l) r (leader n r) y
+  mask-of : (y : ℕ) → slots ≤ y → y < idLimit → has (getD (historyMasks n (vertices l) (idRound x) (idMember x)) (idRound y - 1) 0) (idMember y)
+      ≡ history n (vertices l) (idRound x) (idMember x) y
   mask-of y low high =
-      history-claim n (vertices l) (rw e (S .members)) (rw e (S .valid)) r (leader n r) there (idRound y) (idMember y) (omega arith) (omega arith)
+      history-claim n (vertices l) (rw e (S .members)) (rw e (S .valid)) (idRound x) (idMember x) there (idRound y) (idMember y) (omega arith) (omega arith)
       (omega arith)
-      ∙ ap (history n (vertices l) r (leader n r)) (id-same y)
+      ∙ ap (history n (vertices l) (idRound x) (idMember x)) (id-same y)
 
   -- the ids of a round below its member k, by the round's mask
-  members-step : (s mask k : ℕ) → k ≤ slots → ((p : ℕ) → p < slots → has mask p ≡ history n (vertices l) r (leader n r) (idOf s p))
+  members-step : (s mask k : ℕ) → k ≤ slots → ((p : ℕ) → p < slots → has mask p ≡ history n (vertices l) (idRound x) (idMember x) (idOf s p))
       → orderRound (soFar (slots * s)) mask s k ≡ soFar (idOf s k)
   unfolding orderRound
   members-step s mask zero few h = ap soFar (omega arith)
@@ -174,46 +173,49 @@ module _ (n : ℕ) (l : List ℕ) (S : Standing l) (R : Room l) (e : n ≡ membe
       ∙ ap soFar (omega arith)
 
   -- one round, by its mask in the history's masks
-  round-step : (s : ℕ) (x : List ℕ) (mask : ℕ) → s < rounds → x ≡ soFar (slots * (s + 1)) → mask ≡ getD (historyMasks n (vertices l) r (leader n r)) s 0
-      → orderRound x mask (s + 1) slots ≡ soFar (slots * (s + 1 + 1))
-  round-step s x mask high e d = rw e (members-step (s + 1) mask slots (omega arith) named ∙ ap soFar (omega arith))
+  round-step : (s : ℕ) (o : List ℕ) (mask : ℕ) → s < rounds → o ≡ soFar (slots * (s + 1))
+      → mask ≡ getD (historyMasks n (vertices l) (idRound x) (idMember x)) s 0
+      → orderRound o mask (s + 1) slots ≡ soFar (slots * (s + 1 + 1))
+  round-step s o mask high e d = rw e (members-step (s + 1) mask slots (omega arith) named ∙ ap soFar (omega arith))
     where
-      named : (p : ℕ) → p < slots → has mask p ≡ history n (vertices l) r (leader n r) (idOf (s + 1) p)
+      named : (p : ℕ) → p < slots → has mask p ≡ history n (vertices l) (idRound x) (idMember x) (idOf (s + 1) p)
       named p few =
           let a : idRound (idOf (s + 1) p) - 1 ≡ s = omega arith in
           rw d (rw (a, id-member (s + 1) p few) at (mask-of (idOf (s + 1) p) (omega arith) (omega arith)))
 
   -- above the leader's round there is nothing
-  nothing-above : (k : ℕ) → soFar (slots * (r + 1)) ≡ soFar (slots * (r + 1) + k)
+  nothing-above : (k : ℕ) → soFar (slots * (idRound x + 1)) ≡ soFar (slots * (idRound x + 1) + k)
   nothing-above zero = ap soFar (omega arith)
   nothing-above (suc k) =
-      let y = slots * (r + 1) + k in
+      let y = slots * (idRound x + 1) + k in
       nothing-above k ∙ so-far-out y (⊎-elim (λ h. absurd (omega (arith, wanted-range y h .2))) (λ h. h) (which (wanted y))) ∙ ap soFar (omega arith)
 
   -- so the leader's round is the last
-  last-round : r ≤ rounds → soFar (slots * (r + 1)) ≡ orderLeader (vertices l) l r
-  last-round high = nothing-above (idLimit - slots * (r + 1)) ∙ ap soFar (omega arith) ∙ finish
+  last-round : idRound x ≤ rounds → soFar (slots * (idRound x + 1)) ≡ orderLeader (vertices l) l x
+  last-round high = nothing-above (idLimit - slots * (idRound x + 1)) ∙ ap soFar (omega arith) ∙ finish
 
--- what each step of the code may use, that orders the history of round r's leader round by round
-pub record Growth (n : ℕ) (l : List ℕ) (r : ℕ) : Type 0 where
-  pub begun : l ≡ soFarIn n l r slots
-  pub kept : (s : ℕ) (m : List ℕ) → m ≡ soFarIn n l r (slots * (s + 1)) → Roomy m
-  pub more : (s k p : ℕ) (m o masks : List ℕ) → s < rounds → m ≡ soFarIn n l r (slots * (s + 1)) → p ≡ leader n r → masks ≡ historyMasks n (vertices l) r p
-      → k ≡ s → o ≡ orderRound m (getD masks k 0) (s + 1) slots → o ≡ soFarIn n l r (slots * (s + 1 + 1))
-  pub done : (m : List ℕ) → m ≡ soFarIn n l r (slots * (r + 1)) → m ≡ orderLeader (vertices l) l r
+-- what each step of the code may use, that orders the history of the leader x round by round
+pub record Growth (n : ℕ) (l : List ℕ) (x : ℕ) : Type 0 where
+  pub begun : l ≡ soFarIn n l x slots
+  pub kept : (s : ℕ) (m : List ℕ) → m ≡ soFarIn n l x (slots * (s + 1)) → Roomy m
+  pub more : (s k p : ℕ) (m o masks : List ℕ) → s < rounds → m ≡ soFarIn n l x (slots * (s + 1)) → p ≡ idMember x
+      → masks ≡ historyMasks n (vertices l) (idRound x) p
+      → k ≡ s → o ≡ orderRound m (getD masks k 0) (s + 1) slots → o ≡ soFarIn n l x (slots * (s + 1 + 1))
+  pub done : (m : List ℕ) → m ≡ soFarIn n l x (slots * (idRound x + 1)) → m ≡ orderLeader (vertices l) l x
 
-pub growth : (n : ℕ) (l : List ℕ) (r : ℕ) → Standing l → Room l → n ≡ memberCount l → r ≤ votedRounds → held (vertices l) r (leader n r) ≡ true → Growth n l r
-growth n l r S R e high there = record {
-  begun = start n l S R e r there;
-  kept = λ s m d. let y = slots * (s + 1) in rw d (so-far-alike n l S R e r there y .size ∙ S .size, so-far-room n l S R e r there y);
+pub growth : (n : ℕ) (l : List ℕ) (x : ℕ) → Standing l → Room l → n ≡ memberCount l → idRound x ≤ votedRounds
+    → held (vertices l) (idRound x) (idMember x) ≡ true → Growth n l x
+growth n l x S R e high there = record {
+  begun = start n l S R e x there;
+  kept = λ s m d. let y = slots * (s + 1) in rw d (so-far-alike n l S R e x there y .size ∙ S .size, so-far-room n l S R e x there y);
   more = λ s k p m o masks h d ep em ek f.
-      f ∙ round-step n l S R e r there s m (getD masks k 0) h d (ap₂ (λ (x : List ℕ) (i : ℕ). getD x i 0) (rw ep at em) ek);
-  done = λ m d. d ∙ last-round n l S R e r there (omega arith);
+      f ∙ round-step n l S R e x there s m (getD masks k 0) h d (ap₂ (λ (x : List ℕ) (i : ℕ). getD x i 0) (rw ep at em) ek);
+  done = λ m d. d ∙ last-round n l S R e x there (omega arith);
 }
 
 -- ordering a leader's history leaves the rest alike, and room for more
-pub leader-alike : (l : List ℕ) → Standing l → Room l → (r : ℕ) → held (vertices l) r (leader (memberCount l) r) ≡ true → Alike l (orderLeader (vertices l) l r)
-leader-alike l S R r h = subst (λ (x : List ℕ). Alike l x) (finish (memberCount l) l S R refl r h) (so-far-alike (memberCount l) l S R refl r h idLimit)
+pub leader-alike : (l : List ℕ) → Standing l → Room l → (x : ℕ) → held (vertices l) (idRound x) (idMember x) ≡ true → Alike l (orderLeader (vertices l) l x)
+leader-alike l S R x h = subst (λ (x : List ℕ). Alike l x) (finish (memberCount l) l S R refl x h) (so-far-alike (memberCount l) l S R refl x h idLimit)
 
-pub leader-room : (l : List ℕ) → Standing l → Room l → (r : ℕ) → held (vertices l) r (leader (memberCount l) r) ≡ true → Room (orderLeader (vertices l) l r)
-leader-room l S R r h = subst Room (finish (memberCount l) l S R refl r h) (so-far-room (memberCount l) l S R refl r h idLimit)
+pub leader-room : (l : List ℕ) → Standing l → Room l → (x : ℕ) → held (vertices l) (idRound x) (idMember x) ≡ true → Room (orderLeader (vertices l) l x)
+leader-room l S R x h = subst Room (finish (memberCount l) l S R refl x h) (so-far-room (memberCount l) l S R refl x h idLimit)

@@ -6,7 +6,7 @@ use native.Mathlib.Omega.{arith}
 use lib.ListN.{getD}
 use Rattle.record.specs.Members.{legal, has, idRound, rounds}
 use Rattle.protocol.specs.Dag.{Records}
-use Rattle.replica.specs.Layout.{committedRoundAt, heldKind, heardKind, votesKind}
+use Rattle.replica.specs.Layout.{committedRoundAt, heldKind, heardKind, votesKind, leadersEnd, journalEnd, cellsEnd}
 use Rattle.replica.specs.Layout.{cellsAt, memberCountAt, leaderCountAt, journalCountAt, ownAt, orderedKind, currentRoundAt, timeoutsKind}
 use Rattle.replica.specs.Layout.{masksAt, heldAt, heardAt, votesAt, orderedAt, cellAt, headSize, leadersAt, leadersSize, journalAt, journalSize}
 use Rattle.replica.specs.State.{memberCount, leaderCount, journalCount, vertices, firsts, addMember}
@@ -18,11 +18,11 @@ use Rattle.commits.specs.Standing.{Standing}
 
 -- j is neither the leader count nor in the leader list
 abbrev pub OffLeaders : ℕ → Type 0
-OffLeaders j = (j ≡ leaderCountAt → ⊥) × (leadersAt ≤ j → j < journalAt → ⊥)
+OffLeaders j = (j ≡ leaderCountAt → ⊥) × (leadersAt ≤ j → j < leadersEnd → ⊥)
 
 -- j is neither the journal count, nor in the journal, nor an ordered mask
 abbrev pub OffJournal : ℕ → Type 0
-OffJournal j = (j ≡ journalCountAt → ⊥) × (journalAt ≤ j → j < cellsAt → ⊥) × ((r : ℕ) → 1 ≤ r → r ≤ rounds → j ≡ orderedAt r → ⊥)
+OffJournal j = (j ≡ journalCountAt → ⊥) × (journalAt ≤ j → j < journalEnd → ⊥) × ((r : ℕ) → 1 ≤ r → r ≤ rounds → j ≡ orderedAt r → ⊥)
 
 -- j is none of these, nor the committed round
 pub record OffLists (j : ℕ) : Type 0 where
@@ -55,8 +55,8 @@ off-mask r i a b k = record {
 }
 
 -- the cells
-pub off-cells : (j : ℕ) → cellsAt ≤ j → OffLists j
-off-cells j a = record {
+pub off-cells : (j : ℕ) → cellsAt ≤ j → j < cellsEnd → OffLists j
+off-cells j a b = record {
   not-committed = λ e. omega arith;
   off-leaders = (λ e. omega arith, λ c d. omega arith);
   off-journal = (λ e. omega arith, λ c d. omega arith, λ s c d e. omega arith);
@@ -66,7 +66,7 @@ off-cells j a = record {
 
 -- what Standing says rests on word 0, the held, heard and votes masks, and the cells
 pub standing-kept : (K : ℕ → Type 0) (l l′ : List ℕ) → Keeps K l l′ → K memberCountAt → ((r i : ℕ) → 1 ≤ r → r ≤ rounds → i < timeoutsKind → K (masksAt r + i))
-    → ((j : ℕ) → cellsAt ≤ j → K j) → Standing l → Standing l′
+    → ((j : ℕ) → cellsAt ≤ j → j < cellsEnd → K j) → Standing l → Standing l′
 standing-kept K l l′ p k f g S =
     let n = p .same memberCountAt k in
     let v = vertices-kept K l l′ p (λ r a b. f r heldKind a b (omega arith)) g in
@@ -77,7 +77,7 @@ standing-kept K l l′ p k f g S =
       high = rw n (S .high);
       valid = rw (n, v) (S .valid);
       words = λ r q i a b c d. ap (λ (x : Records). getD (x r q) i 0) v ∙ S .words r q i a b c d
-          ∙ sym (p .same (cellAt r q + i) (g (cellAt r q + i) (omega arith)));
+          ∙ sym (p .same (cellAt r q + i) (g (cellAt r q + i) (omega arith) (omega arith)));
       held-low = λ r a b. rw (n, p .same (heldAt r) (f r heldKind a b (omega arith))) (S .held-low r a b);
       votes-low = λ r a b. rw (n, p .same (votesAt r) (f r votesKind a b (omega arith))) (S .votes-low r a b);
       votes-heard = λ r q a b h. ap (λ (m : ℕ). has m q) (p .same (heardAt r) (f r heardKind a b (omega arith)))
@@ -105,7 +105,8 @@ module _ (l l′ : List ℕ) (p : Keeps OffLists l l′) where
 
 -- words 1 to 4, an ordered word and a list word, set
 abbrev pub Core : ℕ → Type 0
-Core j = (currentRoundAt ≤ j → j ≤ journalCountAt → ⊥) × (leadersAt ≤ j → j < cellsAt → ⊥) × ((r : ℕ) → 1 ≤ r → r ≤ rounds → j ≡ orderedAt r → ⊥)
+Core j = (currentRoundAt ≤ j → j ≤ journalCountAt → ⊥) × (leadersAt ≤ j → j < leadersEnd → ⊥) × (journalAt ≤ j → j < journalEnd → ⊥)
+    × ((r : ℕ) → 1 ≤ r → r ≤ rounds → j ≡ orderedAt r → ⊥)
 
 -- ---- what one append and one entry keep
 

@@ -1,40 +1,42 @@
 -- How the leader list and the journal grow: by one, by many, and by a commit. Assumes nothing.
-use mathlib.Core.Path.{_≡_, refl, sym, ap, ap₂, _∙_, subst}
+use mathlib.Core.Path.{_≡_, refl, sym, ap, ap₂, _∙_}
 use mathlib.Core.Bool.{Bool, true, false, not, _&&_, _||_, or-false}
 use mathlib.Core.Logic.{_⊎_, inl, inr, ⊎-elim}
-use mathlib.Core.List.{List, [], _∷_, _++_, map, append-assoc, append-nil}
+use mathlib.Core.List.{List, [], _∷_, _++_, append-assoc, append-nil}
 use Prim.Native.Nat.{ℕ, zero, suc, _+_, _^_, _≤_, _<_}
 use native.Mathlib.Numerals.{add-one}
 use native.Mathlib.Omega.{arith}
 use lib.Dec.{eqb, ltb}
-use lib.ListN.{length, getD, set, drop, length-append, length-drop, length-map}
+use lib.ListN.{length, getD, set, drop, length-append, length-drop}
 use lib.Seq.{lt-length-set, getD-set-same, getD-set-other, drop-set-lt, drop-set-add, take-suc-set}
 use borrow.Author.Tests.{eqb-true, eqb-false, eq-eqb, ne-eqb, not-true}
 use Rattle.record.specs.Below.{count, select}
-use Rattle.record.specs.Members.{legal, leader, has, add, idRound, idMember, isRound, idLimit, rounds, votedRounds}
+use Rattle.record.specs.Members.{legal, leader, has, add, idRound, idMember, isRound, idLimit, rounds}
 use Rattle.record.proofs.Booleans.{which, never, and-left, and-right, or-cases, or-left, or-right, bool-ext}
 use Rattle.record.proofs.Below.{count-mono, count-cong, select-cong, digit-mono}
 use Rattle.record.proofs.Masks.{has-add, add-lt}
 use Rattle.record.proofs.Rounds.{round-range, round-in}
 use Rattle.protocol.specs.Dag.{Records, held}
 use Rattle.protocol.specs.Paths.{history}
-use Rattle.protocol.specs.Chain.{leaderId}
+use Rattle.protocol.specs.Chain.{chain}
+use Rattle.protocol.specs.Single.{oneTaken}
 use Rattle.protocol.specs.Journal.{among, fresh, extend}
 use Rattle.protocol.specs.Premises.{ValidVertices}
 use Rattle.protocol.proofs.Lists.{or-assoc, among-none, among-append, among-one, among-select, once, once-select}
 use Rattle.protocol.proofs.History.{Named, named-up, history-held}
-use Rattle.protocol.proofs.Chain.{chain-held}
 use Rattle.protocol.proofs.Laws.{chain-length}
 use Rattle.replica.specs.Layout.{committedRoundAt}
 use Rattle.replica.specs.Layout.{stateSize, orderedAt, leadersAt, leadersSize, journalAt, journalSize, leaderCountAt, journalCountAt, memberCountAt}
 use Rattle.replica.specs.State.{memberCount, committedRound, leaderCount, journalCount, orderedMask, leaderWord, journalWord, leaderList, journalList}
-use Rattle.replica.specs.State.{vertices, firsts, orderedId, addMember}
-use Rattle.replica.proofs.Formed.{WellFormed, journal-length, leaders-few}
+use Rattle.replica.specs.State.{vertices, firsts, orderedId, addMember, width, lastPlace}
+use Rattle.replica.proofs.Formed.{WellFormed, journal-length}
 use Rattle.replica.proofs.Dags.{dag-well-formed}
+use Rattle.replica.proofs.Width.{width-one}
 use Rattle.replica.proofs.Keeping.{Keeps, keeps-refl, keeps-trans, keeps-less, keeps-set, leader-list-kept, journal-list-kept, ordered-id-kept}
 use Rattle.commits.specs.Commit.{appendLeader, appendLeaders, enter, enterAll, orderLeader, orderLeaders, taken, commit}
-use Rattle.commits.specs.Standing.{Standing, Room}
-use Rattle.commits.proofs.Ground.{room, room-limit}
+use Rattle.commits.specs.Standing.{Standing, Room, Ready}
+use Rattle.commits.proofs.Readying.{ready-before, taken-held}
+use Rattle.commits.proofs.Ground.{room, room-limit, width-fits, ended, one-place}
 use Rattle.commits.proofs.Frames.{OffLeaders, OffJournal, OffLists, keeps-leader, keeps-entry, journal-lists, lists-standing}
 use Rattle.commits.proofs.Frames.{lists-vertices, lists-firsts}
 
@@ -80,19 +82,19 @@ appended-trans a b c xs ys p q = record {
 }
 
 -- one leader
-pub append-one : (l : List ℕ) (r : ℕ) → length l ≡ stateSize → leaderCount l < leadersSize → Appended l (leaderId (memberCount l) r ∷ []) (appendLeader l r)
+pub append-one : (l : List ℕ) (r : ℕ) → length l ≡ stateSize → leaderCount l < leadersSize → Appended l (r ∷ []) (appendLeader l r)
 append-one l r size h = record { kept = keeps-leader l r h; list = grown; count = counted ∙ omega arith; rest = beyond }
   where
     counted : leaderCount (appendLeader l r) ≡ leaderCount l + 1
-    counted = unfold appendLeader in last-of-two l (leadersAt + leaderCount l) (leaderId (memberCount l) r) leaderCountAt (leaderCount l + 1) (omega arith)
+    counted = unfold appendLeader in last-of-two l (leadersAt + leaderCount l) r leaderCountAt (leaderCount l + 1) (omega arith)
 
-    words : drop leadersAt (appendLeader l r) ≡ set (drop leadersAt l) (leaderCount l) (leaderId (memberCount l) r)
+    words : drop leadersAt (appendLeader l r) ≡ set (drop leadersAt l) (leaderCount l) r
     words = unfold appendLeader in
-        drop-set-lt leadersAt (set l (leadersAt + leaderCount l) (leaderId (memberCount l) r)) leaderCountAt (leaderCount l + 1) (omega arith)
-        ∙ drop-set-add leadersAt l (leaderCount l) (leaderId (memberCount l) r)
+        drop-set-lt leadersAt (set l (leadersAt + leaderCount l) r) leaderCountAt (leaderCount l + 1) (omega arith)
+        ∙ drop-set-add leadersAt l (leaderCount l) r
 
-    grown : leaderList (appendLeader l r) ≡ leaderList l ++ leaderId (memberCount l) r ∷ []
-    grown = rw (counted, words, add-one (leaderCount l)) (take-suc-set (drop leadersAt l) (leaderCount l) (leaderId (memberCount l) r)
+    grown : leaderList (appendLeader l r) ≡ leaderList l ++ r ∷ []
+    grown = rw (counted, words, add-one (leaderCount l)) (take-suc-set (drop leadersAt l) (leaderCount l) r
         (rw length-drop (omega arith)))
 
     beyond : (i : ℕ) → leaderCount (appendLeader l r) ≤ i → i < leadersSize → leaderWord (appendLeader l r) i ≡ leaderWord l i
@@ -100,20 +102,17 @@ append-one l r size h = record { kept = keeps-leader l r h; list = grown; count 
       where
         other : leaderCount l + 1 ≤ i → leaderWord (appendLeader l r) i ≡ leaderWord l i
         other a = unfold appendLeader in
-            none-of-two l (leadersAt + leaderCount l) (leaderId (memberCount l) r) leaderCountAt (leaderCount l + 1) (leadersAt + i)
+            none-of-two l (leadersAt + leaderCount l) r leaderCountAt (leaderCount l + 1) (leadersAt + i)
             (λ e. omega arith) (λ e. omega arith)
 
--- the leaders of these rounds
-pub append-all : (l rs : List ℕ) → length l ≡ stateSize → leaderCount l + length rs ≤ leadersSize
-    → Appended l (map (leaderId (memberCount l)) rs) (appendLeaders l rs)
+-- several leaders
+pub append-all : (l rs : List ℕ) → length l ≡ stateSize → leaderCount l + length rs ≤ leadersSize → Appended l rs (appendLeaders l rs)
 unfolding appendLeaders
 append-all l [] size h = appended-none l
 append-all l (r ∷ rs) size h =
     let a = append-one l r size (omega arith) in
-    let n : memberCount (appendLeader l r) ≡ memberCount l = a .kept .same memberCountAt (λ e. omega arith, λ x y. omega arith) in
     let rest = append-all (appendLeader l r) rs (a .kept .size ∙ size) (omega (arith, a .count)) in
-    appended-trans l (appendLeader l r) (appendLeaders (appendLeader l r) rs) (leaderId (memberCount l) r ∷ []) (map (leaderId (memberCount l)) rs) a
-    (subst (λ (x : ℕ). Appended (appendLeader l r) (map (leaderId x) rs) (appendLeaders (appendLeader l r) rs)) n rest)
+    appended-trans l (appendLeader l r) (appendLeaders (appendLeader l r) rs) (r ∷ []) rs a rest
 
 -- ---- one journal entry
 
@@ -301,32 +300,34 @@ entered-names l xs l′ N E y =
 
 module _ (n : ℕ) (v : Records) (g : legal n ≡ true) (W : ValidVertices n v) where
   -- one leader
-  module _ (l : List ℕ) (r : ℕ) (e : memberCount l ≡ n) (size : length l ≡ stateSize) (R : Room l) (h : held v r (leader n r) ≡ true) where
+  module _ (l : List ℕ) (r : ℕ) (e : memberCount l ≡ n) (size : length l ≡ stateSize) (R : Room l) (h : held v (idRound r) (idMember r) ≡ true) where
     -- what is entered
     pub new : List ℕ
-    new = select idLimit (λ y. not (orderedId l y) && history n v r (leader n r) y)
+    new = select idLimit (λ y. not (orderedId l y) && history n v (idRound r) (idMember r) y)
 
     new-among : (y : ℕ) → among new y ≡ true → (Named n v rounds y) × (orderedId l y ≡ false)
     unfolding new
     new-among y d =
-        let t : (not (orderedId l y) && history n v r (leader n r) y) ≡ true =
-        and-right (ltb y idLimit) _ (sym (among-select idLimit (λ y. not (orderedId l y) && history n v r (leader n r) y) y) ∙ d) in (
-          named-up n v r rounds y (W .admitted r (leader n r) h .round-high) (history-held n v g W r (leader n r) y h (and-right (not (orderedId l y)) _ t)),
+        let t : (not (orderedId l y) && history n v (idRound r) (idMember r) y) ≡ true =
+        and-right (ltb y idLimit) _ (sym (among-select idLimit (λ y. not (orderedId l y) && history n v (idRound r) (idMember r) y) y) ∙ d) in (
+          named-up n v (idRound r) rounds y (W .admitted (idRound r) (idMember r) h .round-high)
+              (history-held n v g W (idRound r) (idMember r) y h (and-right (not (orderedId l y)) _ t)),
           not-true (orderedId l y) (and-left _ _ t),
         )
 
     -- its history is entered
     pub order-one : Entered l new (orderLeader v l r)
     unfolding new orderLeader
-    order-one = rw e (enter-all l new size R (once-select idLimit (λ y. not (orderedId l y) && history n v r (leader n r) y))
+    order-one = rw e (enter-all l new size R (once-select idLimit (λ y. not (orderedId l y) && history n v (idRound r) (idMember r) y))
         (λ y d. let w = new-among y d in (w .0 .low, w .0 .high, w .1)))
 
     new-fresh : Names l → new ≡ fresh n v (journalList l) r
     unfolding new fresh
-    new-fresh N = select-cong idLimit _ _ (λ y k. ap (λ (b : Bool). not b && history n v r (leader n r) y) (sym (N y)))
+    new-fresh N = select-cong idLimit _ _ (λ y k. ap (λ (b : Bool). not b && history n v (idRound r) (idMember r) y) (sym (N y)))
 
   -- the leaders of these rounds
-  pub order-all : (l rs : List ℕ) → memberCount l ≡ n → length l ≡ stateSize → Room l → Names l → ((r : ℕ) → among rs r ≡ true → held v r (leader n r) ≡ true)
+  pub order-all : (l rs : List ℕ) → memberCount l ≡ n → length l ≡ stateSize → Room l → Names l
+      → ((r : ℕ) → among rs r ≡ true → held v (idRound r) (idMember r) ≡ true)
       → Ordered n v l rs (orderLeaders v l rs)
   unfolding orderLeaders extend among
   order-all l [] e size R N h = record { ids = []; entered = entered-none l R; extends = append-nil (journalList l); named = λ y d. never d (among-none y) }
@@ -346,18 +347,22 @@ module _ (n : ℕ) (v : Records) (g : legal n ≡ true) (W : ValidVertices n v) 
             (or-cases _ _ (sym (among-append (new l r e size R k) (rest .ids) y) ∙ d));
       }
 
+-- where a round has one leader, a commit takes what the walk over one leader a round does
+pub taken-one : (l : List ℕ) → WellFormed l → (q : ℕ) → taken l q 0 ≡ chain (memberCount l) 1 (vertices l) (committedRound l) (oneTaken (committedRound l)) q 1
+taken-one l S q = ap₂ (λ (m a : ℕ). chain (memberCount l) m (vertices l) (committedRound l) a q 1) (width-one l) (one-place l S)
+
 -- ---- a commit
 
--- l′ is l with round q committed
-pub record Committed (l : List ℕ) (q : ℕ) (l′ : List ℕ) : Type 0 where
+-- l′ is l with the leader of round q and of that seat committed
+pub record Committed (l : List ℕ) (q seat : ℕ) (l′ : List ℕ) : Type 0 where
   pub kept : Keeps OffLists l l′
   pub committed : committedRound l′ ≡ q
-  pub leaders : leaderList l′ ≡ leaderList l ++ map (leaderId (memberCount l)) (taken l q)
-  pub leader-count : leaderCount l′ ≡ leaderCount l + length (taken l q)
+  pub leaders : leaderList l′ ≡ leaderList l ++ taken l q seat
+  pub leader-count : leaderCount l′ ≡ leaderCount l + length (taken l q seat)
   pub leader-rest : (i : ℕ) → leaderCount l′ ≤ i → i < leadersSize → leaderWord l′ i ≡ leaderWord l i
   pub ids : List ℕ
   pub journal : journalList l′ ≡ journalList l ++ ids
-  pub extends : journalList l′ ≡ extend (memberCount l) (vertices l) (journalList l) (taken l q)
+  pub extends : journalList l′ ≡ extend (memberCount l) (vertices l) (journalList l) (taken l q seat)
   pub journal-count : journalCount l′ ≡ journalCount l + length ids
   pub journal-rest : (i : ℕ) → journalCount l′ ≤ i → i < journalSize → journalWord l′ i ≡ journalWord l i
   pub ordered : (z : ℕ) → orderedId l′ z ≡ (orderedId l z || among ids z)
@@ -369,27 +374,34 @@ pub record Committed (l : List ℕ) (q : ℕ) (l′ : List ℕ) : Type 0 where
 abbrev OffLeading : ℕ → Type 0
 OffLeading j = (j ≡ committedRoundAt → ⊥) × OffLeaders j
 
-module _ (l : List ℕ) (S : WellFormed l) (q : ℕ) (above : committedRound l < q) (high : q ≤ votedRounds)
-    (h : held (vertices l) q (leader (memberCount l) q) ≡ true) where
-  -- the leader list has at most one entry a round
-  pub leaders-fit : leaderCount l + length (taken l q) ≤ q
+module _ (l : List ℕ) (S : WellFormed l) (q seat : ℕ) (ready : Ready l q seat) where
+  -- the leader list has at most so many entries as there are places
+  pub leaders-fit : leaderCount l + length (taken l q seat) ≤ leadersSize
   leaders-fit =
-      omega (arith, leaders-few l S, chain-length (memberCount l) (vertices l) (committedRound l) q (omega arith))
+      let E = ended l S in
+      omega (
+        arith,
+        E .few,
+        chain-length (memberCount l) (width l) (vertices l) (committedRound l) (lastPlace l) q (seat + 1) (E .place)
+            (ready-before l (S .front .members) (dag-well-formed l S) q seat ready),
+        width-fits l q (ready .high),
+        ready .index,
+      )
 
   -- the leaders, then the committed round
   first : List ℕ
-  first = appendLeaders l (taken l q)
+  first = appendLeaders l (taken l q seat)
 
   second : List ℕ
   unfolding first
   second = set first committedRoundAt q
 
-  appended : Appended l (map (leaderId (memberCount l)) (taken l q)) first
+  appended : Appended l (taken l q seat) first
   unfolding first
-  appended = append-all l (taken l q) (S .size) (omega (arith, leaders-fit))
+  appended = append-all l (taken l q seat) (S .size) (omega (arith, leaders-fit))
 
   first-few : leaderCount first ≤ leadersSize
-  first-few = rw (appended .count) (rw (length-map (taken l q) (leaderId (memberCount l))) (omega (arith, leaders-fit)))
+  first-few = rw (appended .count) (omega (arith, leaders-fit))
 
   set-two : Keeps (λ j. j ≡ committedRoundAt → ⊥) first second
   unfolding second
@@ -419,51 +431,51 @@ module _ (l : List ℕ) (S : WellFormed l) (q : ℕ) (above : committedRound l <
   second-ordered-mask r a b = second-word (orderedAt r) (λ e. omega arith, (λ e. omega arith, λ c d. omega arith))
 
   -- then the histories
-  histories : Ordered (memberCount l) (vertices l) second (taken l q) (commit l q)
+  histories : Ordered (memberCount l) (vertices l) second (taken l q seat) (commit l q seat)
   unfolding commit second first
-  histories = order-all (memberCount l) (vertices l) (S .front .members) (dag-well-formed l S) second (taken l q)
+  histories = order-all (memberCount l) (vertices l) (S .front .members) (dag-well-formed l S) second (taken l q seat)
       (second-word 0 (λ e. omega arith, (λ e. omega arith, λ c d. omega arith))) (leading .size ∙ S .size) second-room
       (λ y. ap (λ (j : List ℕ). among j y) second-journal ∙ S .journal .names y ∙ sym (second-ordered y))
-      (λ r e. chain-held (memberCount l) (vertices l) (committedRound l) q r h e)
+      (λ y e. taken-held l (S .front .members) (dag-well-formed l S) q seat ready y e .0)
 
-  after : Entered second (histories .ids) (commit l q)
+  after : Entered second (histories .ids) (commit l q seat)
   after = histories .entered
 
   second-count-led : leaderCount second ≡ leaderCount first
   second-count-led = set-two .same leaderCountAt (λ e. omega arith)
 
-  leader-list-after : leaderList (commit l q) ≡ leaderList l ++ map (leaderId (memberCount l)) (taken l q)
+  leader-list-after : leaderList (commit l q seat) ≡ leaderList l ++ taken l q seat
   leader-list-after =
-      leader-list-kept OffJournal second (commit l q) (after .kept) (λ e. omega arith, λ c d. omega arith, λ r a b e. omega arith)
+      leader-list-kept OffJournal second (commit l q seat) (after .kept) (λ e. omega arith, λ c d. omega arith, λ r a b e. omega arith)
       (λ j a b. (λ e. omega arith, λ c d. omega arith, λ r c d e. omega arith)) (rw second-count-led first-few)
       ∙ leader-list-kept (λ j. j ≡ committedRoundAt → ⊥) first second set-two (λ e. omega arith) (λ j a b e. omega arith) first-few
       ∙ appended .list
 
-  count-after : leaderCount (commit l q) ≡ leaderCount first
+  count-after : leaderCount (commit l q seat) ≡ leaderCount first
   count-after = after .kept .same leaderCountAt (λ e. omega arith, λ c d. omega arith, λ r a b e. omega arith) ∙ second-count-led
 
-  leader-word-after : (i : ℕ) → i < leadersSize → leaderWord (commit l q) i ≡ leaderWord first i
+  leader-word-after : (i : ℕ) → i < leadersSize → leaderWord (commit l q seat) i ≡ leaderWord first i
   leader-word-after i k =
       after .kept .same (leadersAt + i) (λ e. omega arith, λ c d. omega arith, λ r a b e. omega arith) ∙ set-two .same (leadersAt + i) (λ e. omega arith)
 
-  committed-after : committedRound (commit l q) ≡ q
+  committed-after : committedRound (commit l q seat) ≡ q
   committed-after = after .kept .same committedRoundAt (λ e. omega arith, λ c d. omega arith, λ r a b e. omega arith) ∙ at-two
     where
       at-two : committedRound second ≡ q
       at-two = unfold second in getD-set-same first committedRoundAt q 0 (rw (appended .kept .size) (omega (arith, S .size)))
 
   -- What a commit does.
-  pub grown : Committed l q (commit l q)
+  pub grown : Committed l q seat (commit l q seat)
   grown = record {
-    kept = keeps-trans OffLists l second (commit l q)
-        (keeps-less OffLeading OffLists l second (λ j k. (k .not-committed, k .off-leaders)) leading) (journal-lists second (commit l q) (after .kept));
+    kept = keeps-trans OffLists l second (commit l q seat)
+        (keeps-less OffLeading OffLists l second (λ j k. (k .not-committed, k .off-leaders)) leading) (journal-lists second (commit l q seat) (after .kept));
     committed = committed-after;
     leaders = leader-list-after;
-    leader-count = count-after ∙ appended .count ∙ ap (λ (x : ℕ). leaderCount l + x) (length-map (taken l q) (leaderId (memberCount l)));
+    leader-count = count-after ∙ appended .count;
     leader-rest = λ i a b. leader-word-after i b ∙ appended .rest i (rw count-after at a) b;
     ids = histories .ids;
     journal = after .list ∙ ap (λ (j : List ℕ). j ++ histories .ids) second-journal;
-    extends = after .list ∙ histories .extends ∙ ap (λ (j : List ℕ). extend (memberCount l) (vertices l) j (taken l q)) second-journal;
+    extends = after .list ∙ histories .extends ∙ ap (λ (j : List ℕ). extend (memberCount l) (vertices l) j (taken l q seat)) second-journal;
     journal-count = after .count ∙ ap (λ (x : ℕ). x + length (histories .ids)) second-count;
     journal-rest = λ i a b. after .rest i a b ∙ second-word (journalAt + i) (λ e. omega arith, (λ e. omega arith, λ c d. omega arith));
     ordered = λ z. after .ordered z ∙ ap (λ (b : Bool). b || among (histories .ids) z) (second-ordered z);
@@ -473,31 +485,31 @@ module _ (l : List ℕ) (S : WellFormed l) (q : ℕ) (above : committedRound l <
   }
 
   -- the DAG stays, and the lists and their counts grow as the protocol says
-  pub commit-vertices : vertices (commit l q) ≡ vertices l
-  commit-vertices = lists-vertices l (commit l q) (grown .kept)
+  pub commit-vertices : vertices (commit l q seat) ≡ vertices l
+  commit-vertices = lists-vertices l (commit l q seat) (grown .kept)
 
   -- the first messages
-  pub commit-firsts : firsts (commit l q) ≡ firsts l
-  commit-firsts = lists-firsts l (commit l q) (grown .kept)
+  pub commit-firsts : firsts (commit l q seat) ≡ firsts l
+  commit-firsts = lists-firsts l (commit l q seat) (grown .kept)
 
   -- the committed round
-  pub commit-round : committedRound (commit l q) ≡ q
+  pub commit-round : committedRound (commit l q seat) ≡ q
   commit-round = grown .committed
 
   -- the leader list
-  pub commit-leaders : leaderList (commit l q) ≡ leaderList l ++ map (leaderId (memberCount l)) (taken l q)
+  pub commit-leaders : leaderList (commit l q seat) ≡ leaderList l ++ taken l q seat
   commit-leaders = grown .leaders
 
   -- the journal
-  pub commit-journal : journalList (commit l q) ≡ extend (memberCount l) (vertices l) (journalList l) (taken l q)
+  pub commit-journal : journalList (commit l q seat) ≡ extend (memberCount l) (vertices l) (journalList l) (taken l q seat)
   commit-journal = grown .extends
 
   -- the leader count, by the leaders taken
-  pub commit-leader-count : leaderCount (commit l q) ≡ leaderCount l + length (taken l q)
+  pub commit-leader-count : leaderCount (commit l q seat) ≡ leaderCount l + length (taken l q seat)
   commit-leader-count = grown .leader-count
 
   -- the journal count, by the list
-  pub commit-journal-length : journalCount (commit l q) ≡ length (extend (memberCount l) (vertices l) (journalList l) (taken l q))
+  pub commit-journal-length : journalCount (commit l q seat) ≡ length (extend (memberCount l) (vertices l) (journalList l) (taken l q seat))
   commit-journal-length =
       grown .journal-count ∙ omega (arith, length-append (journalList l) (grown .ids), journal-length l S) ∙ ap length (sym (grown .journal) ∙ grown .extends)
 
@@ -509,14 +521,14 @@ entered-standing l xs l′ E T = lists-standing l l′ (journal-lists l l′ (E 
 
 module _ (n : ℕ) (v : Records) (g : legal n ≡ true) (W : ValidVertices n v) where
   -- by a leader's history
-  pub standing-order : (l : List ℕ) (r : ℕ) → memberCount l ≡ n → Standing l → Room l → held v r (leader n r) ≡ true
+  pub standing-order : (l : List ℕ) (r : ℕ) → memberCount l ≡ n → Standing l → Room l → held v (idRound r) (idMember r) ≡ true
       → Standing (orderLeader v l r) × Room (orderLeader v l r) × (memberCount (orderLeader v l r) ≡ n)
   standing-order l r e T R h =
       let E = order-one n v g W l r e (T .size) R h in
       (entered-standing l _ (orderLeader v l r) E T, E .room, E .kept .same memberCountAt (λ d. omega arith, λ a b. omega arith, λ s a b d. omega arith) ∙ e)
 
   -- by those of several leaders
-  pub standing-order-all : (l rs : List ℕ) → memberCount l ≡ n → Standing l → Room l → ((r : ℕ) → among rs r ≡ true → held v r (leader n r) ≡ true)
+  pub standing-order-all : (l rs : List ℕ) → memberCount l ≡ n → Standing l → Room l → ((r : ℕ) → among rs r ≡ true → held v (idRound r) (idMember r) ≡ true)
       → Standing (orderLeaders v l rs) × Room (orderLeaders v l rs)
   unfolding orderLeaders among
   standing-order-all l [] e T R h = (T, R)

@@ -1,8 +1,10 @@
 pub mod Laws
-pub mod Walking
+pub mod Readying
+pub mod Running
 pub mod Steps
 pub mod Frame
 pub mod Entering
+pub mod Appending
 pub mod Committing
 pub mod Repeating
 pub mod Ground

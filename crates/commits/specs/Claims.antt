@@ -19,7 +19,7 @@ pub record ReadyAlone (l : List ℕ) (q : ℕ) : Type 0 where
   pub high : q ≤ votedRounds
   pub led : has (heldMask l q) (leader (memberCount l) q) ≡ true
   pub alone : (meets (memberCount l) (votesMask l (suc q)) ≡ true)
-      ⊎ (enough (memberCount l) (λ p. votes (memberCount l) q (vertices l (suc q) p)) ≡ true)
+      ⊎ (enough (memberCount l) (λ p. votes (memberCount l) q 0 (vertices l (suc q) p)) ≡ true)
 
 -- such a round is committable
 abbrev pub EitherAlone : Type 0

@@ -1,3 +1,4 @@
 pub mod Commit
 pub mod Claims
+pub mod Taken
 pub mod Standing

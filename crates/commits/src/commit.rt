@@ -1,26 +1,29 @@
 // The commits: which rounds are committable, and what committing one writes.
 ghost use mathlib.Core.Path.{_≡_};
-ghost use mathlib.Core.Bool.{false};
-ghost use Prim.Native.Nat.{_<_, _≤_};
+ghost use Prim.Native.Nat.{_-_, _<_, _≤_};
 ghost use lib.ListN.{length};
-ghost use Rattle.record.specs.Below.{count, select};
-ghost use Rattle.record.specs.Members.{leader, has, rounds, slots, votedRounds, idLimit};
+ghost use Rattle.record.specs.Members.{leaderAt, mostLeaders, rounds, slots, votedRounds, idLimit};
 ghost use Rattle.record.specs.Handed.{QuorumOf};
-ghost use Rattle.protocol.specs.Dag.{committed};
+ghost use Rattle.protocol.specs.Dag.{backed};
+ghost use Rattle.protocol.specs.Chain.{leaderId, seats};
 ghost use Rattle.protocol.specs.Masks.{voters};
 ghost use Rattle.replica.specs.Layout.{stateSize, journalSize};
 ghost use Rattle.replica.specs.State.{memberCount, committedRound, journalCount, vertices, dag};
-ghost use Rattle.commits.specs.Commit.{appendLeader, appendLeaders, enter, orderLeader, orderLeaders, commit, lowest, commitAll};
-ghost use Rattle.commits.specs.Standing.{Standing, Room, LeaderRoom, LeaderReady, LeadersReady, Going, Next, orderId, orderRound};
+ghost use Rattle.commits.specs.Commit.{appendLeader, appendLeaders, enter, orderLeader};
+ghost use Rattle.commits.specs.Commit.{commit, lowest, grows, isReady, commitAll};
+ghost use Rattle.commits.specs.Taken.{takenOf, gather};
+ghost use Rattle.commits.specs.Standing.{Standing, firstVotes, Room, LeaderOf, LeaderRoom, LeaderReady, RunsReady};
+ghost use Rattle.commits.specs.Standing.{orderFrom, LeadersReady, Going, AtPlace, Next, Further, commitStep, orderId, orderRound};
 use super::history::history_of;
-use super::walk::taken_rounds;
+use super::walk::taken_runs;
 use record::layout::STRONG;
 use record::layout::wide;
+use record::members::MASKS;
 use record::members::Members;
 use record::members::ROUNDS;
 use record::members::SLOTS;
 use record::members::has_bit;
-use record::members::leader_of;
+use record::members::leader_at;
 use replica::layout::COMMITTED_ROUND;
 use replica::layout::HELD;
 use replica::layout::JOURNAL;
@@ -34,14 +37,27 @@ use replica::layout::masks_at;
 use replica::masks::add_member;
 use replica::masks::is_marked;
 use replica::masks::mask_of;
+use replica::places::last_place;
+use replica::places::width_of;
 
-// The voters for the leader of round q: the members whose first messages of round q + 1 name it, and those whose vertices do.
-fn voters_for(state: &[u32], n: u32, q: u32, voted: u32) -> Members
-    requires { ⌜ Standing (now state) × (n ≡ memberCount (now state)) × (1 ≤ q) × (q ≤ votedRounds) × (voted ≡ leader n q) ⌝ }
-    ensures { λ r. ⌜ r .bits ≡ voters n (dag (now (state .entry))) q n ⌝ }
+// The members whose first messages of round q + 1 vote for leader i of round q.
+fn first_voters(state: &[u32], q: u32, i: u32) -> u32
+    requires { ⌜ (length (now state) ≡ stateSize) × (1 ≤ q) × (q ≤ votedRounds) ⌝ }
+    ensures { λ r. ⌜ r ≡ firstVotes (now (state .entry)) q i ⌝ }
+{
+    if i == 0 {
+        return mask_of(state, VOTES, q + 1);
+    }
+    0
+}
+
+// The voters for leader i of round q, who is `voted`: the members whose first messages of round q + 1 name it, and those whose vertices do.
+fn voters_for(state: &[u32], n: u32, q: u32, i: u32, voted: u32) -> Members
+    requires { ⌜ LeaderOf (now state) n q i × (voted ≡ leaderAt n q i) ⌝ }
+    ensures { λ r. ⌜ r .bits ≡ voters n (dag (now (state .entry))) q i n ⌝ }
 {
     let mut voters = Members {
-        bits: mask_of(state, VOTES, q + 1),
+        bits: first_voters(state, q, i),
     };
     let mut p: u32 = 0;
     while p < n {
@@ -54,16 +70,16 @@ fn voters_for(state: &[u32], n: u32, q: u32, voted: u32) -> Members
     voters
 }
 
-// Round q is committed directly: its leader's vertex is held, and it has a quorum of voters.
-fn is_committed(state: &[u32], n: u32, quorum: u32, q: u32) -> bool
-    requires { ⌜ Standing (now state) × (n ≡ memberCount (now state)) × QuorumOf n quorum × (1 ≤ q) × (q ≤ votedRounds) ⌝ }
-    ensures { λ r. ⌜ r ≡ committed n (dag (now (state .entry))) q ⌝ }
+// Leader i of round q is committed directly: its vertex is held, and it has a quorum of voters.
+fn is_committed(state: &[u32], n: u32, quorum: u32, q: u32, i: u32) -> bool
+    requires { ⌜ LeaderOf (now state) n q i × QuorumOf n quorum ⌝ }
+    ensures { λ r. ⌜ r ≡ backed n (dag (now (state .entry))) q i ⌝ }
 {
-    let leader = leader_of(n, q);
+    let leader = leader_at(n, q, i);
     if !has_bit(mask_of(state, HELD, q), leader) {
         return false;
     }
-    let voters = voters_for(state, n, q, leader);
+    let voters = voters_for(state, n, q, i, leader);
     voters.meets_quorum(quorum)
 }
 
@@ -74,7 +90,7 @@ fn lowest_committable(state: &[u32], n: u32, quorum: u32) -> u32
 {
     let mut q: u32 = state[COMMITTED_ROUND] + 1;
     while q < ROUNDS {
-        if is_committed(state, n, quorum, q) {
+        if is_committed(state, n, quorum, q, 0) {
             return q;
         }
         q += 1;
@@ -82,27 +98,47 @@ fn lowest_committable(state: &[u32], n: u32, quorum: u32) -> u32
     ROUNDS
 }
 
-// The leader of the round joins the leader list.
-fn append_leader(state: &mut [u32], n: u32, round: u32)
-    requires { ⌜ LeaderRoom (now state) 1 × (n ≡ memberCount (now state)) × (0 < n) × (1 ≤ round) × (round ≤ votedRounds) ⌝ }
-    ensures { λ _. ⌜ now (state .exit) ≡ appendLeader (now (state .entry)) round ⌝ }
+// Leader i of the round joins the leader list.
+fn append_leader(state: &mut [u32], n: u32, round: u32, i: u32)
+    requires { ⌜ LeaderRoom (now state) 1 × (0 < n) × (1 ≤ round) × (round ≤ votedRounds) × (i < mostLeaders) ⌝ }
+    ensures { λ _. ⌜ now (state .exit) ≡ appendLeader (now (state .entry)) (leaderId n round i) ⌝ }
 {
     let count = state[LEADER_COUNT];
-    let id = SLOTS * round + leader_of(n, round);
+    let id = SLOTS * round + leader_at(n, round, i);
     state[LEADERS + wide(count)] = id;
     state[LEADER_COUNT] = count + 1;
 }
 
-// The leaders of the rounds taken, bit r for round r, join the leader list.
-fn append_leaders(state: &mut [u32], n: u32, taken: u32)
-    requires { ⌜ LeaderRoom (now state) (count rounds (has taken)) × (n ≡ memberCount (now state)) × (0 < n) × (has taken 0 ≡ false) ⌝ }
-    ensures { λ _. ⌜ now (state .exit) ≡ appendLeaders (now (state .entry)) (select rounds (has taken)) ⌝ }
+// Leaders a, .. b - 1 of the round join the leader list.
+fn append_run(state: &mut [u32], n: u32, round: u32, a: u32, b: u32)
+    requires { ⌜ LeaderRoom (now state) (b - a) × (0 < n) × (1 ≤ round) × (round ≤ votedRounds) × (b ≤ mostLeaders) ⌝ }
+    ensures { λ _. ⌜ now (state .exit) ≡ appendLeaders (now (state .entry)) (seats n round a b) ⌝ }
+{
+    let mut i: u32 = a;
+    while i < b {
+        append_leader(state, n, round, i);
+        i += 1;
+    }
+}
+
+// How many leaders of the round are already taken, where those of the committed round are.
+fn taken_of(round: u32, committed: u32, place: u32) -> u32
+    ensures { λ r. ⌜ r ≡ takenOf round committed place ⌝ }
+{
+    if round == committed {
+        return place;
+    }
+    0
+}
+
+// The leaders taken join the leader list, run by run, but for those already taken.
+fn append_runs(state: &mut [u32], n: u32, committed: u32, place: u32, runs: [u32; MASKS])
+    requires { ⌜ RunsReady (now state) n committed place runs ⌝ }
+    ensures { λ _. ⌜ now (state .exit) ≡ appendLeaders (now (state .entry)) (gather n committed place runs rounds) ⌝ }
 {
     let mut r: u32 = 1;
     while r < ROUNDS {
-        if has_bit(taken, r) {
-            append_leader(state, n, r);
-        }
+        append_run(state, n, r, taken_of(r, committed, place), runs[wide(r)]);
         r += 1;
     }
 }
@@ -148,12 +184,13 @@ fn order_round(state: &mut [u32], mask: u32, round: u32)
     }
 }
 
-// The history of the round's leader that is not yet ordered joins the journal, by rising id. It has nothing above that round.
-fn order_leader(state: &mut [u32], n: u32, round: u32)
-    requires { ⌜ LeaderReady (now state) n round ⌝ }
-    ensures { λ _. ⌜ now (state .exit) ≡ orderLeader (vertices (now (state .entry))) (now (state .entry)) round ⌝ }
+// The history of the leader's vertex that is not yet ordered joins the journal, by rising id. It has nothing above its round.
+fn order_leader(state: &mut [u32], n: u32, id: u32)
+    requires { ⌜ LeaderReady (now state) n id ⌝ }
+    ensures { λ _. ⌜ now (state .exit) ≡ orderLeader (vertices (now (state .entry))) (now (state .entry)) id ⌝ }
 {
-    let masks = history_of(state, n, round, leader_of(n, round));
+    let round = id / SLOTS;
+    let masks = history_of(state, n, round, id % SLOTS);
     let mut r: u32 = 0;
     while r < round {
         order_round(state, masks[wide(r)], r + 1);
@@ -161,39 +198,85 @@ fn order_leader(state: &mut [u32], n: u32, round: u32)
     }
 }
 
-// So for the leaders of the rounds taken, bit r for round r.
-fn order_leaders(state: &mut [u32], n: u32, taken: u32)
-    requires { ⌜ LeadersReady n taken (now state) × (has taken 0 ≡ false) ⌝ }
-    ensures { λ _. ⌜ now (state .exit) ≡ orderLeaders (vertices (now (state .entry))) (now (state .entry)) (select rounds (has taken)) ⌝ }
+// So for the leaders in the list from an entry on.
+fn order_leaders(state: &mut [u32], n: u32, first: usize)
+    requires { ⌜ LeadersReady (now state) n first ⌝ }
+    ensures { λ _. ⌜ now (state .exit) ≡ orderFrom (now (state .entry)) first ⌝ }
 {
-    let mut r: u32 = 1;
-    while r < ROUNDS {
-        if has_bit(taken, r) {
-            order_leader(state, n, r);
-        }
-        r += 1;
+    let count = wide(state[LEADER_COUNT]);
+    let mut i: usize = first;
+    while i < count {
+        let id = state[LEADERS + i];
+        order_leader(state, n, id);
+        i += 1;
     }
 }
 
-// Commits round q.
+// Commits round q's main leader.
 fn commit_round(state: &mut [u32], n: u32, q: u32)
     requires { ⌜ Next (now state) n q ⌝ }
-    ensures { λ _. ⌜ now (state .exit) ≡ commit (now (state .entry)) q ⌝ }
+    ensures { λ _. ⌜ now (state .exit) ≡ commit (now (state .entry)) q 0 ⌝ }
 {
-    let taken = taken_rounds(state, n, state[COMMITTED_ROUND], q);
-    append_leaders(state, n, taken);
+    let committed = state[COMMITTED_ROUND];
+    let place = last_place(state, n);
+    let first = wide(state[LEADER_COUNT]);
+    let runs = taken_runs(state, n, width_of(state), committed, q);
+    append_runs(state, n, committed, place, runs);
     state[COMMITTED_ROUND] = q;
-    order_leaders(state, n, taken);
+    order_leaders(state, n, first);
 }
 
-// The lowest committable round is committed, and again until none is.
+// The committed round grows: behind its leaders in the list, `place` of them, the next one is committed directly.
+fn does_grow(state: &[u32], n: u32, quorum: u32, committed: u32, place: u32) -> bool
+    requires { ⌜ AtPlace (now state) n committed place × QuorumOf n quorum ⌝ }
+    ensures { λ r. ⌜ r ≡ grows (now (state .entry)) ⌝ }
+{
+    if committed == 0 {
+        return false;
+    }
+    if width_of(state) <= place {
+        return false;
+    }
+    is_committed(state, n, quorum, committed, place)
+}
+
+// Commits the next leader of the committed round, leader i of round q: it alone joins the leader list, and the committed round stays.
+fn commit_next(state: &mut [u32], n: u32, q: u32, i: u32)
+    requires { ⌜ Further (now state) n q i ⌝ }
+    ensures { λ _. ⌜ now (state .exit) ≡ commit (now (state .entry)) q i ⌝ }
+{
+    let first = wide(state[LEADER_COUNT]);
+    append_leader(state, n, q, i);
+    order_leaders(state, n, first);
+}
+
+// Commits the first committable leader, if there is one: the committed round grows before a later one is committed.
+fn commit_once(state: &mut [u32], n: u32, quorum: u32) -> bool
+    requires { ⌜ Going (now state) × (n ≡ memberCount (now state)) × QuorumOf n quorum ⌝ }
+    ensures { λ r. ⌜ (r ≡ isReady (now (state .entry))) × (now (state .exit) ≡ commitStep (now (state .entry))) ⌝ }
+{
+    let committed = state[COMMITTED_ROUND];
+    let place = last_place(state, n);
+    if does_grow(state, n, quorum, committed, place) {
+        commit_next(state, n, committed, place);
+        return true;
+    }
+    let q = lowest_committable(state, n, quorum);
+    if ROUNDS <= q {
+        return false;
+    }
+    commit_round(state, n, q);
+    true
+}
+
+// And again until there is none.
 pub fn commit_all(state: &mut [u32], n: u32, quorum: u32)
     requires { ⌜ Going (now state) × (n ≡ memberCount (now state)) × QuorumOf n quorum ⌝ }
     ensures { λ _. ⌜ now (state .exit) ≡ commitAll (now (state .entry)) ⌝ }
 {
-    let mut q: u32 = lowest_committable(state, n, quorum);
-    while q < ROUNDS {
-        commit_round(state, n, q);
-        q = lowest_committable(state, n, quorum);
+    loop {
+        if !commit_once(state, n, quorum) {
+            return;
+        }
     }
 }

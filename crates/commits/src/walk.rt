@@ -1,17 +1,19 @@
 // The walk over leaders.
 ghost use mathlib.Core.Path.{_≡_};
 ghost use Prim.Native.Nat.{_<_, _≤_};
-ghost use Rattle.record.specs.Below.{select};
-ghost use Rattle.record.specs.Members.{has, rounds, votedRounds};
-ghost use Rattle.protocol.specs.Chain.{chain};
+ghost use Rattle.record.specs.Members.{has, leaderAt, mostLeaders, rounds, slots};
+ghost use Rattle.record.specs.Below.{longest};
+ghost use Rattle.commits.specs.Taken.{TakenRuns};
 ghost use Rattle.protocol.specs.Masks.{parents};
 ghost use Rattle.replica.specs.State.{memberCount, vertices};
-ghost use Rattle.commits.specs.Standing.{Standing, LeaderHeld};
+ghost use Rattle.commits.specs.Standing.{Standing, WalkReady};
 use record::layout::STRONG;
+use record::layout::wide;
+use record::members::MASKS;
 use record::members::has_bit;
+use record::members::leader_at;
 use record::members::leader_of;
 use record::members::power;
-use record::members::with_bit;
 use replica::layout::cell_at;
 
 // The union of the strong masks of the round's vertices of the members in the mask.
@@ -31,25 +33,44 @@ fn parents_of(state: &[u32], n: u32, round: u32, mask: u32) -> u32
     joined
 }
 
-// The rounds above low whose leaders committing round q takes: bit r for round r. Going down, `reached` has the members that
-// strong paths reach, in the round above t, from the leader's vertex that was taken last.
-pub fn taken_rounds(state: &[u32], n: u32, low: u32, q: u32) -> u32
-    requires { ⌜ Standing (now state) × (n ≡ memberCount (now state)) × (low < q) × (q ≤ votedRounds) × LeaderHeld (now state) n q ⌝ }
-    ensures { λ r. ⌜ select rounds (has r) ≡ chain n (vertices (now (state .entry))) low q ⌝ }
+// How many of the round's m leaders, from the main one on, the mask has.
+fn run_in(n: u32, m: u32, round: u32, mask: u32) -> u32
+    requires { ⌜ (0 < n) × (n ≤ slots) × (1 ≤ round) × (round ≤ rounds) × (m ≤ mostLeaders) ⌝ }
+    ensures { λ r. ⌜ r ≡ longest m (λ i. has mask (leaderAt n round i)) ⌝ }
 {
-    let mut taken: u32 = power(q);
+    let mut i: u32 = 0;
+    while i < m {
+        if !has_bit(mask, leader_at(n, round, i)) {
+            return i;
+        }
+        i += 1;
+    }
+    m
+}
+
+// How many leaders of each round committing round q's main leader takes, of m a round, down to the committed round and with it. Going down, `reached` has the
+// members that strong paths reach, in the round above t, from the main leader's vertex that one stands on.
+pub fn taken_runs(state: &[u32], n: u32, m: u32, committed: u32, q: u32) -> [u32; MASKS]
+    requires { ⌜ WalkReady (now state) n m committed q ⌝ }
+    ensures { λ r. ⌜ TakenRuns n m (vertices (now (state .entry))) committed q r ⌝ }
+{
+    let mut runs = [0u32; MASKS];
+    runs[wide(q)] = 1;
     let mut reached: u32 = power(leader_of(n, q));
     let mut t: u32 = q - 1;
-    while low < t {
+    while 0 < t {
+        if t < committed {
+            return runs;
+        }
         let below = parents_of(state, n, t + 1, reached);
-        let leader = leader_of(n, t);
-        if has_bit(below, leader) {
-            taken = with_bit(taken, t);
-            reached = power(leader);
-        } else {
+        let run = run_in(n, m, t, below);
+        if run == 0 {
             reached = below;
+        } else {
+            runs[wide(t)] = run;
+            reached = power(leader_of(n, t));
         }
         t -= 1;
     }
-    taken
+    runs
 }

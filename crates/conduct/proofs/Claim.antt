@@ -151,26 +151,26 @@ module _ (n : ℕ) where
 
   -- where a no-vote was signed for a round, no record of the next votes for its leader
   signed-against : (calls : List Call) (l : List ℕ) → Ready n l → allAllowed calls ≡ true → (x : List ℕ) → In x (madeRecords l calls)
-      → wasSigned l (roundOf x - 1) ≡ true → votes n (roundOf x - 1) (bodyOf x) ≡ false
+      → wasSigned l (roundOf x - 1) ≡ true → votes n (roundOf x - 1) 0 (bodyOf x) ≡ false
   signed-against [] l R ok x i h = absurd (no-record l x i)
   signed-against (c ∷ calls) l R ok x i h = go (did l (R .formed) c)
       (λ j. signed-against calls (outcomeOf c l .words) (after-ready n c calls l R ok) (after-allowed n c calls l R ok) x j
       (after-own n c calls l R ok .signed-more (roundOf x - 1) h))
     where
-      go : Did c l → (In x (madeRecords (outcomeOf c l .words) calls) → votes n (roundOf x - 1) (bodyOf x) ≡ false)
-          → votes n (roundOf x - 1) (bodyOf x) ≡ false
+      go : Did c l → (In x (madeRecords (outcomeOf c l .words) calls) → votes n (roundOf x - 1) 0 (bodyOf x) ≡ false)
+          → votes n (roundOf x - 1) 0 (bodyOf x) ≡ false
       go (neither e d) ih = ih (rw (made-records c calls l e) at i)
       go (signed s) ih = ih (rw (made-records c calls l (s .makes)) at i)
       go (made m) ih = ⊎-elim here ih (List·Memᴰ·cases-cons (rw (made-records c calls l (m .makes)) at i))
         where
-          here : x ≡ m .words → votes n (roundOf x - 1) (bodyOf x) ≡ false
+          here : x ≡ m .words → votes n (roundOf x - 1) 0 (bodyOf x) ≡ false
           here e =
               let d : roundOf x ≡ currentRound l = ap roundOf e ∙ m .round in
               rw (d, e, ← R .members) (m .against (rw d at h))
 
   -- so never both
   pub never-both : (calls : List Call) (l : List ℕ) → Ready n l → allAllowed calls ≡ true → (x : List ℕ) → In x (madeRecords l calls)
-      → votes n (roundOf x - 1) (bodyOf x) ≡ true → among (roundsSigned l calls) (roundOf x - 1) ≡ false
+      → votes n (roundOf x - 1) 0 (bodyOf x) ≡ true → among (roundsSigned l calls) (roundOf x - 1) ≡ false
   never-both [] l R ok x i v = absurd (no-record l x i)
   never-both (c ∷ calls) l R ok x i v = go (did l (R .formed) c)
       (λ j. never-both calls (outcomeOf c l .words) (after-ready n c calls l R ok) (after-allowed n c calls l R ok) x j v)

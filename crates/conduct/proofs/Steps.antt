@@ -39,7 +39,7 @@ pub record MadeNow (c : Call) (l : List ℕ) : Type 0 where
   pub new : wasMade l (currentRound l) ≡ false
   pub marked : wasMade (outcomeOf c l .words) (currentRound l) ≡ true
   -- which does not vote where a no-vote was signed
-  pub against : wasSigned l (currentRound l - 1) ≡ true → votes (memberCount l) (currentRound l - 1) (bodyOf words) ≡ false
+  pub against : wasSigned l (currentRound l - 1) ≡ true → votes (memberCount l) (currentRound l - 1) 0 (bodyOf words) ≡ false
   pub passes : Passes l words
 
 -- it signed a no-vote
@@ -77,7 +77,7 @@ module _ (l : List ℕ) (S : WellFormed l) where
     new = making-passed l why .new;
     marked = ap (λ (x : ℕ). marksRound x (currentRound l)) word
         ∙ marks-here (madeRounds l) (currentRound l) (range .0) (range .1);
-    against = λ d. ap (λ (x : List ℕ). votes (memberCount l) (currentRound l - 1) (bodyOf x)) is ∙ strong ∙ without-leader l d;
+    against = λ d. ap (λ (x : List ℕ). votes (memberCount l) (currentRound l - 1) 0 (bodyOf x)) is ∙ strong ∙ without-leader l d;
     passes = made-passes l digest e;
   }
     where
@@ -92,7 +92,7 @@ module _ (l : List ℕ) (S : WellFormed l) where
       is : proposeVertex l (digest .words) .made ≡ madeRecord l (digest .words)
       is = unfold proposeVertex in cond-true _ _ (eq-eqb (numberOf (proposeRefusal l)) 0 why)
 
-      strong : votes (memberCount l) (currentRound l - 1) (bodyOf (madeRecord l (digest .words)))
+      strong : votes (memberCount l) (currentRound l - 1) 0 (bodyOf (madeRecord l (digest .words)))
           ≡ has (madeStrong l) (leader (memberCount l) (currentRound l - 1))
       strong = unfold madeRecord strongOf in refl
 

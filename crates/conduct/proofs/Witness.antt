@@ -7,23 +7,24 @@ use Prim.Native.Nat.{ℕ}
 use native.Mathlib.Omega.{arith}
 use lib.Count.{ones, onesIn}
 use lib.Dec.{eqb}
-use Rattle.record.specs.Below.{all, any, count, select, least}
-use Rattle.record.specs.Members.{legal, leader, has, within, meets, isRound}
+use Rattle.record.specs.Below.{all, any, count, select, least, longest}
+use Rattle.record.specs.Members.{legal, leaderAt, has, within, meets, isRound}
 use Rattle.record.specs.Refusals.{firstNo}
 use Rattle.record.specs.Layout.{strongOf, timeoutsOf, noVotesOf, weakCountOf, weakOf}
 use Rattle.record.specs.Questions.{masksOk, strongOk, lacksLeader, quorumIf, timeoutsOk, noVotesOk, weakIdOk, rises, slotOk, weakOk}
 use Rattle.record.specs.Questions.{signerQuestions, recordQuestions}
 use Rattle.record.proofs.Booleans.{which, cond-true, cond-false}
-use Rattle.protocol.specs.Dag.{voter, committed}
+use Rattle.protocol.specs.Dag.{voter, backed}
 use Rattle.protocol.specs.Paths.{path, historyUpTo}
-use Rattle.protocol.specs.Chain.{chain, walk}
+use Rattle.protocol.specs.Chain.{chain, walk, seats}
 use Rattle.replica.specs.State.{vertices, firsts, addMember, addMembers}
+use Rattle.replica.specs.State.{width, leaderIndex, lastPlace}
 use Rattle.replica.specs.Parents.{isParent, missing, parentsHeld}
 use Rattle.replica.specs.Outcome.{Outcome, outcome}
 use Rattle.replica.specs.Opening.{opened, openState}
 use Rattle.replica.proofs.Formed.{WellFormed}
 use Rattle.replica.proofs.Opened.{opened-size, opened-formed}
-use Rattle.commits.specs.Commit.{passable, highestPassable, raiseRound, appendLeader, appendLeaders, enter, enterAll, orderLeader, orderLeaders}
+use Rattle.commits.specs.Commit.{passable, highestPassable, raiseRound, appendLeader, appendLeaders, enter, enterAll, orderLeader, orderLeaders, grows, isReady}
 use Rattle.commits.specs.Commit.{committable}
 use Rattle.ordering.specs.Calls.{sameBody, putVertex, carryTimeouts, isNew}
 use Rattle.proposing.specs.Own.{marksRound, markRound}
@@ -32,7 +33,7 @@ use Rattle.proposing.specs.Signing.{signingRound, maySign, putOwnNoVote}
 use Rattle.runs.specs.Call.{Call, opening, vertex, vertexWith, firstMessage, timeout, noVote, bundle, status, askLeaderList, askJournalList}
 use Rattle.runs.specs.Call.{handLeaderList, handJournalList, making, signing, outcomeOf, allAllowed}
 use Rattle.runs.proofs.Asked.{four, open-yes, open-taken}
-use Rattle.runs.proofs.Short.{line, listed, byList, commitBy, shortCommits, shortVertex, shortNote, shortMaking, shortMade, shortSigning, shortOf}
+use Rattle.runs.proofs.Short.{line, listed, byList, commitBy, onceBy, shortCommits, shortVertex, shortNote, shortMaking, shortMade, shortSigning, shortOf}
 use Rattle.runs.proofs.Short.{shortTake, shortBundle, short-is, made-is, formed-after}
 use Rattle.conduct.specs.Made.{Made, madeBy, signedBy, allMade, roundsSigned, madeRecords}
 use Rattle.conduct.specs.Witness.{own, start, first, voting, against, calls, Witness}
@@ -160,12 +161,13 @@ both = (shortRecords (opened 4 own) calls, shortRounds (opened 4 own) calls)
 computed : both ≡ (first ∷ voting ∷ against ∷ [], 2 ∷ [])
 unfolding both shortRecords shortRounds shortRecord shortRound calls shortOf shortTake shortVertex shortNote shortBundle shortMaking
     shortMade shortSigning opened outcome
-    legal leader has within meets
+    legal leaderAt has within meets
     firstNo strongOf timeoutsOf noVotesOf weakCountOf weakOf isRound masksOk strongOk lacksLeader quorumIf timeoutsOk noVotesOk weakIdOk rises
     slotOk weakOk signerQuestions recordQuestions
-    all any count select least voter committed path historyUpTo chain walk vertices firsts isParent missing parentsHeld passable
-    highestPassable raiseRound appendLeader appendLeaders enter enterAll orderLeader orderLeaders line listed byList commitBy shortCommits
-    committable addMember addMembers sameBody putVertex carryTimeouts isNew ones onesIn
+    all any count select least voter backed path historyUpTo chain walk seats longest width leaderIndex lastPlace vertices firsts isParent missing
+    parentsHeld passable
+    highestPassable raiseRound appendLeader appendLeaders enter enterAll orderLeader orderLeaders line listed byList commitBy onceBy shortCommits
+    grows isReady committable addMember addMembers sameBody putVertex carryTimeouts isNew ones onesIn
     marksRound markRound parentsIn madeStrong madeTimeouts madeNoVotes isUnreached madeRecord makingQuestions maySign putOwnNoVote
 computed = refl
 
@@ -179,6 +181,6 @@ witness = record {
       ∙ ap (λ (w : List (List ℕ) × List ℕ). w .0) computed;
   signed = ap (λ (l : List ℕ). roundsSigned l calls) start-is ∙ rounds-are calls (opened 4 own) start-formed
       ∙ ap (λ (w : List (List ℕ) × List ℕ). w .1) computed;
-  votes-for = unfold strongOf leader has in refl;
-  votes-against = unfold strongOf leader has in refl;
+  votes-for = unfold strongOf leaderAt has in refl;
+  votes-against = unfold strongOf leaderAt has in refl;
 }

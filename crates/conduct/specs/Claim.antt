@@ -22,8 +22,8 @@ ofRound r (x ∷ l) = cond (eqb (roundOf x) r) 1 0 + ofRound r l
 pub record Honest (n : ℕ) (l : List ℕ) (calls : List Call) : Type 0 where
   -- at most one record was made for a round
   pub one-record : (r : ℕ) → ofRound r (madeRecords l calls) ≤ 1
-  -- for no round was both a record made that votes for its leader, and a no-vote signed
-  pub no-both : (x : List ℕ) → In x (madeRecords l calls) → votes n (roundOf x - 1) (bodyOf x) ≡ true
+  -- for no round was both a record made that votes for its leader, which is leader 0 of the round, and a no-vote signed
+  pub no-both : (x : List ℕ) → In x (madeRecords l calls) → votes n (roundOf x - 1) 0 (bodyOf x) ≡ true
       → among (roundsSigned l calls) (roundOf x - 1) ≡ false
   -- every made record passes questions 5 to 11, and 14 on the state that made it
   pub passing : (m : Made) → List·Memᴰ m (allMade l calls) → Passes (m .state) (m .words)

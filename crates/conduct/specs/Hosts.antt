@@ -29,12 +29,12 @@ module _ (n : ℕ) (a b : Model) (honest : ℕ → Bool) where
     pub no-votes : (y : List ℕ) → Vertex n a b honest y → has (noVotesOf (bodyOf y)) p ≡ true
         → among (roundsSigned (openState words n (suc p) .words) calls) (roundOf y - 1) ≡ true
 
-  -- What the premises ask of an honest member p: it has one record in a round, and signs no no-vote against a leader that it votes for.
+  -- What the premises ask of an honest member p: it has one record in a round, and signs no no-vote against a leader (leader 0 of its round) that it votes for.
   pub record HonestMember (p : ℕ) : Type 0 where
     pub one-record : (x y : List ℕ) → Vertex n a b honest x ⊎ First n a b honest x → Vertex n a b honest y ⊎ First n a b honest y → Twins x y
         → sourceOf x ≡ p → x ≡ y
     pub no-both : (x y : List ℕ) → Vertex n a b honest x ⊎ First n a b honest x → Vertex n a b honest y → roundOf x ≡ roundOf y
-        → sourceOf x ≡ p → votes n (roundOf x - 1) (bodyOf x) ≡ true → has (noVotesOf (bodyOf y)) p ≡ true → ⊥
+        → sourceOf x ≡ p → votes n (roundOf x - 1) 0 (bodyOf x) ≡ true → has (noVotesOf (bodyOf y)) p ≡ true → ⊥
 
   -- at most f members are faulty, reliable broadcast delivers one vertex of a round and source, and every honest member uses the library
   pub record Hosts : Type 0 where

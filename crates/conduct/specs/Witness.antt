@@ -48,6 +48,6 @@ pub record Witness : Type 0 where
   -- what was made and signed: the last two calls are refused
   pub made : madeRecords start calls ≡ first ∷ voting ∷ against ∷ []
   pub signed : roundsSigned start calls ≡ 2 ∷ []
-  -- a vote, and none beside the no-vote
-  pub votes-for : votes 4 1 (bodyOf voting) ≡ true
-  pub votes-against : votes 4 2 (bodyOf against) ≡ false
+  -- a vote, and none beside the no-vote: for leader 0 of the round
+  pub votes-for : votes 4 1 0 (bodyOf voting) ≡ true
+  pub votes-against : votes 4 2 0 (bodyOf against) ≡ false

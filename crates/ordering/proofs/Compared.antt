@@ -8,7 +8,7 @@ use native.Mathlib.Omega.{arith}
 use lib.Dec.{eqb}
 use lib.ListN.{length, getD, drop}
 use lib.Seq.{getD-take, getD-drop, ext-getD}
-use borrow.Author.Tests.{eqb-true, eqb-false, eq-eqb}
+use borrow.Author.Tests.{eqb-true, eqb-false, eq-eqb, lt-ltb}
 use Rattle.record.specs.Members.{has, slots}
 use Rattle.record.specs.Refusals.{numberOf, Question, firstNo}
 use Rattle.record.specs.Layout.{bodySize, roundOf, sourceOf, bodyOf}
@@ -115,7 +115,7 @@ module _ (l : List ℕ) (r p : ℕ) (body : List ℕ) where
     -- the vertex that is held
     found : has (heldMask l r) p ≡ true → vertices l r p ≡ cell l r p
     unfolding vertices
-    found h = cond-true _ _ (and-both (round-in r (K .admitted .round-low) (K .admitted .round-high)) h)
+    found h = cond-true _ _ (and-both (round-in r (K .admitted .round-low) (K .admitted .round-high)) h) ∙ cond-true _ _ (lt-ltb p slots low)
 
     long : length (cell l r p) ≡ bodySize
     long = cell-length l (K .formed .size) r p (K .admitted .round-low) (K .admitted .round-high) low

@@ -3,30 +3,27 @@ use mathlib.Core.Path.{_≡_, ap, ap₂}
 use mathlib.Core.Bool.{true, false}
 use mathlib.Core.Logic.{_⊎_, inl, inr}
 use mathlib.Core.List.{List}
-use Prim.Native.Nat.{ℕ, zero, suc, _-_, _≤_, _<_}
+use Prim.Native.Nat.{ℕ, zero, suc, _-_, _≤_}
 use native.Mathlib.Omega.{arith}
-use lib.Dec.{ltb}
 use lib.ListN.{length, length-append}
-use borrow.Author.Tests.{ltb-true}
 use Rattle.record.proofs.Booleans.{which}
-use Rattle.record.proofs.Below.{least-sat}
 use Rattle.protocol.proofs.Journal.{extend-prefix}
-use Rattle.record.specs.Members.{rounds, votedRounds}
 use Rattle.replica.specs.State.{memberCount, leaderCount, journalCount, journalList, vertices}
 use Rattle.replica.specs.Outcome.{admitted}
 use Rattle.replica.proofs.Formed.{WellFormed, journal-length}
-use Rattle.commits.specs.Commit.{taken, commit, committable, lowest, commitUpTo, commitAll}
+use Rattle.commits.specs.Commit.{taken, isReady, commitOnce, commitUpTo, mostCommits, commitAll}
+use Rattle.commits.proofs.Repeating.{once}
 use Rattle.commits.proofs.Growing.{commit-leader-count, commit-journal-length}
-use Rattle.ordering.proofs.Kept.{formed-commit, committable-round}
+use Rattle.ordering.proofs.Kept.{formed-once}
 
 -- over one commit
-one : (l : List ℕ) → WellFormed l → lowest l < rounds
-    → (leaderCount l ≤ leaderCount (commit l (lowest l))) × (journalCount l ≤ journalCount (commit l (lowest l)))
+one : (l : List ℕ) → WellFormed l → isReady l ≡ true → (leaderCount l ≤ leaderCount (commitOnce l)) × (journalCount l ≤ journalCount (commitOnce l))
 one l S h =
-    let w = committable-round l (lowest l) (least-sat rounds (committable l) h) in
-    let j = commit-journal-length l S (lowest l) (w .0) (w .1) (w .3) in
-    let p = extend-prefix (memberCount l) (vertices l) (journalList l) (taken l (lowest l)) in (
-      omega (arith, commit-leader-count l S (lowest l) (w .0) (w .1) (w .3)),
+    let w = once l (S .leaders .committed-high) h in
+    let j = commit-journal-length l S (w .round) (w .seat) (w .ready) in
+    let p = extend-prefix (memberCount l) (vertices l) (journalList l) (taken l (w .round) (w .seat)) in
+    rw (w .is) (
+      omega (arith, commit-leader-count l S (w .round) (w .seat) (w .ready)),
       omega (arith, j, ap length (p .1), length-append (journalList l) (p .0), journal-length l S),
     )
 
@@ -34,16 +31,15 @@ one l S h =
 pub commits-grow : (k : ℕ) (l : List ℕ) → WellFormed l → (leaderCount l ≤ leaderCount (commitUpTo l k)) × (journalCount l ≤ journalCount (commitUpTo l k))
 unfolding commitUpTo
 commits-grow zero l S = (omega arith, omega arith)
-commits-grow (suc k) l S = go (which (ltb (lowest l) rounds)) (commits-grow k (commit l (lowest l)))
+commits-grow (suc k) l S = go (which (isReady l)) (commits-grow k (commitOnce l))
   where
-    go : (ltb (lowest l) rounds ≡ true) ⊎ (ltb (lowest l) rounds ≡ false)
-        → (WellFormed (commit l (lowest l)) → (leaderCount (commit l (lowest l)) ≤ leaderCount (commitUpTo (commit l (lowest l)) k))
-        × (journalCount (commit l (lowest l)) ≤ journalCount (commitUpTo (commit l (lowest l)) k)))
+    go : (isReady l ≡ true) ⊎ (isReady l ≡ false)
+        → (WellFormed (commitOnce l) → (leaderCount (commitOnce l) ≤ leaderCount (commitUpTo (commitOnce l) k))
+        × (journalCount (commitOnce l) ≤ journalCount (commitUpTo (commitOnce l) k)))
         → (leaderCount l ≤ leaderCount (commitUpTo l (suc k))) × (journalCount l ≤ journalCount (commitUpTo l (suc k)))
     go (inl e) ih =
-        let w = committable-round l (lowest l) (least-sat rounds (committable l) (ltb-true _ _ e)) in
-        let a = one l S (ltb-true _ _ e) in
-        let b = ih (formed-commit l S (lowest l) (w .0) (w .1) (w .3)) in
+        let a = one l S e in
+        let b = ih (formed-once l S e) in
         rw e (omega arith, omega arith)
     go (inr e) ih = rw e (omega arith, omega arith)
 
@@ -66,4 +62,4 @@ pub record Settled (l after : List ℕ) : Type 0 where
   pub journal : journalCount l ≤ journalCount after
 
 pub settled : (l after : List ℕ) → WellFormed l → after ≡ commitAll l → Settled l after
-settled l after S e = let g = commits-grow votedRounds l S in rw e (record { leaders = g .0; journal = g .1 })
+settled l after S e = let g = commits-grow mostCommits l S in rw e (record { leaders = g .0; journal = g .1 })

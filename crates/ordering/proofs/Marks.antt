@@ -220,7 +220,7 @@ module _ (l : List ℕ) (S : WellFormed l) (r p : ℕ) (low : 1 ≤ r) (high : r
 -- a first message of round 1 has no vote
 pub formed-hear : (l : List ℕ) → WellFormed l → (r p : ℕ) (body : List ℕ) → Admitted (memberCount l) r p body → WellFormed (hear l r p body)
 unfolding hear
-formed-hear l S r p body A = go (which (votes (memberCount l) (r - 1) body))
+formed-hear l S r p body A = go (which (votes (memberCount l) (r - 1) 0 body))
   where
     H : WellFormed (addMember l (heardAt r) p)
     H = heard l S r p (A .round-low) (A .round-high) (A .source-low)
@@ -231,10 +231,10 @@ formed-hear l S r p body A = go (which (votes (memberCount l) (r - 1) body))
     members : memberCount (addMember l (heardAt r) p) ≡ memberCount l
     members = add-other l (heardAt r) p fits 0 (λ e. omega arith)
 
-    later : votes (memberCount l) (r - 1) body ≡ true → r ≡ 1 → ⊥
+    later : votes (memberCount l) (r - 1) 0 body ≡ true → r ≡ 1 → ⊥
     later e d = never (ap (λ (m : ℕ). has m (leader (memberCount l) (r - 1))) (sym (A .strong-first d)) ∙ e) (has-zero (leader (memberCount l) (r - 1)))
 
-    go : (votes (memberCount l) (r - 1) body ≡ true) ⊎ (votes (memberCount l) (r - 1) body ≡ false) → WellFormed (hear l r p body)
+    go : (votes (memberCount l) (r - 1) 0 body ≡ true) ⊎ (votes (memberCount l) (r - 1) 0 body ≡ false) → WellFormed (hear l r p body)
     go (inl e) =
         rw e (formed-votes (addMember l (heardAt r) p) H r p (A .round-low) (A .round-high) (rw members (A .source-low)) (later e)
         (add-there l (heardAt r) p fits))
@@ -433,7 +433,7 @@ module _ (l : List ℕ) (S : WellFormed l) (r p : ℕ) (body : List ℕ) (ok : n
     masks = put-masks;
     cells = put-cells;
     leaders = leaders-kept OffVertex l (putVertex l r p body) put-keeps (λ e. omega arith, λ b c. omega arith) (λ e. omega arith, λ b c. omega arith)
-        (λ e. omega arith, λ b c. omega arith) (λ j a b. (λ e. omega (arith, low, high), λ c d. omega arith)) put-id (S .leaders);
+        (λ e. omega arith, λ b c. omega arith) (λ j a b. (λ e. omega (arith, low, high), λ c d. omega (arith, low, high, few))) put-id (S .leaders);
     journal = journal-kept OffVertex l (putVertex l r p body) put-keeps (λ s a b. off-mask s orderedKind a b (omega arith) (omega arith)) (
       λ e. omega arith,
       λ b c. omega arith,

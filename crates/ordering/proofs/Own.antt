@@ -5,19 +5,17 @@ use mathlib.Core.Logic.{_⊎_, inl, inr}
 use mathlib.Core.List.{List}
 use Prim.Native.Nat.{ℕ, zero, suc, _+_, _-_, _^_, _≤_, _<_}
 use native.Mathlib.Omega.{arith}
-use lib.Dec.{ltb}
-use borrow.Author.Tests.{ltb-true}
-use Rattle.record.specs.Members.{rounds, votedRounds}
+use Rattle.record.specs.Members.{rounds}
 use Rattle.record.specs.Refusals.{numberOf, firstNo}
 use Rattle.record.specs.Layout.{timeoutsOf}
 use Rattle.record.proofs.Booleans.{which}
-use Rattle.record.proofs.Below.{least-sat}
 use Rattle.replica.specs.Layout.{masksAt, headSize, memberCountAt, currentRoundAt, ownAt, timeoutsKind, noVotesKind}
 use Rattle.replica.specs.State.{addMember, addMembers}
 use Rattle.replica.proofs.Formed.{WellFormed}
 use Rattle.replica.proofs.Keeping.{Keeps, keeps-refl, keeps-trans, keeps-less, keeps-set}
-use Rattle.commits.specs.Commit.{highestPassable, raiseRound, commit, committable, lowest, commitUpTo, commitAll}
+use Rattle.commits.specs.Commit.{highestPassable, raiseRound, isReady, commitOnce, commitUpTo, mostCommits, commitAll}
 use Rattle.commits.proofs.Frames.{OffLists, off-front, off-own}
+use Rattle.commits.proofs.Repeating.{once}
 use Rattle.commits.proofs.Growing.{grown}
 use Rattle.ordering.specs.Calls.{putVertex, carryTimeouts, hear, vertexQuestions, firstQuestions, takeBody, takeFirstBody, takeTimeout, takeNoVote}
 use Rattle.ordering.specs.Calls.{takeTimeouts}
@@ -26,7 +24,7 @@ use Rattle.ordering.proofs.Rule.{raise-as}
 use Rattle.ordering.proofs.Writing.{put-head, hear-head, hear-calm}
 use Rattle.ordering.proofs.Marks.{formed-raise, formed-hear}
 use Rattle.ordering.proofs.Carried.{carry-as, written, vertex-written}
-use Rattle.ordering.proofs.Kept.{committable-round, formed-commit}
+use Rattle.ordering.proofs.Kept.{formed-once}
 
 -- word j of the head is neither the current round nor one that commits write
 pub record Fixed (j : ℕ) : Type 0 where
@@ -63,20 +61,19 @@ fixed-note l r i p = fixed-joined l r i (2 ^ p)
 fixed-carried : (l : List ℕ) (r m : ℕ) → Keeps Fixed l (carryTimeouts l r m)
 fixed-carried l r m = carry-as l r m (Keeps Fixed l) (keeps-refl Fixed l) (λ h. fixed-joined l (r - 1) timeoutsKind m)
 
+-- the next commit
+once-kept : (l : List ℕ) → WellFormed l → isReady l ≡ true → Keeps OffLists l (commitOnce l)
+once-kept l S e = let w = once l (S .leaders .committed-high) e in rw (w .is) (grown l S (w .round) (w .seat) (w .ready) .kept)
+
 -- all commits: the lists, their counts, the committed round and the ordered masks
 pub commits-keep : (k : ℕ) (l : List ℕ) → WellFormed l → Keeps OffLists l (commitUpTo l k)
 unfolding commitUpTo
 commits-keep zero l S = keeps-refl OffLists l
-commits-keep (suc k) l S = go (which (ltb (lowest l) rounds)) (commits-keep k (commit l (lowest l)))
+commits-keep (suc k) l S = go (which (isReady l)) (commits-keep k (commitOnce l))
   where
-    go : (ltb (lowest l) rounds ≡ true) ⊎ (ltb (lowest l) rounds ≡ false)
-        → (WellFormed (commit l (lowest l)) → Keeps OffLists (commit l (lowest l)) (commitUpTo (commit l (lowest l)) k))
+    go : (isReady l ≡ true) ⊎ (isReady l ≡ false) → (WellFormed (commitOnce l) → Keeps OffLists (commitOnce l) (commitUpTo (commitOnce l) k))
         → Keeps OffLists l (commitUpTo l (suc k))
-    go (inl e) ih =
-        let w = committable-round l (lowest l) (least-sat rounds (committable l) (ltb-true _ _ e)) in
-        rw e (keeps-trans OffLists l (commit l (lowest l)) (commitUpTo (commit l (lowest l)) k)
-        (grown l S (lowest l) (w .0) (w .1) (w .3) .kept)
-        (ih (formed-commit l S (lowest l) (w .0) (w .1) (w .3))))
+    go (inl e) ih = rw e (keeps-trans OffLists l (commitOnce l) (commitUpTo (commitOnce l) k) (once-kept l S e) (ih (formed-once l S e)))
     go (inr e) ih = rw e (keeps-refl OffLists l)
 
 fixed-commits : (k : ℕ) (l : List ℕ) → WellFormed l → Keeps Fixed l (commitUpTo l k)
@@ -96,7 +93,7 @@ module _ (l : List ℕ) (S : WellFormed l) where
       (record { size = w .put-calm .size; same = λ j k. put-head l r p body (S .size) (A .round-low) (A .round-high) (w .few) (A .size) j (k .head) })
       (keeps-trans Fixed (putVertex l r p body) after (commitAll (raiseRound after)) (fixed-carried (putVertex l r p body) r (timeoutsOf body))
       (keeps-trans Fixed after (raiseRound after) (commitAll (raiseRound after)) (fixed-raise after)
-      (fixed-commits votedRounds (raiseRound after) (formed-raise after (w .formed)))))
+      (fixed-commits mostCommits (raiseRound after) (formed-raise after (w .formed)))))
 
   -- an admitted first message
   fixed-first : (r p : ℕ) (body : List ℕ) → numberOf (firstNo (firstQuestions l r p body)) ≡ 0 → Keeps Fixed l (commitAll (hear l r p body))
@@ -107,7 +104,7 @@ module _ (l : List ℕ) (S : WellFormed l) where
         size = hear-calm l r p body (S .size) (A .round-low) (A .round-high) .size;
         same = λ j k. hear-head l r p body (S .size) (A .round-low) (A .round-high) j (k .head);
       })
-      (fixed-commits votedRounds (hear l r p body) (formed-hear l S r p body A))
+      (fixed-commits mostCommits (hear l r p body) (formed-hear l S r p body A))
 
   -- Each call, admitted or refused.
   pub vertex-fixed : (r p : ℕ) (body : List ℕ) → Keeps Fixed l (takeBody l r p body .words)

@@ -7,7 +7,7 @@ use Prim.Native.Nat.{ℕ, _-_, _≤_}
 use native.Mathlib.Omega.{arith}
 use lib.Dec.{ltb}
 use borrow.Author.Tests.{ltb-true, ltb-false}
-use Rattle.record.specs.Members.{leader, has, meets, rounds, votedRounds}
+use Rattle.record.specs.Members.{leader, has, meets, rounds}
 use Rattle.record.specs.Refusals.{firstNo}
 use Rattle.record.specs.Layout.{roundOf, sourceOf, bodyOf, strongOf, timeoutsOf}
 use Rattle.record.proofs.Booleans.{which, and-left, and-both, or-left, or-right}
@@ -17,7 +17,7 @@ use Rattle.replica.specs.State.{memberCount, currentRound, heldMask, timeoutsMa
 use Rattle.replica.specs.Outcome.{Outcome}
 use Rattle.replica.proofs.Laws.{subset-has}
 use Rattle.replica.proofs.ParentLaws.{later-held}
-use Rattle.commits.specs.Commit.{passable, raiseRound, commitAll}
+use Rattle.commits.specs.Commit.{passable, raiseRound, mostCommits, commitAll}
 use Rattle.commits.proofs.Frames.{off-front}
 use Rattle.ordering.specs.Calls.{vertexQuestions, takeBody}
 use Rattle.ordering.specs.Reached.{ReachesItsRound}
@@ -92,6 +92,6 @@ reaches-its-round l rec e =
     let z = outcome-zero why l _ e in
     let w = vertex-written l (roundOf rec) (sourceOf rec) (bodyOf rec) z in
     let after = raiseRound (written l (roundOf rec) (sourceOf rec) (bodyOf rec)) in
-    let kept = commits-keep votedRounds after (formed-raise _ (w .formed)) .same currentRoundAt (off-front currentRoundAt (omega arith)) in
+    let kept = commits-keep mostCommits after (formed-raise _ (w .formed)) .same currentRoundAt (off-front currentRoundAt (omega arith)) in
     let words = ap (λ (o : Outcome). o .words) (sym (outcome-admitted why why l (commitAll after) refl z)) in
     rw words (omega (arith, kept, written-reaches l (roundOf rec) (sourceOf rec) (bodyOf rec) w))

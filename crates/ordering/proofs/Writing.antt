@@ -8,14 +8,15 @@ use native.Mathlib.Omega.{arith}
 use lib.Dec.{eqb, ltb}
 use lib.ListN.{length, getD, set, take, drop, length-set}
 use lib.Seq.{getD-set-same, getD-set-other, paste, length-paste}
-use borrow.Author.Tests.{eqb-true, eqb-false, eq-eqb, ltb-true, ltb-false}
+use borrow.Author.Tests.{eqb-true, eqb-false, eq-eqb, ltb-true, ltb-false, lt-ltb}
 use Rattle.record.specs.Members.{leader, has, add, isRound, rounds, slots}
 use Rattle.record.specs.Layout.{strongOf, bodySize}
 use Rattle.record.proofs.Booleans.{which, never, and-left, and-right, and-both, and-cong, cond-true, cond-cong}
 use Rattle.record.proofs.Masks.{has-add, has-add-same, has-zero, has-one, has-bound}
 use Rattle.record.proofs.Rounds.{round-range, round-in}
 use Rattle.protocol.specs.Dag.{present, votes}
-use Rattle.replica.specs.Layout.{journalSize, cellsAt, leaderCountAt, journalCountAt, timeoutsKind, currentRoundAt, ownAt}
+use Rattle.replica.specs.Layout.{journalSize, cellsAt, leaderCountAt, journalCountAt, timeoutsKind, currentRoundAt, ownAt, leadersEnd, journalEnd}
+use Rattle.replica.specs.Layout.{cellsEnd, masksEnd}
 use Rattle.replica.specs.Layout.{masksAt, heldAt, heardAt, votesAt, cellAt, stateSize, headSize, kinds, leadersAt, leadersSize, journalAt}
 use Rattle.replica.specs.State.{memberCount, committedRound, leaderCount, journalCount, heldMask, heardMask, votesMask, leaderList}
 use Rattle.replica.specs.State.{journalList, cell, vertices, firsts, addMember, addMembers}
@@ -33,11 +34,12 @@ use Rattle.commits.proofs.Frame.{Alike, alike-self, alike-set, loose-head}
 pub record Calm (l m : List ℕ) : Type 0 where
   pub size : length m ≡ length l
   pub head : (j : ℕ) → j < ownAt → (j ≡ currentRoundAt → ⊥) → getD m j 0 ≡ getD l j 0
-  pub lists : (j : ℕ) → leadersAt ≤ j → j < cellsAt → getD m j 0 ≡ getD l j 0
+  pub lists : (j : ℕ) → leadersAt ≤ j → j < leadersEnd → getD m j 0 ≡ getD l j 0
+  pub entries : (j : ℕ) → journalAt ≤ j → j < journalEnd → getD m j 0 ≡ getD l j 0
 
 -- nothing changed
 pub calm-self : (l : List ℕ) → Calm l l
-calm-self l = record { size = refl; head = λ j a b. refl; lists = λ j a b. refl }
+calm-self l = record { size = refl; head = λ j a b. refl; lists = λ j a b. refl; entries = λ j a b. refl }
 
 -- one change after another
 pub calm-then : {l m o : List ℕ} → Calm l m → Calm m o → Calm l o
@@ -45,6 +47,7 @@ calm-then a b = record {
   size = b .size ∙ a .size;
   head = λ j x y. b .head j x y ∙ a .head j x y;
   lists = λ j x y. b .lists j x y ∙ a .lists j x y;
+  entries = λ j x y. b .entries j x y ∙ a .entries j x y;
 }
 
 -- the current round, or an own word
@@ -53,6 +56,7 @@ calm-spare l i x s = record {
   size = length-set l i x;
   head = λ j a b. getD-set-other l i j x 0 (λ e. apart j a b (sym e));
   lists = λ j a b. getD-set-other l i j x 0 (λ e. omega (arith, s .head));
+  entries = λ j a b. getD-set-other l i j x 0 (λ e. omega (arith, s .head));
 }
   where
     apart : (j : ℕ) → j < ownAt → (j ≡ currentRoundAt → ⊥) → i ≡ j → ⊥
@@ -64,11 +68,12 @@ calm-spare l i x s = record {
     apart (suc (suc (suc (suc (suc j))))) a b e = absurd (omega arith)
 
 -- a word of the masks
-pub calm-mask : (l : List ℕ) (i x : ℕ) → headSize ≤ i → i < leadersAt → Calm l (set l i x)
+pub calm-mask : (l : List ℕ) (i x : ℕ) → headSize ≤ i → i < masksEnd → Calm l (set l i x)
 calm-mask l i x low high = record {
   size = length-set l i x;
   head = λ j a b. getD-set-other l i j x 0 (λ e. omega arith);
   lists = λ j a b. getD-set-other l i j x 0 (λ e. omega arith);
+  entries = λ j a b. getD-set-other l i j x 0 (λ e. omega arith);
 }
 
 -- where they differ in no word that matters
@@ -96,13 +101,13 @@ module _ {l m : List ℕ} (C : Calm l m) where
   -- the journal
   pub calm-journal : journalCount l ≤ journalSize → journalList m ≡ journalList l
   calm-journal few = rw (C .head journalCountAt (omega arith) (λ e. omega arith)) (part-same l m journalAt (journalCount l) (C .size)
-      (λ j a b. C .lists j (omega arith) (omega arith)))
+      (λ j a b. C .entries j a (omega arith)))
 
 -- ---- where the vertices and the first messages stay
 
 -- the vertices rest on the held masks and the cells
 vertices-by : (l m : List ℕ) → length m ≡ length l → ((s : ℕ) → 1 ≤ s → s ≤ rounds → heldMask m s ≡ heldMask l s)
-    → ((j : ℕ) → cellsAt ≤ j → getD m j 0 ≡ getD l j 0)
+    → ((j : ℕ) → cellsAt ≤ j → j < cellsEnd → getD m j 0 ≡ getD l j 0)
     → vertices m ≡ vertices l
 vertices-by l m size masks cells = vertices-kept (λ j. getD m j 0 ≡ getD l j 0) l m (same-words l m size) masks cells
 
@@ -136,7 +141,7 @@ module _ (l : List ℕ) (r i m : ℕ) (low : 1 ≤ r) (high : r ≤ rounds) wher
   -- the records stay
   pub join-alike : timeoutsKind ≤ i → i < kinds → Alike l (addMembers l (masksAt r + i) m)
   unfolding addMembers
-  join-alike h k = alike-set l (masksAt r + i) _ (record { low = omega arith; high = omega arith; apart = λ s j a b c e. omega arith })
+  join-alike h k = alike-set l (masksAt r + i) _ (record { low = omega arith; off = λ a b. omega arith; apart = λ s j a b c e. omega arith })
 
 -- and one member
 module _ (l : List ℕ) (r i p : ℕ) (low : 1 ≤ r) (high : r ≤ rounds) where
@@ -154,9 +159,9 @@ module _ (l : List ℕ) (r p : ℕ) (body : List ℕ) (size : length l ≡ state
   -- the words after it: both masks of the round, and all others
   heard-word : (j : ℕ) → (j ≡ heardAt r → ⊥) → (j ≡ votesAt r → ⊥) → getD (hear l r p body) j 0 ≡ getD l j 0
   unfolding hear addMember
-  heard-word j a b = go (which (votes (memberCount l) (r - 1) body))
+  heard-word j a b = go (which (votes (memberCount l) (r - 1) 0 body))
     where
-      go : (votes (memberCount l) (r - 1) body ≡ true) ⊎ (votes (memberCount l) (r - 1) body ≡ false) → getD (hear l r p body) j 0 ≡ getD l j 0
+      go : (votes (memberCount l) (r - 1) 0 body ≡ true) ⊎ (votes (memberCount l) (r - 1) 0 body ≡ false) → getD (hear l r p body) j 0 ≡ getD l j 0
       go (inl e) = rw e (getD-set-other (set l (heardAt r) (add (getD l (heardAt r) 0) p)) (votesAt r) j _ 0 b ∙ getD-set-other l (heardAt r) j _ 0 a)
       go (inr e) = rw e (getD-set-other l (heardAt r) j _ 0 a)
 
@@ -167,25 +172,26 @@ module _ (l : List ℕ) (r p : ℕ) (body : List ℕ) (size : length l ≡ state
   -- the heard mask
   heard-mask : heardMask (hear l r p body) r ≡ add (heardMask l r) p
   unfolding hear addMember
-  heard-mask = go (which (votes (memberCount l) (r - 1) body))
+  heard-mask = go (which (votes (memberCount l) (r - 1) 0 body))
     where
       here : getD (set l (heardAt r) (add (getD l (heardAt r) 0) p)) (heardAt r) 0 ≡ add (heardMask l r) p
       here = getD-set-same l (heardAt r) (add (getD l (heardAt r) 0) p) 0 (omega arith)
 
-      go : (votes (memberCount l) (r - 1) body ≡ true) ⊎ (votes (memberCount l) (r - 1) body ≡ false) → heardMask (hear l r p body) r ≡ add (heardMask l r) p
+      go : (votes (memberCount l) (r - 1) 0 body ≡ true) ⊎ (votes (memberCount l) (r - 1) 0 body ≡ false)
+          → heardMask (hear l r p body) r ≡ add (heardMask l r) p
       go (inl e) = rw e (getD-set-other (set l (heardAt r) (add (getD l (heardAt r) 0) p)) (votesAt r) (heardAt r) _ 0 (λ d. omega arith) ∙ here)
       go (inr e) = rw e here
 
   -- the votes mask
-  votes-mask : votesMask (hear l r p body) r ≡ cond (votes (memberCount l) (r - 1) body) (add (votesMask l r) p) (votesMask l r)
+  votes-mask : votesMask (hear l r p body) r ≡ cond (votes (memberCount l) (r - 1) 0 body) (add (votesMask l r) p) (votesMask l r)
   unfolding hear addMember
-  votes-mask = go (which (votes (memberCount l) (r - 1) body))
+  votes-mask = go (which (votes (memberCount l) (r - 1) 0 body))
     where
       before : getD (set l (heardAt r) (add (getD l (heardAt r) 0) p)) (votesAt r) 0 ≡ votesMask l r
       before = getD-set-other l (heardAt r) (votesAt r) _ 0 (λ d. omega arith)
 
-      go : (votes (memberCount l) (r - 1) body ≡ true) ⊎ (votes (memberCount l) (r - 1) body ≡ false)
-          → votesMask (hear l r p body) r ≡ cond (votes (memberCount l) (r - 1) body) (add (votesMask l r) p) (votesMask l r)
+      go : (votes (memberCount l) (r - 1) 0 body ≡ true) ⊎ (votes (memberCount l) (r - 1) 0 body ≡ false)
+          → votesMask (hear l r p body) r ≡ cond (votes (memberCount l) (r - 1) 0 body) (add (votesMask l r) p) (votesMask l r)
       go (inl e) = rw e (getD-set-same (set l (heardAt r) (add (getD l (heardAt r) 0) p)) (votesAt r) _ 0
           (omega (arith, length-set l (heardAt r) (add (getD l (heardAt r) 0) p)))
           ∙ ap (λ (m : ℕ). add m p) before)
@@ -194,19 +200,19 @@ module _ (l : List ℕ) (r p : ℕ) (body : List ℕ) (size : length l ≡ state
   -- the lists stay
   pub hear-calm : Calm l (hear l r p body)
   unfolding hear addMember
-  hear-calm = go (which (votes (memberCount l) (r - 1) body))
+  hear-calm = go (which (votes (memberCount l) (r - 1) 0 body))
     where
       first : Calm l (set l (heardAt r) (add (getD l (heardAt r) 0) p))
       first = calm-mask l (heardAt r) _ (omega arith) (omega arith)
 
-      go : (votes (memberCount l) (r - 1) body ≡ true) ⊎ (votes (memberCount l) (r - 1) body ≡ false) → Calm l (hear l r p body)
+      go : (votes (memberCount l) (r - 1) 0 body ≡ true) ⊎ (votes (memberCount l) (r - 1) 0 body ≡ false) → Calm l (hear l r p body)
       go (inl e) = rw e (calm-then first (calm-mask (set l (heardAt r) (add (getD l (heardAt r) 0) p)) (votesAt r) _ (omega arith) (omega arith)))
       go (inr e) = rw e first
 
   -- the vertices stay
   pub hear-vertices : vertices (hear l r p body) ≡ vertices l
   hear-vertices = vertices-by l (hear l r p body) (hear-calm .size) (λ s a b. heard-word (heldAt s) (λ e. omega arith) (λ e. omega arith))
-      (λ j a. heard-word j (λ e. omega arith) (λ e. omega arith))
+      (λ j a b. heard-word j (λ e. omega arith) (λ e. omega arith))
 
   -- any other first message stays
   pub hear-other : (s q : ℕ) → (eqb r s && eqb p q) ≡ false → firsts (hear l r p body) s q ≡ firsts l s q
@@ -221,7 +227,7 @@ module _ (l : List ℕ) (r p : ℕ) (body : List ℕ) (size : length l ≡ state
           let k : eqb p q ≡ false = ⊎-elim (λ t. never (and-both d t) e) (λ t. t) (which (eqb p q)) in
           let plus : (m : ℕ) → has (add m p) q ≡ has m q = λ m. has-add m p q ∙ rw k (or-false (has m q)) in
           rw (← same) (firsts-by l (hear l r p body) members r q (λ a b. ap (λ (m : ℕ). has m q) heard-mask ∙ plus (heardMask l r))
-          (λ a b. ap (λ (m : ℕ). has m q) votes-mask ∙ chosen (votes (memberCount l) (r - 1) body) (plus (votesMask l r))))
+          (λ a b. ap (λ (m : ℕ). has m q) votes-mask ∙ chosen (votes (memberCount l) (r - 1) 0 body) (plus (votesMask l r))))
         where
           chosen : (b : Bool) → has (add (votesMask l r) p) q ≡ has (votesMask l r) q
               → has (cond b (add (votesMask l r) p) (votesMask l r)) q ≡ has (votesMask l r) q
@@ -247,18 +253,19 @@ module _ (l : List ℕ) (r p : ℕ) (body : List ℕ) (size : length l ≡ state
   hear-here = ap present first-word
 
   -- and votes as its record does, if its vote was not there
-  pub hear-vote : has (votesMask l r) p ≡ false → (n : ℕ) → n ≡ memberCount l → votes n (r - 1) (firsts (hear l r p body) r p) ≡ votes n (r - 1) body
+  pub hear-vote : has (votesMask l r) p ≡ false → (n : ℕ) → n ≡ memberCount l → votes n (r - 1) 0 (firsts (hear l r p body) r p) ≡ votes n (r - 1) 0 body
   unfolding strongOf
-  hear-vote h n e = ap (votes n (r - 1)) first-word ∙ go (which (votes n (r - 1) body))
+  hear-vote h n e = ap (votes n (r - 1) 0) first-word ∙ go (which (votes n (r - 1) 0 body))
     where
       same : n ≡ memberCount (hear l r p body)
       same = e ∙ sym (calm-members hear-calm)
 
-      bit : has (votesMask (hear l r p body) r) p ≡ has (cond (votes n (r - 1) body) (add (votesMask l r) p) (votesMask l r)) p
-      bit = ap (λ (x : ℕ). has x p) votes-mask ∙ ap (λ (x : ℕ). has (cond (votes x (r - 1) body) (add (votesMask l r) p) (votesMask l r)) p) (sym e)
+      bit : has (votesMask (hear l r p body) r) p ≡ has (cond (votes n (r - 1) 0 body) (add (votesMask l r) p) (votesMask l r)) p
+      bit = ap (λ (x : ℕ). has x p) votes-mask ∙ ap (λ (x : ℕ). has (cond (votes x (r - 1) 0 body) (add (votesMask l r) p) (votesMask l r)) p) (sym e)
 
-      go : (votes n (r - 1) body ≡ true) ⊎ (votes n (r - 1) body ≡ false)
-          → has (cond (has (votesMask (hear l r p body) r) p) (2 ^ leader (memberCount (hear l r p body)) (r - 1)) 0) (leader n (r - 1)) ≡ votes n (r - 1) body
+      go : (votes n (r - 1) 0 body ≡ true) ⊎ (votes n (r - 1) 0 body ≡ false)
+          → has (cond (has (votesMask (hear l r p body) r) p) (2 ^ leader (memberCount (hear l r p body)) (r - 1)) 0) (leader n (r - 1)) ≡ votes n
+          (r - 1) 0 body
       go (inl d) =
           let b : has (votesMask (hear l r p body) r) p ≡ true = bit ∙ rw d (has-add-same (votesMask l r) p) in
           ap (λ (c : Bool). has (cond c (2 ^ leader (memberCount (hear l r p body)) (r - 1)) 0) (leader n (r - 1))) b
@@ -308,16 +315,19 @@ module _ (l : List ℕ) (r p : ℕ) (body : List ℕ) (size : length l ≡ state
   put-size : length (putVertex l r p body) ≡ length l
   put-size = ap length put-is ∙ length-paste marked (cellAt r p) body bodySize fits (omega arith) ∙ mark-size
 
-  -- a word of a cell but this one
-  put-off : (j : ℕ) → cellsAt ≤ j → (cellAt r p ≤ j → j < cellAt r p + bodySize → ⊥) → getD (putVertex l r p body) j 0 ≡ getD l j 0
-  put-off j a h = ap (λ (x : List ℕ). getD x j 0) put-is ∙ go (which (ltb j (cellAt r p))) (which (ltb j (cellAt r p + bodySize)))
-      ∙ mark-other j (λ e. omega arith)
+  -- a word outside the cell
+  put-outside : (j : ℕ) → (cellAt r p ≤ j → j < cellAt r p + bodySize → ⊥) → getD (putVertex l r p body) j 0 ≡ getD marked j 0
+  put-outside j h = ap (λ (x : List ℕ). getD x j 0) put-is ∙ go (which (ltb j (cellAt r p))) (which (ltb j (cellAt r p + bodySize)))
     where
       go : (ltb j (cellAt r p) ≡ true) ⊎ (ltb j (cellAt r p) ≡ false) → (ltb j (cellAt r p + bodySize) ≡ true) ⊎ (ltb j (cellAt r p + bodySize) ≡ false)
           → getD (paste marked (cellAt r p) body bodySize) j 0 ≡ getD marked j 0
       go (inl e) d = paste-before marked (cellAt r p) body bodySize fits long j (ltb-true j (cellAt r p) e)
       go (inr e) (inl d) = absurd (h (ltb-false j (cellAt r p) e) (ltb-true j (cellAt r p + bodySize) d))
       go (inr e) (inr d) = paste-after marked (cellAt r p) body bodySize fits long j (ltb-false j (cellAt r p + bodySize) d)
+
+  -- a word of a cell but this one
+  put-off : (j : ℕ) → cellsAt ≤ j → (cellAt r p ≤ j → j < cellAt r p + bodySize → ⊥) → getD (putVertex l r p body) j 0 ≡ getD l j 0
+  put-off j a h = put-outside j h ∙ mark-other j (λ e. omega arith)
 
   -- the head stays
   pub put-head : (j : ℕ) → j < headSize → getD (putVertex l r p body) j 0 ≡ getD l j 0
@@ -328,7 +338,8 @@ module _ (l : List ℕ) (r p : ℕ) (body : List ℕ) (size : length l ≡ state
   put-calm = record {
     size = put-size;
     head = λ j a b. put-head j (omega arith);
-    lists = λ j a b. put-before j b ∙ mark-other j (λ e. omega arith);
+    lists = λ j a b. put-outside j (λ x y. omega arith) ∙ mark-other j (λ e. omega arith);
+    entries = λ j a b. put-before j (omega arith) ∙ mark-other j (λ e. omega arith);
   }
 
   -- the first messages stay
@@ -342,6 +353,7 @@ module _ (l : List ℕ) (r p : ℕ) (body : List ℕ) (size : length l ≡ state
   unfolding vertices
   put-here = cond-true _ _ (and-both (round-in r low high) (ap (λ (m : ℕ). has m p) (put-before (heldAt r) (omega arith) ∙ mark-here)
       ∙ has-add-same (heldMask l r) p))
+      ∙ cond-true _ _ (lt-ltb p slots few)
       ∙ ap (λ (x : List ℕ). take bodySize (drop (cellAt r p) x)) put-is ∙ paste-part marked (cellAt r p) body bodySize fits long
 
   -- any other stays, where no mask has a bit at 16 or above
@@ -349,7 +361,7 @@ module _ (l : List ℕ) (r p : ℕ) (body : List ℕ) (size : length l ≡ state
       → vertices (putVertex l r p body) s q ≡ vertices l s q
   unfolding vertices
   put-other small s q e = cond-cong (and-cong {a = isRound s} refl (λ d. let w = round-range s d in bit (w .0) (w .1) (which (eqb r s))))
-      (λ d. same d) refl
+      (λ d. ap (λ (x : List ℕ). cond (ltb q slots) x []) (same d)) refl
     where
       bit : 1 ≤ s → s ≤ rounds → (eqb r s ≡ true) ⊎ (eqb r s ≡ false) → has (heldMask (putVertex l r p body) s) q ≡ has (heldMask l s) q
       bit a b (inl d) =

@@ -63,9 +63,9 @@ takeVertex l rec = takeBody l (roundOf rec) (sourceOf rec) (bodyOf rec)
 abbrev pub firstQuestions : List ℕ → ℕ → ℕ → List ℕ → List Question
 firstQuestions l r p body = stateQuestions l ++ (recordQuestions (memberCount l) r p body ++ ((not (has (heardMask l r) p), Duplicate) ∷ []))
 
--- the source is heard, and in votes if the record votes for the previous round's leader
+-- the source is heard, and in votes if the record votes for the previous round's leader, its leader 0
 unfoldable pub hear : List ℕ → ℕ → ℕ → List ℕ → List ℕ
-hear l r p body = cond (votes (memberCount l) (r - 1) body) (addMember (addMember l (heardAt r) p) (votesAt r) p) (addMember l (heardAt r) p)
+hear l r p body = cond (votes (memberCount l) (r - 1) 0 body) (addMember (addMember l (heardAt r) p) (votesAt r) p) (addMember l (heardAt r) p)
 
 unfoldable pub takeFirstBody : List ℕ → ℕ → ℕ → List ℕ → Outcome
 takeFirstBody l r p body = outcome (firstNo (firstQuestions l r p body)) l (commitAll (hear l r p body))

@@ -8,7 +8,7 @@ use native.Mathlib.Omega.{arith}
 use lib.Dec.{eqb, ltb}
 use borrow.Author.Tests.{eqb-true, eqb-false, ltb-true, ltb-false, not-true}
 use Rattle.record.specs.Below.{least}
-use Rattle.record.specs.Members.{rounds, slots, votedRounds, has, idOf, idRound, idMember, idLimit}
+use Rattle.record.specs.Members.{rounds, slots, has, idOf, idRound, idMember, idLimit}
 use Rattle.record.specs.Refusals.{numberOf, missingNumber, firstNo}
 use Rattle.record.specs.Layout.{roundOf, sourceOf, bodyOf, timeoutsOf}
 use Rattle.record.specs.Questions.{recordRefusal}
@@ -26,15 +26,16 @@ use Rattle.replica.proofs.Words.{legal-pow}
 use Rattle.replica.proofs.Formed.{WellFormed}
 use Rattle.replica.proofs.Dags.{held-vertex, held-id}
 use Rattle.replica.proofs.ParentLaws.{parent-cases, parents-elim, weak-five}
-use Rattle.commits.specs.Commit.{commit, committable, lowest, commitUpTo, commitAll, raiseRound}
+use Rattle.commits.specs.Commit.{isReady, commitOnce, commitUpTo, mostCommits, commitAll, raiseRound}
 use Rattle.commits.proofs.Frame.{vertices-same}
 use Rattle.commits.proofs.Growing.{commit-vertices}
+use Rattle.commits.proofs.Repeating.{once}
 use Rattle.ordering.specs.Calls.{sameBody, placeQuestions, vertexQuestions, putVertex, takeBody, takeVertex}
 use Rattle.ordering.proofs.Turns.{PlaceKnown, place-known}
 use Rattle.ordering.proofs.Numbers.{number-yes, words-yes, number-no, words-no, vertex-yes}
 use Rattle.ordering.proofs.Writing.{Calm, raise-calm, raise-alike, calm-then, put-here, put-other}
 use Rattle.ordering.proofs.Marks.{formed-raise}
-use Rattle.ordering.proofs.Kept.{formed-commit, committable-round, formed-vertex}
+use Rattle.ordering.proofs.Kept.{formed-once, formed-vertex}
 use Rattle.ordering.proofs.Counts.{commits-grow}
 use Rattle.ordering.proofs.Own.{fixed-members, vertex-fixed}
 use Rattle.ordering.proofs.Carried.{written, VertexWritten, vertex-written, carry-alike}
@@ -44,18 +45,19 @@ use Rattle.pending.specs.Early.{fateOf, tryVertex}
 use Rattle.pending.proofs.Order.{admit}
 use Rattle.pending.proofs.Trying.{place-decides}
 
--- the vertices stay over the commits
+-- the vertices stay over the next commit
+once-vertices : (l : List ℕ) → WellFormed l → isReady l ≡ true → vertices (commitOnce l) ≡ vertices l
+once-vertices l S e = let w = once l (S .leaders .committed-high) e in rw (w .is) (commit-vertices l S (w .round) (w .seat) (w .ready))
+
+-- and over all of them
 commits-vertices : (k : ℕ) (l : List ℕ) → WellFormed l → vertices (commitUpTo l k) ≡ vertices l
 unfolding commitUpTo
 commits-vertices zero l S = refl
-commits-vertices (suc k) l S = go (which (ltb (lowest l) rounds)) (commits-vertices k (commit l (lowest l)))
+commits-vertices (suc k) l S = go (which (isReady l)) (commits-vertices k (commitOnce l))
   where
-    go : (ltb (lowest l) rounds ≡ true) ⊎ (ltb (lowest l) rounds ≡ false)
-        → (WellFormed (commit l (lowest l)) → vertices (commitUpTo (commit l (lowest l)) k) ≡ vertices (commit l (lowest l)))
+    go : (isReady l ≡ true) ⊎ (isReady l ≡ false) → (WellFormed (commitOnce l) → vertices (commitUpTo (commitOnce l) k) ≡ vertices (commitOnce l))
         → vertices (commitUpTo l (suc k)) ≡ vertices l
-    go (inl e) ih =
-        let w = committable-round l (lowest l) (least-sat rounds (committable l) (ltb-true _ _ e)) in
-        rw e (ih (formed-commit l S (lowest l) (w .0) (w .1) (w .3)) ∙ commit-vertices l S (lowest l) (w .0) (w .1) (w .3))
+    go (inl e) ih = rw e (ih (formed-once l S e) ∙ once-vertices l S e)
     go (inr e) ih = rw e
 
 -- ---- the state afterwards
@@ -99,7 +101,7 @@ module _ (l rec : List ℕ) (ok : numberOf (firstNo (vertexQuestions l (roundOf 
 
   same : vertices (commitAll raised) ≡ vertices put
   same =
-      commits-vertices votedRounds raised raised-formed ∙ vertices-same (raise-alike (written l (roundOf rec) (sourceOf rec) (bodyOf rec)))
+      commits-vertices mostCommits raised raised-formed ∙ vertices-same (raise-alike (written l (roundOf rec) (sourceOf rec) (bodyOf rec)))
       ∙ vertices-same (carry-alike put (roundOf rec) (timeoutsOf (bodyOf rec)) (W .admit .round-high))
 
   calm : Calm l raised
@@ -115,7 +117,7 @@ module _ (l rec : List ℕ) (ok : numberOf (firstNo (vertexQuestions l (roundOf 
   pub joined : Joined l rec (takeVertex l rec .words)
   joined =
       let A = W .admit in
-      let g = commits-grow votedRounds raised raised-formed in
+      let g = commits-grow mostCommits raised raised-formed in
       let a = calm .head leaderCountAt (omega arith) (λ e. omega arith) in
       let b = calm .head journalCountAt (omega arith) (λ e. omega arith) in
       record {

@@ -1,64 +1,106 @@
--- Growth of chains and journals from one committed round to a later one, agreement, and the safety theorem.
+-- Growth of chains and journals from one settled place to a later one, agreement, and the safety theorem.
 use mathlib.Core.Path.{_≡_, refl, ap, _∙_}
 use mathlib.Core.Bool.{Bool, true}
-use mathlib.Core.Logic.{inl, inr, ⊎-elim}
-use mathlib.Core.List.{List, [], _++_, map}
-use Prim.Native.Nat.{ℕ, zero, _≤_, _<_}
-use native.Mathlib.Nat.{eq-or-lt-of-le, eq-zero-or-pos}
+use mathlib.Core.Logic.{_⊎_, inl, inr, ⊎-elim}
+use mathlib.Core.List.{List, [], _++_}
+use Prim.Native.Nat.{ℕ, zero, _<_}
+use native.Mathlib.Nat.{eq-zero-or-pos}
 use native.Mathlib.Omega.{arith}
-use lib.Dec.{leb}
-use borrow.Author.Tests.{leb-true, leb-false}
-use Rattle.record.specs.Members.{leader}
-use Rattle.record.proofs.Booleans.{which}
-use Rattle.protocol.specs.Dag.{Dag, held, committed, last}
-use Rattle.protocol.specs.Chain.{chain, leaderId, leaders}
-use Rattle.protocol.specs.Journal.{extend, journal}
+use Rattle.record.specs.Members.{leaderAt}
+use Rattle.protocol.specs.Dag.{Dag, Within, held, last, direct}
+use Rattle.protocol.specs.Paths.{reaches}
+use Rattle.protocol.specs.Chain.{chain, leaders}
+use Rattle.protocol.specs.Journal.{extend, journalOf, journal}
 use Rattle.protocol.specs.Premises.{DagPremises}
-use Rattle.protocol.specs.Claims.{Prefix, Growth, Agreement, Safety}
+use Rattle.protocol.specs.Claims.{Prefix, Settled, Before, Growth, Agreement, Safety}
 use Rattle.protocol.proofs.Paths.{path-held, key}
-use Rattle.protocol.proofs.Commit.{committed-held, last-committed}
-use Rattle.protocol.proofs.Lists.{map-append}
-use Rattle.protocol.proofs.Chain.{chain-none, chain-split, chain-same}
-use Rattle.protocol.proofs.Journal.{extend-none, extend-append, extend-prefix, chain-journal}
+use Rattle.protocol.proofs.Commit.{settled-backed, settled-held, settled-low, settled-none, last-settled, before-total, last-grows}
+use Rattle.protocol.proofs.Chain.{chain-self, chain-split, chain-longer, chain-same, chain-held}
+use Rattle.protocol.proofs.Journal.{extend-none, extend-append, extend-prefix, extend-same}
 
-module _ (n : ℕ) {I : Type 0} (dag : I → Dag) (honest : ℕ → Bool) (P : DagPremises n dag honest) where
-  -- what one DAG commits, every DAG with a later leader's vertex holds
-  pub committed-there : (i j : I) (c q : ℕ) → zero < c → c ≤ q → committed n (dag i) c ≡ true → held (dag j .vertex) q (leader n q) ≡ true
-      → held (dag j .vertex) c (leader n c) ≡ true
-  committed-there i j c q pos l hc hq =
-      ⊎-elim (λ e. rw e hq) (λ k. path-held n (dag j .vertex) q _ c _ (key n dag honest P i j c q pos hc k hq)) (eq-or-lt-of-le l)
+module _ (n m : ℕ) {I : Type 0} (dag : I → Dag) (honest : ℕ → Bool) (P : DagPremises n m dag honest) where
+  -- the main leader's vertex of a settled place is held
+  main-held : (i : I) (c a : ℕ) → Settled n m (dag i) c a → zero < c → held (dag i .vertex) c (leaderAt n c 0) ≡ true
+  main-held i c a S pos = settled-held n m (dag i) c a S 0 (S .some pos)
 
-  -- The chain and the journal of a committed round grow, in any DAG, to those of a later one.
-  pub growth : Growth n dag
-  growth i j c q hc hq l = ⊎-elim
-      (λ e. rw (e, chain-none n (dag i .vertex) 0 0 (omega arith), extend-none n (dag i .vertex) []) (refl, refl))
-      (λ pos.
-      let v = dag i .vertex in
-      let w = dag j .vertex in
-      let hi : held v c (leader n c) ≡ true = committed-held n (dag i) c (hc pos) in
-      let hq′ : held w q (leader n q) ≡ true = committed-held n (dag j) q (hq (omega arith)) in
-      let hj : held w c (leader n c) ≡ true = committed-there i j c q pos l (hc pos) hq′ in
-      let split : chain n w 0 q ≡ chain n w 0 c ++ chain n w c q = chain-split n w 0 c pos (λ r m g. key n dag honest P i j c r pos (hc pos) m g) q l hq′ in (
-        split ∙ ap (λ (x : List ℕ). x ++ chain n w c q) (chain-same n dag honest P j i 0 c hj hi),
-        ap (extend n w []) split ∙ extend-append n w [] (chain n w 0 c) (chain n w c q)
-            ∙ ap (λ (x : List ℕ). extend n w x (chain n w c q)) (chain-journal n dag honest P j i c hj hi),
-      ))
-      (eq-zero-or-pos c)
+  -- paths lead to the leaders of a settled place from every later main leader's vertex, in every DAG
+  settled-reached : (i j : I) (c a : ℕ) → Settled n m (dag i) c a → zero < c → (r x : ℕ) → x < a → c < r → held (dag j .vertex) r (leaderAt n r 0) ≡ true
+      → reaches n (dag j .vertex) r c x ≡ true
+  settled-reached i j c a S pos r x lx l h = key n m dag honest P i j c x r pos (omega (arith, settled-low n m (dag i) c a S))
+      (settled-backed n m (dag i) c a S x lx) l h
 
-  -- the lists of two DAGs, where the second one's last round is no earlier
-  pub ordered : (i j : I) → last n (dag i) ≤ last n (dag j)
-      → Prefix (leaders n (dag i)) (leaders n (dag j)) × Prefix (journal n (dag i)) (journal n (dag j))
-  ordered i j l =
-      let g = growth i j _ _ (last-committed n (dag i)) (last-committed n (dag j)) l in
-      let more = extend-prefix n (dag j .vertex) (journal n (dag i)) (chain n (dag j .vertex) (last n (dag i)) (last n (dag j))) in
-      ((_, ap (map (leaderId n)) (g .0) ∙ map-append (leaderId n) (chain n (dag i .vertex) 0 (last n (dag i))) _), (more .0, g .1 ∙ more .1))
+  -- what is settled in one DAG, every DAG that has a settled place not before it holds
+  pub settled-there : (i j : I) (c a q b : ℕ) → Settled n m (dag i) c a → Settled n m (dag j) q b → Before c a q b → zero < c
+      → (x : ℕ) → x < a → held (dag j .vertex) c (leaderAt n c x) ≡ true
+  settled-there i j c a q b S T (inl l) pos x lx = path-held n (dag j .vertex) q _ c _
+      (settled-reached i j c a S pos q x lx l (main-held j q b T (omega arith)))
+  settled-there i j c a q b S T (inr w) pos x lx = rw (w .0) (settled-held n m (dag j) q b T x (omega (arith, w .1)))
 
-  -- the later last round has the longer lists
-  pub agreement : Agreement n dag
-  agreement i j = ⊎-elim
-      (λ e. inl (ordered i j (leb-true _ _ e))) (λ e. inr (ordered j i (omega (arith, leb-false (last n (dag i)) (last n (dag j)) e))))
-      (which (leb (last n (dag i)) (last n (dag j))))
+  -- two DAGs that hold the first a leaders of round c make the same chain and the same journal of that place
+  module _ (i j : I) (c a : ℕ) (pos : zero < c) (some : zero < a)
+      (hi : (x : ℕ) → x < a → held (dag i .vertex) c (leaderAt n c x) ≡ true) (hj : (x : ℕ) → x < a → held (dag j .vertex) c (leaderAt n c x) ≡ true) where
+    place-chain : chain n m (dag i .vertex) 0 0 c a ≡ chain n m (dag j .vertex) 0 0 c a
+    place-chain = chain-same n m dag honest P i j 0 0 c a (hi 0 some) (hj 0 some)
+
+    place-journal : journalOf n m (dag i .vertex) c a ≡ journalOf n m (dag j .vertex) c a
+    place-journal =
+        extend-same n m dag honest P i j [] (chain n m (dag i .vertex) 0 0 c a)
+        (λ y e. chain-held n m (dag i .vertex) (P .members) 0 0 c a y (omega arith) hi e .0)
+        (λ y e. chain-held n m (dag j .vertex) (P .members) 0 0 c a y (omega arith) hj (rw place-chain at e) .0)
+        ∙ ap (extend n (dag j .vertex) []) place-chain
+
+  -- in one DAG, the chain of a later place begins with that of a settled one
+  split : (i j : I) (c a q b : ℕ) → Settled n m (dag i) c a → Settled n m (dag j) q b → Before c a q b → zero < c
+      → chain n m (dag j .vertex) 0 0 q b ≡ chain n m (dag j .vertex) 0 0 c a ++ chain n m (dag j .vertex) c a q b
+  split i j c a q b S T (inl l) pos =
+      chain-split n m (dag j .vertex) c a pos (S .some pos) (settled-low n m (dag i) c a S) (settled-reached i j c a S pos) q b l
+      (main-held j q b T (omega arith))
+  split i j c a q b S T (inr w) pos = rw (w .0) (chain-longer n m (dag j .vertex) q a b (omega (arith, w .0)) (w .1))
+
+  -- The chain and the journal of a settled place grow, in any DAG, to those of a later one.
+  pub growth : Growth n m dag
+  growth i j c a q b S T B = ⊎-elim (λ e. from-none e) (λ pos. from pos) (eq-zero-or-pos c)
+    where
+      -- from the place (0, 0)
+      from-none : c ≡ 0
+          → (chain n m (dag j .vertex) 0 0 q b ≡ chain n m (dag i .vertex) 0 0 c a ++ chain n m (dag j .vertex) c a q b)
+          × (journalOf n m (dag j .vertex) q b ≡ extend n (dag j .vertex) (journalOf n m (dag i .vertex) c a) (chain n m (dag j .vertex) c a q b))
+      from-none e =
+          let z : a ≡ 0 = settled-none n m (dag i) a (rw e at S) in
+          rw (e, z, chain-self n m (dag i .vertex) 0 0, extend-none n (dag i .vertex) []) (refl, refl)
+
+      from : zero < c
+          → (chain n m (dag j .vertex) 0 0 q b ≡ chain n m (dag i .vertex) 0 0 c a ++ chain n m (dag j .vertex) c a q b)
+          × (journalOf n m (dag j .vertex) q b ≡ extend n (dag j .vertex) (journalOf n m (dag i .vertex) c a) (chain n m (dag j .vertex) c a q b))
+      from pos =
+          let w = dag j .vertex in
+          let added = chain n m w c a q b in
+          let hi = settled-held n m (dag i) c a S in
+          let hj = settled-there i j c a q b S T B pos in
+          let s : chain n m w 0 0 q b ≡ chain n m w 0 0 c a ++ added = split i j c a q b S T B pos in (
+            s ∙ ap (λ (x : List ℕ). x ++ added) (place-chain j i c a pos (S .some pos) hj hi),
+            ap (extend n w []) s ∙ extend-append n w [] (chain n m w 0 0 c a) added
+                ∙ ap (λ (x : List ℕ). extend n w x added) (place-journal j i c a pos (S .some pos) hj hi),
+          )
+
+  -- the lists of two DAGs, where the second one's last place is not before the first one's
+  pub ordered : (i j : I) → Before (last n (dag i)) (direct n m (dag i) (last n (dag i))) (last n (dag j)) (direct n m (dag j) (last n (dag j)))
+      → Prefix (leaders n m (dag i)) (leaders n m (dag j)) × Prefix (journal n m (dag i)) (journal n m (dag j))
+  ordered i j B =
+      let g = growth i j _ _ _ _ (last-settled n m (dag i) (P .main-leader)) (last-settled n m (dag j) (P .main-leader)) B in
+      let more = extend-prefix n (dag j .vertex) (journal n m (dag i))
+      (chain n m (dag j .vertex) (last n (dag i)) (direct n m (dag i) (last n (dag i))) (last n (dag j)) (direct n m (dag j) (last n (dag j)))) in
+      ((_, g .0), (more .0, g .1 ∙ more .1))
+
+  -- the later last place has the longer lists
+  pub agreement : Agreement n m dag
+  agreement i j = ⊎-elim (λ B. inl (ordered i j B)) (λ B. inr (ordered j i B))
+      (before-total (last n (dag i)) (direct n m (dag i) (last n (dag i))) (last n (dag j)) (direct n m (dag j) (last n (dag j))))
+
+  -- a member's lists only grow as it gains records
+  pub lists-grow : (i j : I) → Within (dag i) (dag j) → Prefix (leaders n m (dag i)) (leaders n m (dag j)) × Prefix (journal n m (dag i)) (journal n m (dag j))
+  lists-grow i j W = ordered i j (last-grows n (dag i) (dag j) W m)
 
 -- The safety theorem.
 pub safety : Safety
-safety n I dag honest P = (key n dag honest P, growth n dag honest P, agreement n dag honest P)
+safety n m I dag honest P = (key n m dag honest P, growth n m dag honest P, agreement n m dag honest P)

@@ -1,65 +1,265 @@
--- What the crates above cite beside the laws of the other modules: DAGs that hold the same, and the lengths of the lists.
-use mathlib.Core.Path.{_≡_, sym, _∙_, ap, fun-ext}
+-- What the crates above cite beside the laws of the other modules: DAGs that hold the same, the lengths of the lists, and the places a chain goes through.
+use mathlib.Core.Path.{_≡_, sym, _∙_, ap, ap₂, fun-ext, subst}
 use mathlib.Core.Bool.{Bool, true, false, not, _&&_}
 use mathlib.Core.Logic.{_⊎_, inl, inr, ⊎-elim}
-use mathlib.Core.List.{List}
-use Prim.Native.Nat.{ℕ, suc, _+_, _-_, _*_, _≤_, _<_}
+use mathlib.Core.List.{List, [], _∷_, _++_}
+use Prim.Native.Nat.{ℕ, zero, suc, _+_, _-_, _*_, _≤_, _<_}
+use native.Mathlib.Nat.{eq-or-lt-of-le, mul-suc}
+use native.Mathlib.Numerals.{sub-one}
 use native.Mathlib.Omega.{arith}
 use lib.Dec.{leb}
-use lib.ListN.{length, getD}
+use lib.ListN.{length, getD, length-append}
 use borrow.Author.Tests.{leb-true, leb-false}
 use Rattle.record.specs.Below.{select}
-use Rattle.record.specs.Members.{legal, leader, has, idRound, idMember, idLimit, slots}
+use Rattle.record.specs.Members.{legal, has, idRound, idMember, leaderAt, idLimit, votedRounds}
 use Rattle.record.proofs.Booleans.{which, never}
 use Rattle.record.proofs.Below.{select-cong}
-use Rattle.protocol.specs.Dag.{Records, held}
-use Rattle.protocol.specs.Paths.{history}
-use Rattle.protocol.specs.Chain.{chain}
-use Rattle.protocol.specs.Journal.{among, fresh}
+use Rattle.protocol.specs.Dag.{Records, Dag, held, votes, backed, last, direct}
+use Rattle.protocol.specs.Paths.{path, history, reaches}
+use Rattle.protocol.specs.Chain.{leaderId, seats, span, walk, chain, leaders}
+use Rattle.protocol.specs.Journal.{among, fresh, extend, journal}
 use Rattle.protocol.specs.Premises.{ValidVertices}
+use Rattle.protocol.specs.Claims.{Settled, Before}
 use Rattle.protocol.specs.Masks.{historyMasks}
-use Rattle.protocol.proofs.Lists.{among-none, rising-among, rising-length, once, once-span}
-use Rattle.protocol.proofs.Chain.{chain-none, chain-rising}
-use Rattle.protocol.proofs.History.{Named, history-held}
-use Rattle.protocol.proofs.Masks.{history-claim}
+use Rattle.record.proofs.Longest.{longest-le, longest-some}
+use Rattle.protocol.proofs.Commit.{up-to-cong, direct-cong, up-to-backed, up-to-highest, last-low, settled-backed}
+use Rattle.protocol.proofs.Lists.{once, once-span}
+use Rattle.protocol.proofs.Chain.{seats-none, seats-more, walk-none, walk-stop, walk-skip, walk-take, walk-last, chain-here, chain-some, chain-held}
+use Rattle.protocol.proofs.Journal.{extend-new}
 use Rattle.record.proofs.Rounds.{id-same}
+use Rattle.protocol.proofs.History.{Named, named-up, history-held}
+use Rattle.protocol.proofs.Masks.{history-claim}
 
 -- two vertex functions that agree everywhere are the same
 pub records-ext : (v w : Records) → ((r p : ℕ) → v r p ≡ w r p) → v ≡ w
 records-ext v w h = fun-ext (λ r. fun-ext (λ p. h r p))
 
--- ---- chains and journals of a held leader's vertex
+module _ (n m : ℕ) (v w : Records) (h : (r p : ℕ) → v r p ≡ w r p) where
+  -- they have the same paths, histories, walks, chains and journals
+  pub path-cong : (r p t q : ℕ) → path n v r p t q ≡ path n w r p t q
+  path-cong r p t q = ap (λ (x : Records). path n x r p t q) (records-ext v w h)
 
-module _ (n : ℕ) (v : Records) where
-  -- a chain has at most one leader a round
-  pub chain-length : (low q : ℕ) → low ≤ q → low + length (chain n v low q) ≤ q
-  chain-length low q l = rising-length low q (chain n v low q) (chain-rising n v low q l)
+  pub history-cong : (r p y : ℕ) → history n v r p y ≡ history n w r p y
+  history-cong r p y = ap (λ (x : Records). history n x r p y) (records-ext v w h)
 
-  -- its rounds are above low and at most q
-  pub chain-bounds : (low q r : ℕ) → among (chain n v low q) r ≡ true → (low < r) × (r ≤ q)
-  chain-bounds low q r e = go (which (leb low q))
+  pub walk-cong : (c a r t : ℕ) → walk n m v c a r t ≡ walk n m w c a r t
+  walk-cong c a r t = ap (λ (x : Records). walk n m x c a r t) (records-ext v w h)
+
+  pub chain-cong : (c a q b : ℕ) → chain n m v c a q b ≡ chain n m w c a q b
+  chain-cong c a q b = ap (λ (x : Records). chain n m x c a q b) (records-ext v w h)
+
+  pub fresh-cong : (j : List ℕ) (y : ℕ) → fresh n v j y ≡ fresh n w j y
+  fresh-cong j y = ap (λ (x : Records). fresh n x j y) (records-ext v w h)
+
+  pub extend-cong : (j ids : List ℕ) → extend n v j ids ≡ extend n w j ids
+  extend-cong j ids = ap (λ (x : Records). extend n x j ids) (records-ext v w h)
+
+  pub well-formed-cong : ValidVertices n v → ValidVertices n w
+  well-formed-cong = subst (λ (x : Records). ValidVertices n x) (records-ext v w h)
+
+-- two DAGs with the same vertices, and the same votes of first messages, have the same lists
+module _ (n m : ℕ) (some : 1 ≤ m) (d e : Dag) (same : (r p : ℕ) → d .vertex r p ≡ e .vertex r p)
+    (alike : (r x p : ℕ) → x < m → votes n r x (d .first (suc r) p) ≡ votes n r x (e .first (suc r) p)) where
+  pub last-cong : last n d ≡ last n e
+  last-cong = up-to-cong n m some d e same alike votedRounds
+
+  pub last-direct-cong : direct n m d (last n d) ≡ direct n m e (last n e)
+  last-direct-cong = direct-cong n m some d e same alike (last n d) ∙ ap (direct n m e) last-cong
+
+  pub leaders-cong : leaders n m d ≡ leaders n m e
+  leaders-cong = chain-cong n m (d .vertex) (e .vertex) same 0 0 (last n d) (direct n m d (last n d))
+      ∙ ap₂ (λ (q : ℕ) (b : ℕ). chain n m (e .vertex) 0 0 q b) last-cong last-direct-cong
+
+  pub journal-cong : journal n m d ≡ journal n m e
+  journal-cong = extend-cong n m (d .vertex) (e .vertex) same [] (leaders n m d) ∙ ap (extend n (e .vertex) []) leaders-cong
+
+-- a settled place from which nothing more is ready is the last one
+pub last-place : (n m : ℕ) (d : Dag) (c a : ℕ) → 1 ≤ m → c ≤ votedRounds → Settled n m d c a → direct n m d c ≤ a
+    → ((q : ℕ) → c < q → q ≤ votedRounds → backed n d q 0 ≡ false)
+    → (c ≡ last n d) × (a ≡ direct n m d (last n d))
+last-place n m d c a lm lc S full none = (same, full-run)
+  where
+    -- the last round is no higher, for its main leader is backed
+    low : last n d ≤ c
+    low = ⊎-elim
+        (λ e. leb-true (last n d) c e)
+        (λ e. let l : c < last n d = leb-false (last n d) c e in
+        never (up-to-backed n d votedRounds (omega arith)) (none (last n d) l (last-low n d)))
+        (which (leb (last n d) c))
+
+    -- and no lower
+    high : c ≤ last n d
+    high = ⊎-elim
+        (λ e. omega (arith, leb-true c 0 e))
+        (λ e. let l : 0 < c = leb-false c 0 e in up-to-highest n d votedRounds c l lc (settled-backed n m d c a S 0 (S .some l)))
+        (which (leb c 0))
+
+    same : c ≡ last n d
+    same = omega (arith, low, high)
+
+    full-run : a ≡ direct n m d (last n d)
+    full-run = rw (← same) (omega (arith, full, S .committed))
+
+-- ---- chains and journals of held leaders' vertices
+
+module _ (n m : ℕ) (v : Records) where
+  -- leaders a to b - 1 of a round
+  pub seats-length : (r a b : ℕ) → a ≤ b → a + length (seats n r a b) ≡ b
+  seats-length r a zero l = rw (seats-none n r a zero (omega arith)) (omega arith)
+  seats-length r a (suc b) l = step (eq-or-lt-of-le l) (seats-length r a b)
     where
-      go : (leb low q ≡ true) ⊎ (leb low q ≡ false) → (low < r) × (r ≤ q)
-      go (inl c) = rising-among low q (chain n v low q) r (chain-rising n v low q (leb-true low q c)) e
-      go (inr c) = never (rw (chain-none n v low q (omega (arith, leb-false low q c))) at e) (among-none r)
+      step : (a ≡ suc b) ⊎ (a < suc b) → (a ≤ b → a + length (seats n r a b) ≡ b) → a + length (seats n r a (suc b)) ≡ suc b
+      step (inl e) ih = rw (seats-none n r a (suc b) (omega arith)) (omega arith)
+      step (inr k) ih = rw (seats-more n r a b (omega arith), length-append (seats n r a b) (leaderId n r b ∷ [])) (omega (arith, ih (omega arith)))
+
+  seats-few : (r a b k : ℕ) → a ≤ k → b ≤ k → a + length (seats n r a b) ≤ k
+  seats-few r a b k la lb = ⊎-elim
+      (λ e. omega (arith, seats-length r a b (leb-true a b e)))
+      (λ e. rw (seats-none n r a b (omega (arith, leb-false a b e))) (omega arith))
+      (which (leb a b))
+
+  -- of m leaders a round, from the place (c, a) on, there are at most those of the places in between
+  pub walk-length : (c a r t : ℕ) → a ≤ m → c ≤ t → m * c + a + length (walk n m v c a r t) ≤ m * t + m
+  walk-length c a r zero la l = let z : c ≡ 0 = omega arith in rw (walk-none n m v c a r, z) (omega arith)
+  walk-length c a r (suc t) la l = go (eq-or-lt-of-le l) (which (reaches n v r (suc t) 0)) (λ r′ l′. walk-length c a r′ t la l′)
+    where
+      spans : span n m v r (suc t) ≤ m
+      spans = longest-le m (reaches n v r (suc t))
+
+      more : m * suc t ≡ m * t + m
+      more = mul-suc m t
+
+      go : (c ≡ suc t) ⊎ (c < suc t) → (reaches n v r (suc t) 0 ≡ true) ⊎ (reaches n v r (suc t) 0 ≡ false)
+          → ((r′ : ℕ) → c ≤ t → m * c + a + length (walk n m v c a r′ t) ≤ m * t + m) → m * c + a + length (walk n m v c a r (suc t)) ≤ m * suc t + m
+      go (inl e) (inl d) ih = rw (e, walk-last n m v a r t d) (omega (arith, seats-few (suc t) a (span n m v r (suc t)) m la spans))
+      go (inl e) (inr d) ih = rw (walk-skip n m v c a r t d, walk-stop n m v c a r t (omega arith), e) (omega arith)
+      go (inr k) (inl d) ih =
+          rw (walk-take n m v c a r t k d, length-append (walk n m v c a (suc t) t) (seats n (suc t) 0 (span n m v r (suc t))))
+          (omega (arith, more, ih (suc t) (omega arith), seats-few (suc t) 0 (span n m v r (suc t)) m (omega arith) spans))
+      go (inr k) (inr d) ih = rw (walk-skip n m v c a r t d) (omega (arith, more, ih r (omega arith)))
+
+  pub chain-length : (c a q b : ℕ) → a ≤ m → Before c a q b → m * c + a + length (chain n m v c a q b) ≤ m * q + b
+  chain-length c a q b la (inr w) = rw (w .0, chain-here n m v q a b) (omega (arith, seats-length q a b (w .1)))
+  chain-length c a zero b la (inl l) = absurd (omega arith)
+  chain-length c a (suc q) b la (inl l) =
+      rw (chain-some n m v c a (suc q) b l, length-append (walk n m v c a (suc q) (suc q - 1)) (seats n (suc q) 0 b))
+      (omega (arith, mul-suc m q, below, seats-length (suc q) 0 b (omega arith)))
+    where
+      below : m * c + a + length (walk n m v c a (suc q) (suc q - 1)) ≤ m * q + m
+      below = rw (sub-one (suc q)) (walk-length c a (suc q) q la (omega arith))
+
+  -- what a chain adds to a journal is held, of rounds 1 to q
+  pub extend-named : legal n ≡ true → ValidVertices n v → (j : List ℕ) (c a q b y : ℕ) → c ≤ q → ((x : ℕ) → x < b → held v q (leaderAt n q x) ≡ true)
+      → among (extend n v j (chain n m v c a q b)) y ≡ true → (among j y ≡ true) ⊎ Named n v q y
+  extend-named g W j c a q b y l h e = ⊎-elim (λ d. inl d) (λ d. inr (new (extend-new n v j (chain n m v c a q b) y e d))) (which (among j y))
+    where
+      new : (x : ℕ) × (among (chain n m v c a q b) x ≡ true) × (history n v (idRound x) (idMember x) y ≡ true) × (y < idLimit) → Named n v q y
+      new w =
+          let k = chain-held n m v g c a q b (w .0) l h (w .1) in
+          named-up n v (idRound (w .0)) q y (k .2) (history-held n v g W (idRound (w .0)) (idMember (w .0)) y (k .0) (w .2))
 
   -- a journal of ids of rounds 1 to q, each once, has at most 16 q
-  pub journal-length : (j : List ℕ) (q : ℕ) → once j ≡ true → ((y : ℕ) → among j y ≡ true → Named n v q y) → length j ≤ slots * q
+  pub journal-length : (j : List ℕ) (q : ℕ) → once j ≡ true → ((y : ℕ) → among j y ≡ true → Named n v q y) → length j ≤ 16 * q
   journal-length j q p h =
-      omega (arith, once-span slots (slots * suc q) j (omega arith) p (λ y e. let N = h y e in (omega (arith, N .low), omega (arith, N .high))))
+      omega (arith, once-span 16 (16 * suc q) j (omega arith) p (λ y e. let N = h y e in (omega (arith, N .low), omega (arith, N .high))))
+
+-- ---- the places that a chain goes through
+
+-- From the place (c, a) by the ids of the list to the place (q, b), of m leaders a round: each id is of the next leader of the round of the last, or of a later
+-- round's main leader.
+pub data Turns (n m : ℕ) : ℕ → ℕ → List ℕ → ℕ → ℕ → Type 0 where
+  stay : {q b : ℕ} → Turns n m q b [] q b
+  same : {c a q b : ℕ} {l : List ℕ} → a < m → Turns n m c (suc a) l q b → Turns n m c a (leaderId n c a ∷ l) q b
+  next : {c a q b : ℕ} {l : List ℕ} (r : ℕ) → c < r → Turns n m r 1 l q b → Turns n m c a (leaderId n r 0 ∷ l) q b
+
+module _ (n m : ℕ) (v : Records) where
+  -- one list after another
+  pub turns-append : {c a r x q b : ℕ} {l k : List ℕ} → Turns n m c a l r x → Turns n m r x k q b → Turns n m c a (l ++ k) q b
+  turns-append stay t = t
+  turns-append (same k s) t = same k (turns-append s t)
+  turns-append (next r l s) t = next r l (turns-append s t)
+
+  -- more leaders of a round
+  pub turns-more : (r a b : ℕ) → a ≤ b → b ≤ m → Turns n m r a (seats n r a b) r b
+  turns-more r a zero l few = let e : a ≡ zero = omega arith in rw (seats-none n r a zero (omega arith), e) stay
+  turns-more r a (suc b) l few = go (eq-or-lt-of-le l) (λ k. turns-more r a b k (omega arith))
+    where
+      go : (a ≡ suc b) ⊎ (a < suc b) → (a ≤ b → Turns n m r a (seats n r a b) r b) → Turns n m r a (seats n r a (suc b)) r (suc b)
+      go (inl e) ih = rw (seats-none n r a (suc b) (omega arith), e) stay
+      go (inr k) ih = rw (seats-more n r a b (omega arith)) (turns-append (ih (omega arith)) (same few stay))
+
+  -- the first leaders of a later round
+  pub turns-later : (c a r b : ℕ) → c < r → zero < b → b ≤ m → Turns n m c a (seats n r 0 b) r b
+  turns-later c a r zero l p few = absurd (omega arith)
+  turns-later c a r (suc b) l p few = go (which (leb b 0)) (λ k. turns-later c a r b l k (omega arith))
+    where
+      go : (leb b 0 ≡ true) ⊎ (leb b 0 ≡ false) → (zero < b → Turns n m c a (seats n r 0 b) r b) → Turns n m c a (seats n r 0 (suc b)) r (suc b)
+      go (inl e) ih =
+          let z : b ≡ 0 = omega (arith, leb-true b 0 e) in
+          rw (seats-more n r 0 b (omega arith), z, seats-none n r 0 0 (omega arith)) (next r l stay)
+      go (inr e) ih = rw (seats-more n r 0 b (omega arith)) (turns-append (ih (leb-false b 0 e)) (same few stay))
+
+  -- a walk goes on from the last taken by turns
+  pub turns-walk : 1 ≤ m → (c a r t : ℕ) → c ≤ t → (s x : ℕ) × (s ≤ t) × Turns n m c a (walk n m v c a r t) s x
+  turns-walk lm c a r zero l = (c, a, l, rw (walk-none n m v c a r) stay)
+  turns-walk lm c a r (suc t) l = go (eq-or-lt-of-le l) (which (reaches n v r (suc t) 0)) (λ r′ l′. turns-walk lm c a r′ t l′)
+    where
+      go : (c ≡ suc t) ⊎ (c < suc t) → (reaches n v r (suc t) 0 ≡ true) ⊎ (reaches n v r (suc t) 0 ≡ false)
+          → ((r′ : ℕ) → c ≤ t → (s x : ℕ) × (s ≤ t) × Turns n m c a (walk n m v c a r′ t) s x) → (s x : ℕ) × (s ≤ suc t)
+          × Turns n m c a (walk n m v c a r (suc t)) s x
+      go (inl e) (inl d) ih = rest (which (leb a (span n m v r (suc t))))
+        where
+          rest : (leb a (span n m v r (suc t)) ≡ true) ⊎ (leb a (span n m v r (suc t)) ≡ false) → (s x : ℕ) × (s ≤ suc t)
+              × Turns n m c a (walk n m v c a r (suc t)) s x
+          rest (inl k) = (
+            suc t,
+            span n m v r (suc t),
+            omega arith,
+            rw (e, walk-last n m v a r t d)
+                (turns-more (suc t) a (span n m v r (suc t)) (leb-true _ _ k) (longest-le m (reaches n v r (suc t)))),
+          )
+          rest (inr k) = (
+            c,
+            a,
+            l,
+            rw (
+              e,
+              walk-last n m v a r t d,
+              seats-none n (suc t) a (span n m v r (suc t))
+                  (omega (arith, leb-false a (span n m v r (suc t)) k)),
+            ) stay,
+          )
+      go (inl e) (inr d) ih = (c, a, l, rw (walk-skip n m v c a r t d, walk-stop n m v c a r t (omega arith)) stay)
+      go (inr k) (inl d) ih =
+          let w = ih (suc t) (omega arith) in (
+            suc t,
+            span n m v r (suc t),
+            omega arith,
+            rw (walk-take n m v c a r t k d) (turns-append (w .3)
+                (turns-later (w .0) (w .1) (suc t) (span n m v r (suc t)) (omega (arith, w .2)) (longest-some m (reaches n v r (suc t)) lm d)
+                (longest-le m (reaches n v r (suc t))))),
+          )
+      go (inr k) (inr d) ih = let w = ih r (omega arith) in (w .0, w .1, omega (arith, w .2), rw (walk-skip n m v c a r t d) (w .3))
+
+  -- and a chain by turns from one place to the other: by rising round, and in a round the leaders 0, 1, .. in turn without a gap
+  pub turns-chain : 1 ≤ m → (c a q b : ℕ) → Before c a q b → zero < b → b ≤ m → Turns n m c a (chain n m v c a q b) q b
+  turns-chain lm c a q b (inl l) p few =
+      let w = turns-walk lm c a q (q - 1) (omega arith) in
+      rw (chain-some n m v c a q b l) (turns-append (w .3) (turns-later (w .0) (w .1) q b (omega (arith, w .2)) p few))
+  turns-chain lm c a q b (inr w) p few = rw (w .0, chain-here n m v q a b) (turns-more q a b (w .1) few)
 
 -- what is fresh, by the masks of the history
-pub fresh-masks : (n : ℕ) (v : Records) → legal n ≡ true → ValidVertices n v → (j : List ℕ) (r : ℕ) → held v r (leader n r) ≡ true
-    → fresh n v j r
-    ≡ select idLimit (λ y. not (among j y) && (leb 1 (idRound y) && has (getD (historyMasks n v r (leader n r)) (idRound y - 1) 0) (idMember y)))
+pub fresh-masks : (n : ℕ) (v : Records) → legal n ≡ true → ValidVertices n v → (j : List ℕ) (x : ℕ) → held v (idRound x) (idMember x) ≡ true
+    → fresh n v j x ≡ select idLimit (λ y. not (among j y) &&
+    (leb 1 (idRound y) && has (getD (historyMasks n v (idRound x) (idMember x)) (idRound y - 1) 0) (idMember y)))
 unfolding fresh
-fresh-masks n v g W j r h = select-cong idLimit _ _ (λ y l. ap (λ (b : Bool). not (among j y) && b) (same y l (which (leb 1 (idRound y)))))
+fresh-masks n v g W j x h = select-cong idLimit _ _ (λ y l. ap (λ (b : Bool). not (among j y) && b) (alike y l (which (leb 1 (idRound y)))))
   where
-    same : (y : ℕ) → y < idLimit → (leb 1 (idRound y) ≡ true) ⊎ (leb 1 (idRound y) ≡ false)
-        → history n v r (leader n r) y ≡ (leb 1 (idRound y) && has (getD (historyMasks n v r (leader n r)) (idRound y - 1) 0) (idMember y))
-    same y l (inl e) =
-        rw e (ap (history n v r (leader n r)) (sym (id-same y))
-        ∙ sym (history-claim n v g W r (leader n r) h (idRound y) (idMember y) (leb-true 1 (idRound y) e) (omega arith) (omega arith)))
-    same y l (inr e) = rw e (⊎-elim
-        (λ d. absurd (omega (arith, leb-false 1 (idRound y) e, history-held n v g W r (leader n r) y h d .low))) (λ d. d)
-        (which (history n v r (leader n r) y)))
+    alike : (y : ℕ) → y < idLimit → (leb 1 (idRound y) ≡ true) ⊎ (leb 1 (idRound y) ≡ false)
+        → history n v (idRound x) (idMember x) y ≡ (leb 1 (idRound y) && has (getD (historyMasks n v (idRound x) (idMember x)) (idRound y - 1) 0) (idMember y))
+    alike y l (inl e) =
+        rw e (ap (history n v (idRound x) (idMember x)) (sym (id-same y))
+        ∙ sym (history-claim n v g W (idRound x) (idMember x) h (idRound y) (idMember y) (leb-true 1 (idRound y) e) (omega arith) (omega arith)))
+    alike y l (inr e) = rw e (⊎-elim
+        (λ d. absurd (omega (arith, leb-false 1 (idRound y) e, history-held n v g W (idRound x) (idMember x) y h d .low))) (λ d. d)
+        (which (history n v (idRound x) (idMember x) y)))

@@ -4,8 +4,8 @@ use mathlib.Core.List.{List, [], _∷_, _++_}
 use Prim.Native.Nat.{ℕ}
 use lib.Dec.{eqb}
 use Rattle.record.specs.Below.{select}
-use Rattle.record.specs.Members.{leader, idLimit, rounds}
-use Rattle.protocol.specs.Dag.{Records, Dag, last}
+use Rattle.record.specs.Members.{idRound, idMember, idLimit}
+use Rattle.protocol.specs.Dag.{Records, Dag, last, direct}
 use Rattle.protocol.specs.Paths.{history}
 use Rattle.protocol.specs.Chain.{chain}
 
@@ -15,19 +15,20 @@ among [] y = false
 among (x ∷ l) y = eqb x y || among l y
 
 module _ (n : ℕ) where
-  -- of the history of the leader's vertex of round r, what is not yet in the journal j, rising
+  -- of the history of the vertex with the id x, what is not yet in the journal j, rising
   unfoldable pub fresh : Records → List ℕ → ℕ → List ℕ
-  fresh v j r = select idLimit (λ y. not (among j y) && history n v r (leader n r) y)
+  fresh v j x = select idLimit (λ y. not (among j y) && history n v (idRound x) (idMember x) y)
 
-  -- the journal j after the leaders of these rounds: what is fresh of each joins it
+  -- the journal j after the leaders with these ids: what is fresh of each joins it
   unfoldable pub extend : Records → List ℕ → List ℕ → List ℕ
   extend v j [] = j
-  extend v j (r ∷ rounds) = extend v (j ++ fresh v j r) rounds
+  extend v j (x ∷ ids) = extend v (j ++ fresh v j x) ids
 
-  -- the journal of the chain of round q
-  abbrev pub journalOf : Records → ℕ → List ℕ
-  journalOf v q = extend v [] (chain n v 0 q)
+module _ (n m : ℕ) where
+  -- the journal of the whole chain to the place (q, b)
+  abbrev pub journalOf : Records → ℕ → ℕ → List ℕ
+  journalOf v q b = extend n v [] (chain n m v 0 0 q b)
 
   -- the journal
   abbrev pub journal : Dag → List ℕ
-  journal d = journalOf (d .vertex) (last n d)
+  journal d = journalOf (d .vertex) (last n d) (direct n m d (last n d))

@@ -5,4 +5,6 @@ pub mod Journal
 pub mod Premises
 pub mod Claims
 pub mod Masks
+pub mod Stepwise
+pub mod Single
 pub mod Witness

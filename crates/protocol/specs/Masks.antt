@@ -44,10 +44,10 @@ abbrev pub joinRoundParents : Records → List ℕ → ℕ → ℕ → List ℕ
 joinRoundParents v h r k = joinRound v h r (getD h (r - 1) 0) k
 
 module _ (n : ℕ) where
-  -- the members below k that are voters for the leader of round r
-  unfoldable pub voters : Dag → ℕ → ℕ → ℕ
-  voters d r zero = 0
-  voters d r (suc k) = cond (voter n d r k) (add (voters d r k) k) (voters d r k)
+  -- the members below k that are voters for leader i of round r
+  unfoldable pub voters : Dag → ℕ → ℕ → ℕ → ℕ
+  voters d r i zero = 0
+  voters d r i (suc k) = cond (voter n d r i k) (add (voters d r i k) k) (voters d r i k)
 
   -- for the rounds k + 1, k, .. 2 the parents of the vertices that the masks have are joined
   unfoldable pub fill : Records → List ℕ → ℕ → List ℕ
@@ -64,7 +64,7 @@ module _ (n : ℕ) where
 
   -- the mask of the voters meets the quorum exactly if enough members are voters
   abbrev pub VotersClaim : Type 0
-  VotersClaim = (d : Dag) (r : ℕ) → meets n (voters d r n) ≡ enough n (voter n d r)
+  VotersClaim = (d : Dag) (r i : ℕ) → meets n (voters d r i n) ≡ enough n (voter n d r i)
 
   -- the members that paths from the vertex of round r and member p reach in round t, from those that they reach in round t + 1
   abbrev pub ParentsClaim : Type 0

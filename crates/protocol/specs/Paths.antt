@@ -3,7 +3,7 @@ use mathlib.Core.Bool.{Bool, false, cond, _&&_, _||_}
 use Prim.Native.Nat.{ℕ, zero, suc, _-_}
 use lib.Dec.{eqb}
 use Rattle.record.specs.Below.{any}
-use Rattle.record.specs.Members.{leader, has, idOf, idRound, idMember}
+use Rattle.record.specs.Members.{has, idOf, idRound, idMember, leaderAt}
 use Rattle.record.specs.Layout.{strongOf, weakCountOf, weakOf}
 use Rattle.protocol.specs.Dag.{Records, held}
 
@@ -14,9 +14,9 @@ module _ (n : ℕ) where
   path v (suc r) p t q =
       cond (eqb (suc r) t) (eqb p q && held v (suc r) p) (any n (λ m. has (strongOf (v (suc r) p)) m && path v r m t q))
 
-  -- strong edges lead from the leader's vertex of round r to that of round t
-  abbrev pub linked : Records → ℕ → ℕ → Bool
-  linked v r t = path v r (leader n r) t (leader n t)
+  -- strong edges lead from the main leader's vertex of round r to the vertex of leader i of round t
+  abbrev pub reaches : Records → ℕ → ℕ → ℕ → Bool
+  reaches v r t i = path v r (leaderAt n r 0) t (leaderAt n t i)
 
   -- y is the id of the vertex of round r and member p, or strong and weak edges lead to it from there, fewer than k in a row
   unfoldable pub historyUpTo : Records → ℕ → ℕ → ℕ → ℕ → Bool

@@ -1,8 +1,9 @@
--- The premises can be met: two DAGs of four members, of which member 1 is faulty. The leaders of rounds 1 and 2 are skipped.
+-- The premises can be met: two DAGs of four members, of which member 1 is faulty. The leaders of rounds 1 and 2 are skipped. The same DAGs meet them with one
+-- leader a round and with two; what is said without a number of leaders is of main leaders.
 use mathlib.Core.Path.{_≡_}
 use mathlib.Core.Bool.{Bool, true, false, not}
 use mathlib.Core.List.{List, [], _∷_, _++_}
-use Prim.Native.Nat.{ℕ}
+use Prim.Native.Nat.{ℕ, _≤_}
 use lib.Dec.{eqb}
 use Rattle.record.specs.Members.{has}
 use Rattle.record.specs.Layout.{strongOf, noVotesOf, tagged, recordWords}
@@ -51,19 +52,24 @@ abbrev pub honest : ℕ → Bool
 honest p = not (eqb p 1)
 
 pub record DagWitness : Type 0 where
-  pub premises : DagPremises 4 witnessDag honest
+  pub premises : (m : ℕ) → 1 ≤ m → m ≤ 2 → DagPremises 4 m witnessDag honest
   -- member 1 votes in one DAG and not in the other
-  pub two-faced : (votes 4 3 (witnessDag true .first 4 1) ≡ false) × (votes 4 3 (witnessDag false .first 4 1) ≡ true)
+  pub two-faced : (votes 4 3 0 (witnessDag true .first 4 1) ≡ false) × (votes 4 3 0 (witnessDag false .first 4 1) ≡ true)
   -- the vertex of the leader of round 2 is there, the next leader has no edge to it, and a no-vote certificate in its place
   pub skipped : (held (witnessDag true .vertex) 2 1 ≡ true) × (has (strongOf (witnessDag true .vertex 3 2)) 1
       ≡ false) × (noVotesOf (witnessDag true .vertex 3 2) ≡ 13)
   -- the first DAG commits round 4 by vertices, the second round 3 by two first messages and the vertex of a third member, neither a quorum alone
-  pub by-vertices : enough 4 (λ p. votes 4 4 (witnessDag true .vertex 5 p)) ≡ true
-  pub no-vertices : enough 4 (λ p. votes 4 3 (witnessDag false .vertex 4 p)) ≡ false
-  pub no-messages : enough 4 (λ p. votes 4 3 (witnessDag false .first 4 p)) ≡ false
+  pub by-vertices : enough 4 (λ p. votes 4 4 0 (witnessDag true .vertex 5 p)) ≡ true
+  pub no-vertices : enough 4 (λ p. votes 4 3 0 (witnessDag false .vertex 4 p)) ≡ false
+  pub no-messages : enough 4 (λ p. votes 4 3 0 (witnessDag false .first 4 p)) ≡ false
   pub by-both : committed 4 (witnessDag false) 3 ≡ true
   -- the leader lists: one is longer, and neither has round 1 or 2
-  pub leaders-first : leaders 4 (witnessDag true) ≡ 50 ∷ 67 ∷ []
-  pub leaders-second : leaders 4 (witnessDag false) ≡ 50 ∷ []
-  pub journal-first : journal 4 (witnessDag true) ≡ 16 ∷ 17 ∷ 18 ∷ 19 ∷ 32 ∷ 34 ∷ 35 ∷ 50 ∷ 33 ∷ 48 ∷ 49 ∷ 51 ∷ 67 ∷ []
-  pub journal-second : journal 4 (witnessDag false) ≡ 16 ∷ 17 ∷ 18 ∷ 19 ∷ 32 ∷ 34 ∷ 35 ∷ 50 ∷ []
+  pub leaders-first : leaders 4 1 (witnessDag true) ≡ 50 ∷ 67 ∷ []
+  pub leaders-second : leaders 4 1 (witnessDag false) ≡ 50 ∷ []
+  pub journal-first : journal 4 1 (witnessDag true) ≡ 16 ∷ 17 ∷ 18 ∷ 19 ∷ 32 ∷ 34 ∷ 35 ∷ 50 ∷ 33 ∷ 48 ∷ 49 ∷ 51 ∷ 67 ∷ []
+  pub journal-second : journal 4 1 (witnessDag false) ≡ 16 ∷ 17 ∷ 18 ∷ 19 ∷ 32 ∷ 34 ∷ 35 ∷ 50 ∷ []
+  -- with two leaders a round: those of rounds 3 and 4, by rising index, here not by rising id
+  pub two-first : leaders 4 2 (witnessDag true) ≡ 50 ∷ 51 ∷ 67 ∷ 64 ∷ []
+  pub two-second : leaders 4 2 (witnessDag false) ≡ 50 ∷ 51 ∷ []
+  pub two-journal-first : journal 4 2 (witnessDag true) ≡ 16 ∷ 17 ∷ 18 ∷ 19 ∷ 32 ∷ 34 ∷ 35 ∷ 50 ∷ 51 ∷ 33 ∷ 48 ∷ 49 ∷ 67 ∷ 64 ∷ []
+  pub two-journal-second : journal 4 2 (witnessDag false) ≡ 16 ∷ 17 ∷ 18 ∷ 19 ∷ 32 ∷ 34 ∷ 35 ∷ 50 ∷ 51 ∷ []

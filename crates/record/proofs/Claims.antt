@@ -2,11 +2,12 @@
 use mathlib.Core.Path.{_≡_, sym, subst}
 use mathlib.Core.Bool.{Bool, true, not}
 use Prim.Native.Nat.{ℕ, _+_, _*_, _≤_, _<_}
+use native.Mathlib.Omega.{arith}
 use Rattle.record.specs.Below.{count}
 use Rattle.record.specs.Members.{faulty}
-use Rattle.record.specs.Claims.{WithLaw, WithoutLaw, CountLaw, MeetLaw}
+use Rattle.record.specs.Claims.{WithLaw, WithoutLaw, CountLaw, MeetLaw, ApartLaw}
 use Rattle.record.proofs.Below.{meet}
-use Rattle.record.proofs.Masks.{has-add-same, has-add-other, has-remove-same, has-remove-other, ones-count}
+use Rattle.record.proofs.Masks.{legal-range, leaders-apart, has-add-same, has-add-other, has-remove-same, has-remove-other, ones-count}
 
 pub with-law : WithLaw
 with-law m p = (has-add-same (m .bits) p, λ q h. has-add-other (m .bits) p q h)
@@ -25,3 +26,6 @@ meets-at f n e s t h =
 
 pub meet-law : MeetLaw
 meet-law n e s t h = meets-at (faulty n) n (sym e) s t h
+
+pub apart-law : ApartLaw
+apart-law n g r i j a b e = leaders-apart n r i j (omega (arith, legal-range n g .low)) (omega (arith, legal-range n g .low)) e

@@ -1,5 +1,6 @@
 pub mod Booleans
 pub mod Below
+pub mod Longest
 pub mod Masks
 pub mod Rounds
 pub mod Turn

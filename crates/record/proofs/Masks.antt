@@ -1,9 +1,10 @@
 -- Laws of masks of members, with `|`, `&`, `1 << p` and `count_ones`. Assumes nothing.
 use mathlib.Core.Path.{_≡_, refl, sym, ap, ap₂, _∙_}
 use mathlib.Core.Bool.{Bool, true, false, cond, not, _&&_, _||_, true≢false, or-false, and-true}
-use mathlib.Core.Logic.{⊎-elim}
+use mathlib.Core.Logic.{_⊎_, inl, inr, ⊎-elim}
 use Prim.Native.Nat.{ℕ, zero, suc, _+_, _-_, _*_, _/_, _%_, _^_, _≤_, _<_}
 use native.Mathlib.Nat.{pow-suc, mul-comm, one-mul, lt-of-lt-of-le, mod-lt, mod-le, zero-mod, zero-div, div-eq-of-lt, div-div-eq-div-mul}
+use native.Mathlib.Nat.{div-add-mod, mul-suc, mul-le-mul-left}
 use native.Mathlib.Omega.{arith}
 use lib.Arith.{lt-one}
 use lib.Bits.{bitOr, bitAnd, bitXor, xor-shr, xor-mod, xor-lt, or-shr, or-mod, or-lt, or-add-and, and-le-l, and-le-r, and-shr, and-mod}
@@ -12,7 +13,7 @@ use lib.Dec.{eqb, leb, ltb, eqb·zero-suc, eqb·suc-zero, eqb·suc-suc, lit<}
 use lib.Pow.{pow-mono, pow-lt, pow-pos, shl-exact}
 use borrow.Author.Tests.{leb-true, leb-false, le-leb, lt-ltb, le-ltb, ltb-true, ltb-false, eqb-true, eq-eqb, ne-eqb}
 use Rattle.record.specs.Below.{count}
-use Rattle.record.specs.Members.{legal, faulty, quorum, leader, has, add, remove, within, meets, rounds, slots}
+use Rattle.record.specs.Members.{legal, faulty, quorum, leaderAt, leader, has, add, remove, within, meets, rounds, slots}
 use Rattle.record.specs.Inner.{largestMask}
 use Rattle.record.proofs.Booleans.{which, and-left, and-right, and-both, and-fails-right, or-right, bool-ext, cond-true, cond-false}
 use Rattle.record.proofs.Below.{count-cong, count-low}
@@ -32,19 +33,43 @@ legal-range n e =
     let m : n % 3 ≡ 1 = eqb-true _ _ (and-right (leb n slots) _ r) in
     record { low = leb-true 4 n (and-left (leb 4 n) _ e); high = leb-true n slots (and-left _ _ r); thirds = omega arith }
 
+pub leaderAt-lt : (n r i : ℕ) → 0 < n → leaderAt n r i < n
+unfolding leaderAt
+leaderAt-lt n r i l = mod-lt (r - 1 + i) l
+
 pub leader-lt : (n r : ℕ) → 0 < n → leader n r < n
-unfolding leader
-leader-lt n r l = mod-lt (r - 1) l
+leader-lt n r l = leaderAt-lt n r 0 l
+
+-- the main leader by its round alone
+pub leader-main : (n r : ℕ) → (r - 1) % n ≡ leader n r
+unfolding leaderAt
+leader-main n r = ap (λ (x : ℕ). x % n) (omega arith)
 
 -- a leader of the 32 rounds is a bit of a word
 pub leader-small : (n r : ℕ) → r ≤ rounds → leader n r < 32
-unfolding leader
-leader-small n r l = omega (arith, mod-le (r - 1) n)
+unfolding leaderAt
+leader-small n r l = omega (arith, mod-le (r - 1 + 0) n)
 
 -- before round 1 there is no leader, and member 0 stands for it
 pub leader-none : (n r : ℕ) → r ≡ 1 → leader n (r - 1) ≡ 0
-unfolding leader
+unfolding leaderAt
 leader-none n r e = rw e (zero-mod n)
+
+-- the leaders of a round differ, where there are no more of them than members
+pub leaders-apart : (n r i j : ℕ) → i < n → j < n → leaderAt n r i ≡ leaderAt n r j → i ≡ j
+unfolding leaderAt
+leaders-apart n r i j a b e = omega (arith, none i j a b e, none j i b a (sym e))
+  where
+    none : (i j : ℕ) → i < n → j < n → (r - 1 + i) % n ≡ (r - 1 + j) % n → j ≤ i
+    none i j a b e = go (which (leb ((r - 1 + j) / n) ((r - 1 + i) / n)))
+      where
+        go : (leb ((r - 1 + j) / n) ((r - 1 + i) / n) ≡ true) ⊎ (leb ((r - 1 + j) / n) ((r - 1 + i) / n) ≡ false) → j ≤ i
+        go (inl d) =
+            let k : (r - 1 + j) / n ≤ (r - 1 + i) / n = leb-true _ _ d in
+            omega (arith, div-add-mod (r - 1 + i) n, div-add-mod (r - 1 + j) n, mul-le-mul-left n k, e)
+        go (inr d) =
+            let k : suc ((r - 1 + i) / n) ≤ (r - 1 + j) / n = leb-false _ _ d in
+            absurd (omega (arith, div-add-mod (r - 1 + i) n, div-add-mod (r - 1 + j) n, mul-le-mul-left n k, mul-suc n ((r - 1 + i) / n), e))
 
 -- ---- one member
 

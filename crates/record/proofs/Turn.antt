@@ -8,13 +8,13 @@ use lib.Dec.{eqb, leb, ltb}
 use lib.ListN.{length}
 use borrow.Author.Tests.{leb-true, ltb-true, lt-ltb, eqb-true, eqb-false, ne-eqb, eq-eqb, le-leb}
 use Rattle.record.specs.Below.{count}
-use Rattle.record.specs.Members.{faulty, quorum, leader, has, within, meets, idRound, idMember, rounds}
+use Rattle.record.specs.Members.{faulty, quorum, leaderAt, leader, has, within, meets, idRound, idMember, rounds, isRound}
 use Rattle.record.specs.Refusals.{numberOf, Question, firstNo, numbered}
-use Rattle.record.specs.Layout.{strongOf, timeoutsOf, noVotesOf, weakCountOf, weakOf, bodySize, weakSlots}
+use Rattle.record.specs.Layout.{strongOf, timeoutsOf, noVotesOf, noVotesFor, weakCountOf, weakOf, bodySize, weakSlots}
 use Rattle.record.specs.Questions.{masksOk, strongOk, lacksLeader, quorumIf, timeoutsOk, noVotesOk, weakIdOk, rises, slotOk, weakOk}
-use Rattle.record.specs.Questions.{signerQuestions, recordQuestions}
+use Rattle.record.specs.Questions.{signerQuestions, recordQuestions, bodyRefusal}
 use Rattle.record.specs.Handed.{handedIf}
-use Rattle.record.specs.Admitted.{SignerLaw, AdmittedLaw, NumberedLaw, LastNumberLaw}
+use Rattle.record.specs.Admitted.{SignerLaw, AdmittedLaw, CertifiedLaw, NumberedLaw, LastNumberLaw}
 use Rattle.record.specs.declared.refusal.Refusal.{Refusal}
 use Rattle.record.specs.declared.refusal.Refusal.the-variants.{None, RecordSize, Weak}
 use Rattle.record.proofs.Booleans.{never, and-left, and-right, and-both, cond-true, cond-false}
@@ -170,10 +170,20 @@ placed n round signer e =
     let r = round-range round (q5 .0) in
     record { round-low = r .0; round-high = r .1; member-low = ltb-true _ _ (q6 .0) }
 
--- A record with the number 0 is admitted.
-pub admitted : AdmittedLaw
-unfolding recordQuestions signerQuestions timeoutsOk noVotesOk
-admitted n round source body e =
+-- questions 4 to 11, all answered yes
+record Answered (n round source : ℕ) (body : List ℕ) : Type 0 where
+  size : eqb (length body) bodySize ≡ true
+  in-rounds : isRound round ≡ true
+  below : ltb source n ≡ true
+  masks : masksOk n body ≡ true
+  strong : strongOk n round (strongOf body) ≡ true
+  timeouts : timeoutsOk n round body ≡ true
+  no-votes : noVotesOk n round source body ≡ true
+  weak : weakOk n round body ≡ true
+
+answered : (n round source : ℕ) (body : List ℕ) → numberOf (bodyRefusal n round source body) ≡ 0 → Answered n round source body
+unfolding recordQuestions signerQuestions
+answered n round source body e =
     let q4 = both-yes _ _ _ (eqb-false 4 0 refl) e in
     let q5 = both-yes _ _ _ (eqb-false 5 0 refl) (q4 .1) in
     let q6 = both-yes _ _ _ (eqb-false 6 0 refl) (q5 .1) in
@@ -182,24 +192,58 @@ admitted n round source body e =
     let q9 = both-yes _ _ _ (eqb-false 9 0 refl) (q8 .1) in
     let q10 = both-yes _ _ _ (eqb-false 10 0 refl) (q9 .1) in
     let q11 = both-yes _ _ _ (eqb-false 11 0 refl) (q10 .1) in
-    let r = round-range round (q5 .0) in
-    let m = masks-range n body (q7 .0) in
-    let u = used n round body (q11 .0) in
     record {
-      size = eqb-true _ _ (q4 .0);
+      size = q4 .0;
+      in-rounds = q5 .0;
+      below = q6 .0;
+      masks = q7 .0;
+      strong = q8 .0;
+      timeouts = q9 .0;
+      no-votes = q10 .0;
+      weak = q11 .0;
+    }
+
+-- A record with the number 0 is admitted.
+pub admitted : AdmittedLaw
+unfolding timeoutsOk
+admitted n round source body e =
+    let a = answered n round source body e in
+    let r = round-range round (a .in-rounds) in
+    let m = masks-range n body (a .masks) in
+    let u = used n round body (a .weak) in
+    record {
+      size = eqb-true _ _ (a .size);
       round-low = r .0;
       round-high = r .1;
-      source-low = ltb-true _ _ (q6 .0);
+      source-low = ltb-true _ _ (a .below);
       strong-low = m .0;
       timeouts-low = m .1;
       no-votes-low = m .2;
-      strong-first = strong-none n round (strongOf body) (q8 .0);
-      strong-later = strong-many n round (strongOf body) (m .0) (q8 .0);
-      timeout-quorum = λ l d. wanted n _ (timeoutsOf body) (m .1) (q9 .0) (lacking n round (strongOf body) l d);
-      no-vote-quorum = λ l d s. wanted n _ (noVotesOf body) (m .2) (q10 .0) (and-both (lacking n round (strongOf body) l d) (eq-eqb _ _ s));
-      weak-few = weak-count n round body (q11 .0);
+      strong-first = strong-none n round (strongOf body) (a .strong);
+      strong-later = strong-many n round (strongOf body) (m .0) (a .strong);
+      timeout-quorum = λ l d. wanted n _ (timeoutsOf body) (m .1) (a .timeouts) (lacking n round (strongOf body) l d);
+      weak-few = weak-count n round body (a .weak);
       weak-member = λ i l h. weak-id n round (weakOf body i) (and-right (rises body i) _ (u i l h)) .0;
       weak-low = λ i l h. weak-id n round (weakOf body i) (and-right (rises body i) _ (u i l h)) .1;
       weak-high = λ i l h. weak-id n round (weakOf body i) (and-right (rises body i) _ (u i l h)) .2;
       weak-rising = λ i l h. rising body i (and-left (rises body (i + 1)) _ (u (i + 1) l h));
     }
+
+-- And it has its certificate against the one leader of the round before.
+pub certified : CertifiedLaw
+unfolding noVotesOk noVotesFor
+certified n round source body e =
+    let a = answered n round source body e in
+    let m = masks-range n body (a .masks) in
+    record {
+      no-vote-quorum = λ i l. main i (zero-of i l)
+          (λ h d s. wanted n _ (noVotesOf body) (m .2) (a .no-votes) (and-both (lacking n round (strongOf body) h d) (eq-eqb _ _ s)));
+    }
+  where
+    zero-of : (i : ℕ) → i < 1 → i ≡ 0
+    zero-of i l = omega arith
+
+    main : (i : ℕ) → i ≡ 0
+        → (2 ≤ round → has (strongOf body) (leaderAt n (round - 1) 0) ≡ false → source ≡ leader n round → quorum n ≤ count n (has (noVotesOf body)))
+        → 2 ≤ round → has (strongOf body) (leaderAt n (round - 1) i) ≡ false → source ≡ leader n round → quorum n ≤ count n (has (noVotesFor body i))
+    main i z k h d s = rw z (k h (rw z at d) s)

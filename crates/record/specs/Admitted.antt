@@ -6,9 +6,9 @@ use Prim.Native.Nat.{ℕ, _+_, _-_, _^_, _≤_, _<_}
 use lib.Dec.{eqb}
 use lib.ListN.{length, getD}
 use Rattle.record.specs.Below.{count}
-use Rattle.record.specs.Members.{rounds, faulty, quorum, leader, has, idRound, idMember}
+use Rattle.record.specs.Members.{rounds, faulty, quorum, leaderAt, leader, has, idRound, idMember}
 use Rattle.record.specs.Refusals.{numberOf, numbered}
-use Rattle.record.specs.Layout.{bodySize, strongOf, timeoutsOf, noVotesOf, weakCountOf, weakOf, weakSlots, Digest, recordWords}
+use Rattle.record.specs.Layout.{bodySize, strongOf, timeoutsOf, noVotesOf, noVotesFor, weakCountOf, weakOf, weakSlots, Digest, recordWords}
 use Rattle.record.specs.Questions.{signerQuestions, recordQuestions, signerRefusal, bodyRefusal, recordRefusal}
 use Rattle.record.specs.Questions.{strongOk, lacksLeader, quorumIf}
 use Rattle.record.specs.declared.refusal.Refusal.the-variants.{Weak}
@@ -31,16 +31,19 @@ pub record Admitted (n round source : ℕ) (body : List ℕ) : Type 0 where
   -- the strong mask is empty in round 1 and a quorum later
   pub strong-first : round ≡ 1 → strongOf body ≡ 0
   pub strong-later : 2 ≤ round → quorum n ≤ count n (has (strongOf body))
-  -- without the previous leader, a quorum of timeouts; and of no-votes if its source leads its round
+  -- without the previous main leader, a quorum of timeouts
   pub timeout-quorum : 2 ≤ round → has (strongOf body) (leader n (round - 1)) ≡ false → quorum n ≤ count n (has (timeoutsOf body))
-  pub no-vote-quorum : 2 ≤ round → has (strongOf body) (leader n (round - 1)) ≡ false → source ≡ leader n round
-      → quorum n ≤ count n (has (noVotesOf body))
   -- weak ids are of members below n, rise strictly, and lie at least two rounds below
   pub weak-few : weakCountOf body ≤ faulty n
   pub weak-member : (i : ℕ) → i < weakSlots → i < weakCountOf body → idMember (weakOf body i) < n
   pub weak-low : (i : ℕ) → i < weakSlots → i < weakCountOf body → 1 ≤ idRound (weakOf body i)
   pub weak-high : (i : ℕ) → i < weakSlots → i < weakCountOf body → idRound (weakOf body i) + 2 ≤ round
   pub weak-rising : (i : ℕ) → i + 1 < weakSlots → i + 1 < weakCountOf body → weakOf body i < weakOf body (i + 1)
+
+-- with m leaders a round: a main leader's record has, for each leader of the previous round that it lacks, a quorum of no-votes against it
+pub record Certified (n m round source : ℕ) (body : List ℕ) : Type 0 where
+  pub no-vote-quorum : (i : ℕ) → i < m → 2 ≤ round → has (strongOf body) (leaderAt n (round - 1) i) ≡ false → source ≡ leader n round
+      → quorum n ≤ count n (has (noVotesFor body i))
 
 -- what a record is composed of so that it is admitted: what 5 to 11 ask of each value
 pub record Composed (n round source strong timeouts noVotes : ℕ) (weak : List ℕ) : Type 0 where
@@ -64,6 +67,10 @@ SignerLaw = (n round signer : ℕ) → numberOf (signerRefusal n round signer) �
 
 abbrev pub AdmittedLaw : Type 0
 AdmittedLaw = (n round source : ℕ) (body : List ℕ) → numberOf (bodyRefusal n round source body) ≡ 0 → Admitted n round source body
+
+-- and has certificates against the one leader of the round before
+abbrev pub CertifiedLaw : Type 0
+CertifiedLaw = (n round source : ℕ) (body : List ℕ) → numberOf (bodyRefusal n round source body) ≡ 0 → Certified n 1 round source body
 
 -- and every record composed so has the number 0, whatever its digest
 abbrev pub ComposedLaw : Type 0

@@ -1,5 +1,5 @@
 -- Tests of all the numbers below k. Each combinator goes by rising numbers, so that a rising loop keeps it at its index.
-use mathlib.Core.Bool.{Bool, true, false, cond, _&&_, _||_}
+use mathlib.Core.Bool.{Bool, true, false, cond, not, _&&_, _||_}
 use mathlib.Core.List.{List, [], _∷_, _++_}
 use Prim.Native.Nat.{ℕ, zero, suc, _+_}
 
@@ -27,3 +27,7 @@ select (suc k) t = select k t ++ cond (t k) (k ∷ []) []
 unfoldable pub least : ℕ → (ℕ → Bool) → ℕ
 least zero t = 0
 least (suc k) t = cond (any k t) (least k t) (cond (t k) k (suc k))
+
+-- the length of the longest run, from 0 on, of numbers below k that satisfy t
+unfoldable pub longest : ℕ → (ℕ → Bool) → ℕ
+longest k t = least k (λ i. not (t i))

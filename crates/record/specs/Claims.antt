@@ -1,10 +1,10 @@
--- The laws of masks and quorums, as claims. `proofs/` has a term of each.
+-- The laws of masks, quorums and leaders, as claims. `proofs/` has a term of each.
 use mathlib.Core.Path.{_≡_}
 use mathlib.Core.Bool.{Bool, true, false, not}
 use Prim.Native.Nat.{ℕ, _+_, _*_, _^_, _≤_, _<_}
 use lib.Count.{ones}
 use Rattle.record.specs.Below.{count}
-use Rattle.record.specs.Members.{faulty, quorum, has, with, without}
+use Rattle.record.specs.Members.{legal, faulty, quorum, leaderAt, mostLeaders, has, with, without}
 use Rattle.record.specs.declared.members.Members.{Members}
 
 -- with a member added, that member is in, and every other one is in as before
@@ -24,3 +24,7 @@ CountLaw = (n m : ℕ) → m < 2 ^ n → ones m ≡ count n (has m)
 abbrev pub MeetLaw : Type 0
 MeetLaw = (n : ℕ) → n ≡ 3 * faulty n + 1 → (s t h : ℕ → Bool) → quorum n ≤ count n s → quorum n ≤ count n t → count n (λ p. not (h p)) ≤ faulty n
     → (p : ℕ) × (p < n) × (s p ≡ true) × (t p ≡ true) × (h p ≡ true)
+
+-- the leaders of a round are different members
+abbrev pub ApartLaw : Type 0
+ApartLaw = (n : ℕ) → legal n ≡ true → (r i j : ℕ) → i < mostLeaders → j < mostLeaders → leaderAt n r i ≡ leaderAt n r j → i ≡ j

@@ -1,7 +1,7 @@
 -- The words of a record: round, source, and a body. Every size and place of them is written here.
 use mathlib.Core.Path.{_≡_, refl}
 use mathlib.Core.List.{List, _∷_, _++_}
-use Prim.Native.Nat.{ℕ, _+_, _-_}
+use Prim.Native.Nat.{ℕ, zero, suc, _+_, _-_}
 use lib.ListN.{length, getD, take, drop, replicate}
 
 -- of a whole record
@@ -67,6 +67,15 @@ timeoutsOf body = getD body timeoutsPlace 0
 -- the mask of the signers of a no-vote certificate for the round before
 unfoldable pub noVotesOf : List ℕ → ℕ
 noVotesOf body = getD body noVotesPlace 0
+
+-- those against leaders 1, 2, .. would stand behind the weak ids: there the body ends, since a round has one leader so far, and what is read beyond it is 0
+abbrev pub moreNoVotesPlace : ℕ
+moreNoVotesPlace = weakPlace + weakSlots
+
+-- the mask of the signers of a no-vote certificate against leader i of the round before
+unfoldable pub noVotesFor : List ℕ → ℕ → ℕ
+noVotesFor body zero = noVotesOf body
+noVotesFor body (suc i) = getD body (moreNoVotesPlace + i) 0
 
 -- the host's name for its block: any words
 unfoldable pub digestOf : List ℕ → List ℕ

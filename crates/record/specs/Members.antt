@@ -33,9 +33,18 @@ faulty n = (n - 1) / 3
 abbrev pub quorum : ℕ → ℕ
 quorum n = 2 * faulty n + 1
 
--- the leader of round r
-unfoldable pub leader : ℕ → ℕ → ℕ
-leader n r = (r - 1) % n
+-- leader i of round r, from 0 on: leader 0 is the main one. A state has the main one alone so far (`width` in `replica/specs/State.antt` is 1), and it is 01's
+-- leader; the rules are written over i all the same.
+unfoldable pub leaderAt : ℕ → ℕ → ℕ → ℕ
+leaderAt n r i = (r - 1 + i) % n
+
+-- the main leader of round r
+abbrev pub leader : ℕ → ℕ → ℕ
+leader n r = leaderAt n r 0
+
+-- the most leaders that a round may have: fewer than members, so that no member is two of them
+abbrev pub mostLeaders : ℕ
+mostLeaders = 3
 
 -- member p is in the mask m: bit p of m is set
 unfoldable pub has : ℕ → ℕ → Bool

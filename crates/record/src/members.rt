@@ -3,7 +3,8 @@ ghost use mathlib.Core.Path.{_≡_};
 ghost use Prim.Native.Nat.{_<_, _≤_, _^_};
 ghost use lib.Count.{ones};
 ghost use lib.Dec.{leb};
-ghost use Rattle.record.specs.Members.{isRound, legal, faulty, quorum, leader, has, add, remove, within, with, without};
+ghost use Rattle.record.specs.Members.{rounds, isRound, legal, faulty, quorum, leaderAt, leader, mostLeaders};
+ghost use Rattle.record.specs.Members.{has, add, remove, within, with, without};
 ghost use Rattle.record.specs.Inner.{largestMask};
 
 pub const ROUNDS: u32 = 32;
@@ -68,6 +69,14 @@ pub fn leader_of(n: u32, round: u32) -> u32
     ensures { λ r. ⌜ r ≡ leader n round ⌝ }
 {
     (round - 1) % n
+}
+
+// Leader i of the round: leader 0 is the main one.
+pub fn leader_at(n: u32, round: u32, i: u32) -> u32
+    requires { ⌜ (0 < n) × (1 ≤ round) × (round ≤ rounds) × (i < mostLeaders) ⌝ }
+    ensures { λ r. ⌜ r ≡ leaderAt n round i ⌝ }
+{
+    (round - 1 + i) % n
 }
 
 // The word with bit p alone.

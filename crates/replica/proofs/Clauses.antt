@@ -14,7 +14,7 @@ use Rattle.record.specs.Members.{legal, rounds, slots, votedRounds}
 use Rattle.record.proofs.Booleans.{which, and-left, and-right, and-fails-left, and-fails-right, or-left, or-right, or-cases, never, bool-ext, passed, failed}
 use Rattle.record.proofs.Below.{all-intro, all-elim}
 use Rattle.record.proofs.Masks.{or-zero}
-use Rattle.replica.specs.Layout.{stateSize, leadersAt, leadersSize, journalAt, journalSize, cellsAt}
+use Rattle.replica.specs.Layout.{stateSize, leadersAt, leadersSize, journalAt, journalSize, leadersEnd, journalEnd}
 use Rattle.replica.specs.State.{memberCount, currentRound, committedRound, leaderCount, journalCount, heldMask, heardMask, votesMask, orderedMask}
 use Rattle.replica.specs.State.{ownWord, madeRounds, signedRounds}
 use Rattle.replica.specs.WellFormed.{ownOk, eachRound, subset, masksWithin, cellOk, leadersOk, journalOk, restZero, every, clauses, wellFormed}
@@ -182,7 +182,7 @@ rest-part l at size count start h k e =
 
 -- the two lists decide, one after the other
 module _ (l : List ℕ) (a : ℕ) (size : length l ≡ stateSize) (few : leaderCount l ≤ leadersSize) (ea : a ≡ leaderCount l) (y : Bool)
-    (ey : y ≡ blank l (leadersAt + a) journalAt) where
+    (ey : y ≡ blank l (leadersAt + a) leadersEnd) where
   rest-leaders : y ≡ all leadersSize (λ i. ltb i (leaderCount l) || eqb (getD l (leadersAt + i) 0) 0)
   rest-leaders = ey ∙ rest-part l leadersAt leadersSize _ a few (omega arith) ea
 
@@ -190,7 +190,7 @@ module _ (l : List ℕ) (a : ℕ) (size : length l ≡ stateSize) (few : leaderC
   unfolding restZero
   rest-no h = simp (failed rest-leaders h)
 
-  pub rest-journal : not y ≡ false → (b : ℕ) (z : Bool) → journalCount l ≤ journalSize → b ≡ journalCount l → z ≡ blank l (journalAt + b) cellsAt
+  pub rest-journal : not y ≡ false → (b : ℕ) (z : Bool) → journalCount l ≤ journalSize → b ≡ journalCount l → z ≡ blank l (journalAt + b) journalEnd
       → z ≡ restZero l
   unfolding restZero
   rest-journal h b z many eb ez = simp (passed rest-leaders h) (ez ∙ rest-part l journalAt journalSize _ b many (omega arith) eb)

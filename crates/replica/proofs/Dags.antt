@@ -6,14 +6,16 @@ use mathlib.Core.List.{List, [], _∷_}
 use Prim.Native.Nat.{ℕ, _+_, _-_, _≤_, _<_}
 use native.Mathlib.Nat.{not-suc-le-zero}
 use native.Mathlib.Omega.{arith}
+use lib.Dec.{ltb}
 use lib.ListN.{length, getD, drop}
+use borrow.Author.Tests.{lt-ltb}
 use lib.Seq.{getD-drop, getD-take}
 use Rattle.record.specs.Members.{has, idOf, idRound, idMember, isRound, rounds, slots, idLimit}
 use Rattle.record.specs.Layout.{strongOf, weakCountOf, weakOf, bodySize, weakSlots}
-use Rattle.record.specs.Admitted.{Admitted}
+use Rattle.record.specs.Admitted.{Admitted, Certified}
 use Rattle.record.proofs.Booleans.{which, never, and-left, and-right, and-both}
 use Rattle.record.proofs.Masks.{has-bound}
-use Rattle.record.proofs.Turn.{admitted}
+use Rattle.record.proofs.Turn.{admitted, certified}
 use Rattle.record.proofs.Rounds.{round-in, round-range, id-round, id-member}
 use Rattle.protocol.specs.Dag.{present, held}
 use Rattle.protocol.specs.Premises.{ValidVertices}
@@ -45,7 +47,7 @@ module _ (l : List ℕ) (size : length l ≡ stateSize) where
           → held (vertices l) r p ≡ (isRound r && has (heldMask l r) p)
       go (inl e) =
           let w = round-range r (and-left _ _ e) in
-          rw e (some-words (cell l r p) (omega (arith, cell-length r p (w .0) (w .1) k)))
+          rw (e, lt-ltb p slots k) (some-words (cell l r p) (omega (arith, cell-length r p (w .0) (w .1) k)))
       go (inr e) = rw e
 
   -- the same of an id
@@ -58,7 +60,11 @@ module _ (l : List ℕ) (size : length l ≡ stateSize) where
   vertex-cell r p h = go (which (isRound r && has (heldMask l r) p))
     where
       go : ((isRound r && has (heldMask l r) p) ≡ true) ⊎ ((isRound r && has (heldMask l r) p) ≡ false) → vertices l r p ≡ cell l r p
-      go (inl e) = rw e
+      go (inl e) = slot (which (ltb p slots))
+        where
+          slot : (ltb p slots ≡ true) ⊎ (ltb p slots ≡ false) → vertices l r p ≡ cell l r p
+          slot (inl k) = rw (e, k)
+          slot (inr k) = never h (rw (e, k))
       go (inr e) = never h (rw e)
 
   -- a vertex is of a round from 1 to 32, and in the held mask
@@ -83,6 +89,13 @@ module _ (l : List ℕ) (S : WellFormed l) where
       let w = in-mask l (S .size) r p h in
       let k : p < slots = omega (arith, in-group r p (w .0) (w .1) (w .2), S .front .high) in
       rw (vertex-cell l (S .size) r p h) (admitted (memberCount l) r p (cell l r p) (S .cells .admits r p (w .0) (w .1) k (w .2)))
+
+  -- and certified
+  pub dag-certified : (r p : ℕ) → held (vertices l) r p ≡ true → Certified (memberCount l) 1 r p (vertices l r p)
+  dag-certified r p h =
+      let w = in-mask l (S .size) r p h in
+      let k : p < slots = omega (arith, in-group r p (w .0) (w .1) (w .2), S .front .high) in
+      rw (vertex-cell l (S .size) r p h) (certified (memberCount l) r p (cell l r p) (S .cells .admits r p (w .0) (w .1) k (w .2)))
 
   -- and its parents are held
   parent : (r p y : ℕ) → held (vertices l) r p ≡ true → y < idLimit → isParent r (vertices l r p) y ≡ true → held (vertices l) (idRound y) (idMember y) ≡ true

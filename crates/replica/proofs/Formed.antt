@@ -1,18 +1,19 @@
 -- What it means that a state is well formed, as facts, and that the test of `specs/ValidVertices` says exactly this. Assumes nothing.
 use mathlib.Core.Path.{_≡_, refl, sym, ap, ap₂, _∙_, subst}
-use mathlib.Core.Bool.{Bool, true, false, cond, not, _&&_, _||_}
+use mathlib.Core.Bool.{Bool, true, false, not, _&&_, _||_}
 use mathlib.Core.Logic.{_⊎_, inl, inr, ⊎-elim}
 use mathlib.Core.List.{List, [], _∷_, _++_}
-use Prim.Native.Nat.{ℕ, zero, suc, _+_, _-_, _^_, _≤_, _<_}
+use Prim.Native.Nat.{ℕ, zero, suc, _+_, _-_, _*_, _^_, _≤_, _<_}
+use native.Mathlib.Nat.{mul-suc, mul-le-mul-left}
 use native.Mathlib.Numerals.{sub-one}
 use native.Mathlib.Omega.{arith}
 use lib.Bits.{bitAnd, and-le-l}
 use lib.Dec.{eqb, leb, ltb}
 use lib.ListN.{length, getD, take, drop, length-drop}
 use lib.Seq.{take-suc, take-take, getD-drop, length-take-le}
-use borrow.Author.Tests.{leb-true, le-leb, ltb-true, lt-ltb, ltb-false, eqb-true, eq-eqb, ne-eqb, not-true}
+use borrow.Author.Tests.{leb-true, le-leb, ltb-true, lt-ltb, ltb-false, eqb-true, eqb-false, eq-eqb, ne-eqb, not-true}
 use Rattle.record.specs.Below.{all}
-use Rattle.record.specs.Members.{legal, leader, has, within, idRound, idMember, idLimit, rounds, slots, votedRounds}
+use Rattle.record.specs.Members.{legal, has, within, idRound, idLimit, rounds, slots, votedRounds}
 use Rattle.record.specs.Refusals.{numberOf}
 use Rattle.record.specs.Questions.{bodyRefusal}
 use Rattle.record.proofs.Booleans.{which, never, and-left, and-right, and-both, or-cases, or-left, or-right, or-neither, bool-ext, cond-true, cond-false}
@@ -25,9 +26,10 @@ use Rattle.record.specs.Layout.{bodySize}
 use Rattle.replica.specs.Layout.{stateSize, cellAt, leadersAt, leadersSize, journalAt, journalSize}
 use Rattle.replica.specs.State.{memberCount, currentRound, committedRound, leaderCount, journalCount, heldMask, heardMask, votesMask}
 use Rattle.replica.specs.State.{timeoutsMask, noVotesMask, orderedMask, leaderWord, journalWord, leaderList, journalList, cell, heldId}
-use Rattle.replica.specs.State.{orderedId}
+use Rattle.replica.specs.State.{orderedId, width, leaderIndex, lastPlace}
 use Rattle.replica.specs.Parents.{parentsHeld}
-use Rattle.replica.specs.WellFormed.{ownOk, subset, masksWithin, cellOk, leaderOk, lastLeaderRound, leadersOk, entryOk, journalOk}
+use Rattle.replica.specs.WellFormed.{ownOk, subset, masksWithin, cellOk, roundBefore, placeBefore, comesNext, leaderOk, lastLeaderRound}
+use Rattle.replica.specs.WellFormed.{leadersOk, entryOk, journalOk}
 use Rattle.replica.specs.WellFormed.{restZero, wellFormed}
 
 -- ---- the facts
@@ -57,16 +59,21 @@ pub record Cells (l : List ℕ) : Type 0 where
   pub parents : (r p : ℕ) → 1 ≤ r → r ≤ rounds → p < slots → has (heldMask l r) p ≡ true → parentsHeld l r (cell l r p) ≡ true
   pub zero-cell : (r p i : ℕ) → 1 ≤ r → r ≤ rounds → p < slots → i < bodySize → has (heldMask l r) p ≡ false → getD l (cellAt r p + i) 0 ≡ 0
 
--- the ids of a leader list: leaders' vertices that h has, of rounds that rise from above low to high
-unfoldable pub Led : ℕ → (ℕ → Bool) → ℕ → List ℕ → ℕ → Type 0
-Led n h low [] high = low ≡ high
-Led n h low (x ∷ xs) high = (h x ≡ true) × (idMember x ≡ leader n (idRound x)) × (low < idRound x) × Led n h (idRound x) xs high
+-- leader i of round r comes next behind the first a leaders of round c
+abbrev pub Next : ℕ → ℕ → ℕ → ℕ → Type 0
+Next c a r i = ((i ≡ 0) × (c < r)) ⊎ ((0 < i) × (r ≡ c) × (i ≡ a))
+
+-- The ids of a leader list from the place (c, a) to the place (q, b): vertices that h has, of the leaders of their rounds that g says, of m leaders a round,
+-- each next behind the one before.
+unfoldable pub Led : ℕ → (ℕ → Bool) → (ℕ → ℕ) → ℕ → ℕ → List ℕ → ℕ → ℕ → Type 0
+Led m h g c a [] q b = (c ≡ q) × (a ≡ b)
+Led m h g c a (x ∷ xs) q b = (h x ≡ true) × (g x < m) × Next c a (idRound x) (g x) × Led m h g (idRound x) (g x + 1) xs q b
 
 -- the committed round and the leader list
 pub record Leaders (l : List ℕ) : Type 0 where
   pub committed-high : committedRound l ≤ votedRounds
   pub few : leaderCount l ≤ leadersSize
-  pub led : Led (memberCount l) (heldId l) 0 (leaderList l) (committedRound l)
+  pub led : Led (width l) (heldId l) (leaderIndex l) 0 0 (leaderList l) (committedRound l) (lastPlace l)
   pub rest : (i : ℕ) → leaderCount l ≤ i → i < leadersSize → leaderWord l i ≡ 0
 
 -- the ordered masks and the journal
@@ -103,28 +110,43 @@ has-subset k a b l h = eq-eqb _ _ (mask-ext k (bitAnd a b) a (omega (arith, and-
 -- ---- leader lists
 
 -- one list after another
-pub led-append : (n : ℕ) (h : ℕ → Bool) (low mid high : ℕ) (xs ys : List ℕ) → Led n h low xs mid → Led n h mid ys high → Led n h low (xs ++ ys) high
+pub led-append : (m : ℕ) (h : ℕ → Bool) (g : ℕ → ℕ) (c a r x q b : ℕ) (xs ys : List ℕ) → Led m h g c a xs r x → Led m h g r x ys q b
+    → Led m h g c a (xs ++ ys) q b
 unfolding Led
-led-append n h low mid high [] ys p q = rw p q
-led-append n h low mid high (x ∷ xs) ys p q = (p .0, p .1, p .2, led-append n h (idRound x) mid high xs ys (p .3) q)
+led-append m h g c a r x q b [] ys p t = rw (p .0, p .1) t
+led-append m h g c a r x q b (y ∷ xs) ys p t = (p .0, p .1, p .2, led-append m h g (idRound y) (g y + 1) r x q b xs ys (p .3) t)
 
 -- and taken apart
-pub led-split : (n : ℕ) (h : ℕ → Bool) (low high : ℕ) (xs ys : List ℕ) → Led n h low (xs ++ ys) high → (mid : ℕ) × Led n h low xs mid × Led n h mid ys high
+pub led-split : (m : ℕ) (h : ℕ → Bool) (g : ℕ → ℕ) (c a q b : ℕ) (xs ys : List ℕ) → Led m h g c a (xs ++ ys) q b
+    → (r x : ℕ) × Led m h g c a xs r x × Led m h g r x ys q b
 unfolding Led
-led-split n h low high [] ys p = (low, refl, p)
-led-split n h low high (x ∷ xs) ys p = let w = led-split n h (idRound x) high xs ys (p .3) in (w .0, (p .0, p .1, p .2, w .1), w .2)
+led-split m h g c a q b [] ys p = (c, a, (refl, refl), p)
+led-split m h g c a q b (y ∷ xs) ys p = let w = led-split m h g (idRound y) (g y + 1) q b xs ys (p .3) in (w .0, w .1, (p .0, p .1, p .2, w .2), w .3)
 
--- where more is held
-pub led-more : (n : ℕ) (h k : ℕ → Bool) (low high : ℕ) (xs : List ℕ) → ((y : ℕ) → h y ≡ true → k y ≡ true) → Led n h low xs high → Led n k low xs high
+-- where more is held, and the indices are the same
+pub led-more : (m : ℕ) (h k : ℕ → Bool) (g f : ℕ → ℕ) (c a q b : ℕ) (xs : List ℕ) → ((y : ℕ) → h y ≡ true → k y ≡ true) → ((y : ℕ) → f y ≡ g y)
+    → Led m h g c a xs q b → Led m k f c a xs q b
 unfolding Led
-led-more n h k low high [] f p = p
-led-more n h k low high (x ∷ xs) f p = (f x (p .0), p .1, p .2, led-more n h k (idRound x) high xs f (p .3))
+led-more m h k g f c a q b [] s t p = p
+led-more m h k g f c a q b (x ∷ xs) s t p =
+    (s x (p .0), rw (t x) (p .1), rw (t x) (p .2), rw (t x) (led-more m h k g f (idRound x) (g x + 1) q b xs s t (p .3)))
 
--- as many rounds at least as entries
-pub led-length : (n : ℕ) (h : ℕ → Bool) (low high : ℕ) (xs : List ℕ) → Led n h low xs high → low + length xs ≤ high
+-- it comes to a place of m leaders a round
+pub led-place : (m : ℕ) (h : ℕ → Bool) (g : ℕ → ℕ) (c a q b : ℕ) (xs : List ℕ) → a ≤ m → Led m h g c a xs q b → b ≤ m
 unfolding Led
-led-length n h low high [] p = omega arith
-led-length n h low high (x ∷ xs) p = omega (arith, p .2, led-length n h (idRound x) high xs (p .3))
+led-place m h g c a q b [] l p = omega (arith, p .1)
+led-place m h g c a q b (x ∷ xs) l p = led-place m h g (idRound x) (g x + 1) q b xs (omega (arith, p .1)) (p .3)
+
+-- at most as many entries as there are places
+pub led-length : (m : ℕ) (h : ℕ → Bool) (g : ℕ → ℕ) (c a q b : ℕ) (xs : List ℕ) → a ≤ m → Led m h g c a xs q b → m * c + a + length xs ≤ m * q + b
+unfolding Led
+led-length m h g c a q b [] l p = rw (p .0, p .1) (omega arith)
+led-length m h g c a q b (x ∷ xs) l p =
+    omega (arith, led-length m h g (idRound x) (g x + 1) q b xs (omega (arith, p .1)) (p .3), step (p .2))
+  where
+    step : Next c a (idRound x) (g x) → m * c + a ≤ m * idRound x + g x
+    step (inl w) = let k : suc c ≤ idRound x = w .1 in omega (arith, mul-suc m c, mul-le-mul-left m k, w .0)
+    step (inr w) = rw (w .1) (omega (arith, w .2))
 
 -- ---- lists that name nothing twice
 
@@ -158,47 +180,57 @@ part-more l k c h = take-suc (drop k l) c 0 (rw length-drop (omega arith)) ∙ a
 -- ---- from the tests to the facts, and back
 
 module _ (l : List ℕ) (size : length l ≡ stateSize) where
-  -- the round of the entry before entry c of the leader list, and 0 before the first
-  abbrev before : ℕ → ℕ
-  before c = cond (eqb c 0) 0 (idRound (leaderWord l (c - 1)))
-
-  before-suc : (c : ℕ) → before (suc c) ≡ idRound (leaderWord l c)
+  before-suc : (c : ℕ) → roundBefore l (suc c) ≡ idRound (leaderWord l c)
   before-suc c = rw (ne-eqb (suc c) 0 (λ e. omega arith), sub-one (suc c))
 
-  held-round : (y : ℕ) → heldId l y ≡ true → 0 < idRound y
-  held-round y e = round-range (idRound y) (and-left _ _ e) .0
+  place-suc : (c : ℕ) → placeBefore l (suc c) ≡ leaderIndex l (leaderWord l c) + 1
+  place-suc c = rw (ne-eqb (suc c) 0 (λ e. omega arith), sub-one (suc c))
 
-  leader-rises : (c : ℕ) → leaderOk l c ≡ true → before c < idRound (leaderWord l c)
-  unfolding leaderOk
-  leader-rises zero e = held-round _ (and-left _ _ e)
-  leader-rises (suc c) e = rw before-suc (ltb-true _ _ (rw (sub-one (suc c)) at
-      (sym (cond-false true _ (ne-eqb (suc c) 0 (λ d. omega arith)))
-      ∙ and-right (eqb (idMember (leaderWord l (suc c))) _) _ (and-right (heldId l (leaderWord l (suc c))) _ e))))
+  -- the test of what comes next, and back
+  to-next : (c a r i : ℕ) → comesNext c a r i ≡ true → Next c a r i
+  to-next c a r i e = go (which (eqb i 0))
+    where
+      go : (eqb i 0 ≡ true) ⊎ (eqb i 0 ≡ false) → Next c a r i
+      go (inl d) = inl (eqb-true i 0 d, ltb-true c r (sym (cond-true _ _ d) ∙ e))
+      go (inr d) =
+          let t = sym (cond-false _ _ d) ∙ e in
+          inr (some i (eqb-false i 0 d), eqb-true r c (and-left _ _ t), eqb-true i a (and-right (eqb r c) _ t))
+        where
+          some : (x : ℕ) → (x ≡ 0 → ⊥) → 0 < x
+          some zero h = absurd (h refl)
+          some (suc x) h = omega arith
 
-  rises-leader : (c : ℕ) → before c < idRound (leaderWord l c) → cond (eqb c 0) true (ltb (idRound (leaderWord l (c - 1))) (idRound (leaderWord l c))) ≡ true
-  rises-leader zero h = refl
-  rises-leader (suc c) h = cond-false true _ (ne-eqb (suc c) 0 (λ d. omega arith)) ∙ rw (sub-one (suc c)) (lt-ltb _ _ (rw before-suc at h))
+  from-next : (c a r i : ℕ) → Next c a r i → comesNext c a r i ≡ true
+  from-next c a r i (inl w) = cond-true _ _ (eq-eqb i 0 (w .0)) ∙ lt-ltb c r (w .1)
+  from-next c a r i (inr w) = cond-false _ _ (ne-eqb i 0 (λ e. omega (arith, w .0))) ∙ and-both (eq-eqb r c (w .1)) (eq-eqb i a (w .2))
 
   -- the leader list
-  to-led : (c : ℕ) → c ≤ leadersSize → all c (leaderOk l) ≡ true → Led (memberCount l) (heldId l) 0 (take c (drop leadersAt l)) (before c)
+  to-led : (c : ℕ) → c ≤ leadersSize → all c (leaderOk l) ≡ true
+      → Led (width l) (heldId l) (leaderIndex l) 0 0 (take c (drop leadersAt l)) (roundBefore l c) (placeBefore l c)
   unfolding all leaderOk Led
-  to-led zero k e = refl
+  to-led zero k e = (refl, refl)
   to-led (suc c) k e =
       let t : leaderOk l c ≡ true = and-right (all c (leaderOk l)) _ e in
-      rw (part-more l leadersAt c (omega arith), before-suc c)
-      (led-append (memberCount l) (heldId l) 0 (before c) (idRound (leaderWord l c)) (take c (drop leadersAt l)) (leaderWord l c ∷ [])
+      let t′ = and-right (heldId l (leaderWord l c)) _ t in
+      rw (part-more l leadersAt c (omega arith), before-suc c, place-suc c)
+      (led-append (width l) (heldId l) (leaderIndex l) 0 0 (roundBefore l c) (placeBefore l c) (idRound (leaderWord l c)) (leaderIndex l (leaderWord l c) + 1)
+      (take c (drop leadersAt l)) (leaderWord l c ∷ [])
       (to-led c (omega arith) (and-left _ _ e))
-      (and-left _ _ t, eqb-true _ _ (and-left _ _ (and-right (heldId l (leaderWord l c)) _ t)), leader-rises c t, refl))
+      (and-left _ _ t, ltb-true _ _ (and-left _ _ t′), to-next _ _ _ _ (and-right (ltb (leaderIndex l (leaderWord l c)) (width l)) _ t′), (refl, refl)))
 
-  from-led : (c high : ℕ) → c ≤ leadersSize → Led (memberCount l) (heldId l) 0 (take c (drop leadersAt l)) high
-      → (all c (leaderOk l) ≡ true) × (high ≡ before c)
+  from-led : (c q b : ℕ) → c ≤ leadersSize → Led (width l) (heldId l) (leaderIndex l) 0 0 (take c (drop leadersAt l)) q b
+      → (all c (leaderOk l) ≡ true) × (q ≡ roundBefore l c) × (b ≡ placeBefore l c)
   unfolding all leaderOk Led
-  from-led zero high k d = (refl, sym d)
-  from-led (suc c) high k d =
-      let w = led-split (memberCount l) (heldId l) 0 high (take c (drop leadersAt l)) (leaderWord l c ∷ []) (rw (part-more l leadersAt c (omega arith)) at d) in
-      let i = from-led c (w .0) (omega arith) (w .1) in
-      let q = w .2 in
-      (and-both (i .0) (and-both (q .0) (and-both (eq-eqb _ _ (q .1)) (rises-leader c (rw (i .1) at (q .2))))), sym (q .3) ∙ sym (before-suc c))
+  from-led zero q b k d = (refl, sym (d .0), sym (d .1))
+  from-led (suc c) q b k d =
+      let w = led-split (width l) (heldId l) (leaderIndex l) 0 0 q b (take c (drop leadersAt l)) (leaderWord l c ∷ [])
+      (rw (part-more l leadersAt c (omega arith)) at d) in
+      let i = from-led c (w .0) (w .1) (omega arith) (w .2) in
+      let t = w .3 in (
+        and-both (i .0) (and-both (t .0) (and-both (lt-ltb _ _ (t .1)) (from-next _ _ _ _ (rw (i .1, i .2) at (t .2))))),
+        sym (t .3 .0) ∙ sym (before-suc c),
+        sym (t .3 .1) ∙ sym (place-suc c),
+      )
 
   -- the journal
   to-once : (c : ℕ) → c ≤ journalCount l → journalCount l ≤ journalSize → all c (entryOk l) ≡ true
@@ -291,7 +323,7 @@ module _ (l : List ℕ) (size : length l ≡ stateSize) where
 
 -- A well-formed state has all the facts.
 pub formed : (l : List ℕ) → length l ≡ stateSize → wellFormed l ≡ true → WellFormed l
-unfolding wellFormed leadersOk journalOk restZero lastLeaderRound
+unfolding wellFormed leadersOk journalOk restZero lastLeaderRound lastPlace
 formed l size e =
     let n = memberCount l in
     let e1 = and-right (legal n) _ e in
@@ -345,7 +377,8 @@ formed l size e =
       leaders = record {
         committed-high = leb-true _ _ (and-left _ _ e2);
         few = few;
-        led = subst (λ (x : ℕ). Led n (heldId l) 0 (leaderList l) x) (eqb-true _ _ (and-right (all (leaderCount l) (leaderOk l)) _ leads′))
+        led = subst (λ (x : ℕ). Led (width l) (heldId l) (leaderIndex l) 0 0 (leaderList l) x (lastPlace l))
+            (eqb-true _ _ (and-right (all (leaderCount l) (leaderOk l)) _ leads′))
             (to-led l size (leaderCount l) few (and-left _ _ leads′));
         rest = beyond l size (leaderCount l) leadersSize (leaderWord l) (and-left _ _ rest);
       };
@@ -370,7 +403,7 @@ well-formed l S =
     let n = memberCount l in
     let M = S .masks in
     let J = S .journal in
-    let w = from-led l size (leaderCount l) (committedRound l) (S .leaders .few) (S .leaders .led) in
+    let w = from-led l size (leaderCount l) (committedRound l) (lastPlace l) (S .leaders .few) (S .leaders .led) in
     and-both (S .front .members)
     (and-both (and-both (le-leb _ _ (S .front .round-low)) (le-leb _ _ (S .front .round-high)))
     (and-both (le-leb _ _ (S .leaders .committed-high))
@@ -409,9 +442,16 @@ module _ (l : List ℕ) (S : WellFormed l) where
   pub journal-length : length (journalList l) ≡ journalCount l
   journal-length = let few = S .journal .few in length-part l journalAt (journalCount l) (omega (arith, S .size))
 
-  leader-ok : (i : ℕ) → i < leaderCount l → leaderOk l i ≡ true
-  leader-ok = all-elim (leaderCount l) (leaderOk l) (from-led l (S .size) (leaderCount l) (committedRound l) (S .leaders .few) (S .leaders .led) .0)
+  -- the list is no longer than there are places up to the one that it comes to
+  pub leaders-few : leaderCount l ≤ width l * committedRound l + lastPlace l
+  leaders-few =
+      omega (
+        arith,
+        leader-length,
+        led-length (width l) (heldId l) (leaderIndex l) 0 0 (committedRound l) (lastPlace l) (leaderList l) (omega arith)
+            (S .leaders .led),
+      )
 
-  -- the list is no longer than the committed round
-  pub leaders-few : leaderCount l ≤ committedRound l
-  leaders-few = omega (arith, leader-length, led-length (memberCount l) (heldId l) 0 (committedRound l) (leaderList l) (S .leaders .led))
+  -- which is one of the committed round
+  pub leaders-place : lastPlace l ≤ width l
+  leaders-place = led-place (width l) (heldId l) (leaderIndex l) 0 0 (committedRound l) (lastPlace l) (leaderList l) (omega arith) (S .leaders .led)

@@ -1,14 +1,15 @@
 -- States that share words: what a part of a state means depends on its words alone. Assumes nothing.
 use mathlib.Core.Path.{_≡_, refl, sym, ap, ap₂, _∙_}
 use mathlib.Core.Bool.{true, false, cond, not, _&&_}
-use mathlib.Core.Logic.{_⊎_, inl, inr}
+use mathlib.Core.Logic.{_⊎_, inl, inr, ⊎-elim}
 use mathlib.Core.List.{List, [], _∷_}
 use Prim.Native.Nat.{ℕ, _+_, _-_, _^_, _≤_, _<_, min}
 use native.Mathlib.Omega.{arith}
+use lib.Dec.{ltb}
 use lib.ListN.{length, getD, set, take, drop, length-take, length-drop, length-set}
 use lib.Seq.{getD-take, getD-drop, getD-set-other, ext-getD}
-use borrow.Author.Tests.{not-true, not-false}
-use Rattle.record.specs.Members.{legal, leader, has, idRound, idMember, idLimit, rounds}
+use borrow.Author.Tests.{not-true, not-false, ltb-true}
+use Rattle.record.specs.Members.{legal, leader, has, idRound, idMember, idLimit, rounds, slots}
 use Rattle.record.specs.Refusals.{numberOf}
 use Rattle.record.specs.Questions.{bodyRefusal}
 use Rattle.record.proofs.Booleans.{which, and-left, and-cong, and-fails-left, and-fails-right, cond-cong}
@@ -22,11 +23,15 @@ use Rattle.replica.specs.Layout.{orderedKind, heldKind, heardKind, votes
 use Rattle.replica.specs.Layout.{journalAt, journalSize, cellsAt, memberCountAt, committedRoundAt, leaderCountAt, journalCountAt, ownAt}
 use Rattle.replica.specs.Layout.{madeAt, signedAt}
 use Rattle.replica.specs.Layout.{masksAt, heldAt, heardAt, votesAt, timeoutsAt, noVotesAt, orderedAt, cellAt, headSize, leadersAt, leadersSize}
+use Rattle.replica.specs.Layout.{leadersEnd, journalEnd, cellsEnd}
 use Rattle.replica.specs.State.{memberCount, ownWord, madeRounds, signedRounds}
 use Rattle.replica.specs.WellFormed.{ownOk}
 use Rattle.replica.specs.State.{leaderCount, journalCount, heldMask, orderedMask, leaderList, journalList, cell, vertices, firsts, heldId, orderedId}
 use Rattle.replica.specs.Parents.{isParent, missing, parentsHeld}
 use Rattle.replica.proofs.Formed.{Front, Masks, Cells, Leaders, Journal, WellFormed, led-more}
+use Rattle.replica.proofs.Width.{width-same}
+use Rattle.replica.proofs.Seats.{index-kept, place-kept}
+use Rattle.replica.specs.State.{leaderIndex}
 
 -- l′ is as long as l, and has the same words where K holds
 pub record Keeps (K : ℕ → Type 0) (l l′ : List ℕ) : Type 0 where
@@ -61,6 +66,10 @@ keeps-part K l l′ p k c f = ext-getD 0 (take c (drop k l′)) (take c (drop k 
 
     word : (i : ℕ) → i < length (take c (drop k l′)) → getD (take c (drop k l′)) i 0 ≡ getD (take c (drop k l)) i 0
     word i h = let m : i < c = omega (arith, long l′) in one l′ i m ∙ p .same (k + i) (f (k + i) (omega arith) (omega arith)) ∙ sym (one l i m)
+
+-- where a slot is known of the members below 16
+pub guarded : (q : ℕ) {x y : List ℕ} → (q < slots → x ≡ y) → cond (ltb q slots) x [] ≡ cond (ltb q slots) y []
+guarded q {x} {y} f = ⊎-elim (λ e. rw e (f (ltb-true q slots e))) (λ e. rw e) (which (ltb q slots))
 
 -- ---- parents
 
@@ -127,23 +136,25 @@ module _ (K : ℕ → Type 0) (l l′ : List ℕ) (p : Keeps K l l′) where
     held-id-kept y = and-cong refl (λ e. let w = round-range (idRound y) e in held-kept (idRound y) (idMember y) (w .0) (w .1))
 
     -- the cells, and the vertices
-    module _ (words : (j : ℕ) → cellsAt ≤ j → K j) where
-      pub cell-kept : (r q : ℕ) → cell l′ r q ≡ cell l r q
-      cell-kept r q = keeps-part K l l′ p (cellAt r q) bodySize (λ j a b. words j (omega arith))
+    module _ (words : (j : ℕ) → cellsAt ≤ j → j < cellsEnd → K j) where
+      pub cell-kept : (r q : ℕ) → 1 ≤ r → r ≤ rounds → q < slots → cell l′ r q ≡ cell l r q
+      cell-kept r q x y z = keeps-part K l l′ p (cellAt r q) bodySize (λ j a b. words j (omega arith) (omega arith))
 
       pub cells-kept : K memberCountAt → Cells l → Cells l′
       cells-kept k C = record {
-        admits = λ r q a b m h. ap₂ (λ (n : ℕ) (c : List ℕ). numberOf (bodyRefusal n r q c)) (p .same memberCountAt k) (cell-kept r q)
+        admits = λ r q a b m h. ap₂ (λ (n : ℕ) (c : List ℕ). numberOf (bodyRefusal n r q c)) (p .same memberCountAt k) (cell-kept r q a b m)
             ∙ C .admits r q a b m (sym (held-kept r q a b) ∙ h);
         parents = λ r q a b m h. parents-more l l′ (λ y e. held-id-kept y ∙ e) r (cell l′ r q)
-            (ap (parentsHeld l r) (cell-kept r q) ∙ C .parents r q a b m (sym (held-kept r q a b) ∙ h));
-        zero-cell = λ r q i a b m h e. p .same (cellAt r q + i) (words _ (omega arith)) ∙ C .zero-cell r q i a b m h (sym (held-kept r q a b) ∙ e);
+            (ap (parentsHeld l r) (cell-kept r q a b m) ∙ C .parents r q a b m (sym (held-kept r q a b) ∙ h));
+        zero-cell = λ r q i a b m h e. p .same (cellAt r q + i) (words _ (omega arith) (omega arith))
+            ∙ C .zero-cell r q i a b m h (sym (held-kept r q a b) ∙ e);
       }
 
       pub vertices-kept : vertices l′ ≡ vertices l
       unfolding vertices
       vertices-kept = records-ext (vertices l′) (vertices l) (λ r q.
-          cond-cong (and-cong refl (λ e. let w = round-range r e in held-kept r q (w .0) (w .1))) (λ e. cell-kept r q) refl)
+          cond-cong (and-cong refl (λ e. let w = round-range r e in held-kept r q (w .0) (w .1))) (λ e. let w = round-range r (and-left _ _ e) in
+          guarded q (λ k. cell-kept r q (w .0) (w .1) k)) refl)
 
   -- the first messages
   pub firsts-kept : K memberCountAt → ((r : ℕ) → 1 ≤ r → r ≤ rounds → K (heardAt r)) → ((r : ℕ) → 1 ≤ r → r ≤ rounds → K (votesAt r)) → firsts l′ ≡ firsts l
@@ -154,18 +165,26 @@ module _ (K : ℕ → Type 0) (l l′ : List ℕ) (p : Keeps K l l′) where
       ap₂ (λ (n m : ℕ). cond (has m q) (2 ^ leader n (r - 1)) 0 ∷ []) (p .same memberCountAt k) (p .same (votesAt r) (g r (w .0) (w .1)))) refl)
 
   -- the leader list, where no vertex is lost
-  pub leader-list-kept : K leaderCountAt → ((j : ℕ) → leadersAt ≤ j → j < journalAt → K j) → leaderCount l ≤ leadersSize → leaderList l′ ≡ leaderList l
+  pub leader-list-kept : K leaderCountAt → ((j : ℕ) → leadersAt ≤ j → j < leadersEnd → K j) → leaderCount l ≤ leadersSize → leaderList l′ ≡ leaderList l
   leader-list-kept k f few = rw (p .same leaderCountAt k) (keeps-part K l l′ p leadersAt (leaderCount l) (λ j a b. f j a (omega arith)))
 
   -- and all that is said of it
-  pub leaders-kept : K memberCountAt → K committedRoundAt → K leaderCountAt → ((j : ℕ) → leadersAt ≤ j → j < journalAt → K j)
+  pub leaders-kept : K memberCountAt → K committedRoundAt → K leaderCountAt → ((j : ℕ) → leadersAt ≤ j → j < leadersEnd → K j)
       → ((y : ℕ) → heldId l y ≡ true → heldId l′ y ≡ true) → Leaders l → Leaders l′
   leaders-kept k₀ k₂ k₃ f g L =
       let c = p .same leaderCountAt k₃ in
       record {
         committed-high = rw (p .same committedRoundAt k₂) (L .committed-high);
         few = rw c (L .few);
-        led = rw (p .same memberCountAt k₀, p .same committedRoundAt k₂, leader-list-kept k₃ f (L .few)) (led-more _ (heldId l) (heldId l′) 0 _ _ g (L .led));
+        led = rw (
+          p .same committedRoundAt k₂,
+          leader-list-kept k₃ f (L .few),
+          width-same l l′,
+          place-kept l l′ (p .same memberCountAt k₀)
+              (p .same leaderCountAt k₃) (λ h. p .same (leadersAt + (leaderCount l - 1))
+              (f (leadersAt + (leaderCount l - 1)) (omega arith) (omega (arith, L .few)))),
+        )
+            (led-more _ (heldId l) (heldId l′) (leaderIndex l) (leaderIndex l′) 0 0 _ _ _ g (index-kept l l′ (p .same memberCountAt k₀)) (L .led));
         rest = λ i a b. p .same (leadersAt + i) (f (leadersAt + i) (omega arith) (omega arith)) ∙ L .rest i (omega arith) b;
       }
 
@@ -180,11 +199,11 @@ module _ (K : ℕ → Type 0) (l l′ : List ℕ) (p : Keeps K l l′) where
     ordered-id-kept y = and-cong refl (λ e. let w = round-range (idRound y) e in ordered-kept (idRound y) (idMember y) (w .0) (w .1))
 
     -- its entries
-    pub journal-list-kept : K journalCountAt → ((j : ℕ) → journalAt ≤ j → j < cellsAt → K j) → journalCount l ≤ journalSize → journalList l′ ≡ journalList l
+    pub journal-list-kept : K journalCountAt → ((j : ℕ) → journalAt ≤ j → j < journalEnd → K j) → journalCount l ≤ journalSize → journalList l′ ≡ journalList l
     journal-list-kept k f few = rw (p .same journalCountAt k) (keeps-part K l l′ p journalAt (journalCount l) (λ j a b. f j a (omega arith)))
 
     -- and all that is said of it, where no vertex is lost
-    pub journal-kept : K memberCountAt → K journalCountAt → ((j : ℕ) → journalAt ≤ j → j < cellsAt → K j)
+    pub journal-kept : K memberCountAt → K journalCountAt → ((j : ℕ) → journalAt ≤ j → j < journalEnd → K j)
         → ((r q : ℕ) → 1 ≤ r → r ≤ rounds → has (heldMask l r) q ≡ true → has (heldMask l′ r) q ≡ true) → Journal l → Journal l′
     journal-kept k₀ k₄ f g J =
         let c = p .same journalCountAt k₄ in
@@ -214,7 +233,7 @@ formed-word l i x s F S = record {
   size = p .size ∙ S .size;
   front = F;
   masks = masks-kept K l l′ p (λ e. s .not-members (sym e)) (λ r k c d h e. omega (arith, s .head)) (S .masks);
-  cells = cells-kept K l l′ p held (λ j c e. omega (arith, s .head)) (λ e. s .not-members (sym e)) (S .cells);
+  cells = cells-kept K l l′ p held (λ j c d e. omega (arith, s .head)) (λ e. s .not-members (sym e)) (S .cells);
   leaders = leaders-kept K l l′ p (λ e. s .not-members (sym e)) (λ e. s .not-committed (sym e)) (λ e. s .not-leaders (sym e))
       (λ j c d e. omega (arith, s .head)) (λ y e. held-id-kept K l l′ p held y ∙ e) (S .leaders);
   journal = journal-kept K l l′ p (λ r c d e. omega (arith, s .head)) (λ e. s .not-members (sym e)) (λ e. s .not-journal (sym e))

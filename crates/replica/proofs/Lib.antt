@@ -7,6 +7,8 @@ pub mod StatusLaws
 pub mod ListLaws
 pub mod Words
 pub mod Marks
+pub mod Width
+pub mod Seats
 pub mod Formed
 pub mod Dags
 pub mod Keeping

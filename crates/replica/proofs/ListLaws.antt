@@ -16,7 +16,8 @@ use Rattle.record.specs.declared.refusal.Refusal.{Refusal}
 use Rattle.record.specs.declared.refusal.Refusal.the-variants.{None, PastEnd}
 use Rattle.record.proofs.Booleans.{which, cond-true, cond-false}
 use Rattle.record.proofs.Turn.{both-yes, next, stop, done, front-no, front-yes, both-fronts}
-use Rattle.replica.specs.Layout.{stateSize, leadersAt, journalAt, journalSize, cellsAt, leaderCountAt, journalCountAt}
+use Rattle.replica.specs.Inner.{ListAt}
+use Rattle.replica.specs.Layout.{stateSize, leadersAt, journalAt, journalSize, leaderCountAt, journalCountAt}
 use Rattle.replica.specs.State.{leaderCount, journalCount}
 use Rattle.replica.specs.WellFormed.{wellFormed}
 use Rattle.replica.specs.Outcome.{Outcome, told, nothingAdded, unchanged}
@@ -87,10 +88,10 @@ span-some number first k count h = cond-true _ _ (eq-eqb number 0 h)
 pub record Handing (x : RefT (List ℕ)) (k first count : ℕ) : Type 0 where
   pub size : length (x .now) ≡ stateSize
   pub low : k ≤ count
-  pub high : count ≤ journalSize
+  pub high : first + count ≤ stateSize
   pub done : (a b : ℕ) → a ≡ k → b ≡ count → between x (first + a) (first + b) ≡ cut x (handList (x .now) k first count)
 
-module _ (x : RefT (List ℕ)) (k first c : ℕ) (from : leaderCountAt ≤ c) (to : c ≤ journalCountAt) (a : Answer) (e : told a (x .now)
+module _ (x : RefT (List ℕ)) (k first c : ℕ) (at : ListAt first c) (a : Answer) (e : told a (x .now)
     ≡ askList (x .now) k (getD (x .now) c 0))
     (m : ℕ) (f : m ≡ numberOf (a .refusal)) where
   asked : m ≡ askList (x .now) k (getD (x .now) c 0) .number
@@ -110,7 +111,10 @@ module _ (x : RefT (List ℕ)) (k first c : ℕ) (from : leaderCountAt ≤ c) (t
       record {
         size = w .0;
         low = w .2;
-        high = counted (x .now) c from to (w .1);
+        high = ⊎-elim
+            (λ p. rw (p .0, p .1) (omega (arith, counts (x .now) (w .1) .0)))
+            (λ p. rw (p .0, p .1) (omega (arith, counts (x .now) (w .1) .1)))
+            (at .list);
         done = λ i j p q.
             let d : (first + j) - (first + i) ≡ getD (x .now) c 0 - k = omega arith in
             rw (d, p) (sym (ap (cut x) (span-some _ first k (getD (x .now) c 0) (sym asked ∙ z))));
@@ -127,7 +131,7 @@ hand-part l first k count h f =
     ∙ ap (drop k) (sym (take-add k (count - k) (drop first l)))
     ∙ ap (λ (x : ℕ). drop k (take x (drop first l))) s
 
-handed-one : (l : List ℕ) (k first count : ℕ) → (wellFormed l ≡ true → first + count ≤ cellsAt)
+handed-one : (l : List ℕ) (k first count : ℕ) → (wellFormed l ≡ true → first + count ≤ stateSize)
     → Handed l k (take count (drop first l)) (handList l k first count)
 handed-one l k first count room = go (which (eqb (askList l k count .number) 0))
   where

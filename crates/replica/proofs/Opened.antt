@@ -21,6 +21,7 @@ use Rattle.replica.specs.State.{memberCount, currentRound, ownWord, lead
 use Rattle.replica.specs.WellFormed.{ownOk}
 use Rattle.replica.specs.Opening.{opened}
 use Rattle.replica.proofs.Formed.{WellFormed, Led}
+use Rattle.replica.proofs.Seats.{place-none}
 
 -- every word of a run of zeros, and beyond it
 blank : (k j : ℕ) → _≡_ {A = ℕ} (getD (replicate k 0) j 0) 0
@@ -124,7 +125,11 @@ module _ (n own : ℕ) where
     leaders = record {
       committed-high = rw (opened-word committedRoundAt (omega arith) (λ e. omega arith)) (omega arith);
       few = rw (opened-word leaderCountAt (omega arith) (λ e. omega arith)) (omega arith);
-      led = rw opened-leaders (sym (opened-word committedRoundAt (omega arith) (λ e. omega arith)));
+      led = rw opened-leaders (
+        sym (opened-word committedRoundAt (omega arith) (λ e. omega arith)),
+        sym
+            (place-none (opened n own) (opened-word leaderCountAt (omega arith) (λ e. omega arith))),
+      );
       rest = λ i a b. opened-word (leadersAt + i) (omega arith) (λ e. omega arith);
     };
     journal = record {

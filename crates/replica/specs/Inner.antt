@@ -1,6 +1,7 @@
 -- What the inner functions of the test of question 3 ask of what they are lent. No claim rests on it.
 use mathlib.Core.Path.{_≡_}
 use mathlib.Core.Bool.{true}
+use mathlib.Core.Logic.{_⊎_}
 use mathlib.Core.List.{List}
 use Prim.Native.Nat.{ℕ, _≤_, _<_}
 use lib.ListN.{length}
@@ -11,9 +12,16 @@ use Rattle.record.specs.Questions.{bodyRefusal}
 use Rattle.record.specs.Handed.{QuorumOf}
 use Rattle.record.specs.Inner.{termsOf, Known}
 use Rattle.record.specs.declared.questions.Terms.{Terms}
-use Rattle.replica.specs.Layout.{stateSize}
+use Rattle.replica.specs.Layout.{stateSize, leadersAt, leaderCountAt, journalAt, journalCountAt}
 use Rattle.replica.specs.State.{memberCount}
 use Rattle.replica.specs.WellFormed.{eachRound, masksWithin}
+
+-- the words where one of the two lists begins, and where its count stands
+pub record ListAt (first count : ℕ) : Type 0 where
+  pub inside : first ≤ stateSize
+  pub low : leaderCountAt ≤ count
+  pub high : count ≤ journalCountAt
+  pub list : ((first ≡ leadersAt) × (count ≡ leaderCountAt)) ⊎ ((first ≡ journalAt) × (count ≡ journalCountAt))
 
 -- the words of a state whose member count is legal and whose masks lie within it
 pub record Grouped (l : List ℕ) : Type 0 where

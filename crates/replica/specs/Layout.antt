@@ -106,6 +106,19 @@ cellAt r p = cellsAt + bodySize * (slots * (r - 1) + p)
 abbrev pub roundSize : ℕ
 roundSize = bodySize * slots
 
+-- where the masks, the lists and the cells end
+abbrev pub masksEnd : ℕ
+masksEnd = headSize + kinds * rounds
+
+abbrev pub leadersEnd : ℕ
+leadersEnd = leadersAt + leadersSize
+
+abbrev pub journalEnd : ℕ
+journalEnd = journalAt + journalSize
+
+abbrev pub cellsEnd : ℕ
+cellsEnd = cellsAt + roundSize * rounds
+
 -- of the whole state
 abbrev pub stateSize : ℕ
-stateSize = cellsAt + roundSize * rounds
+stateSize = cellsEnd

@@ -3,8 +3,10 @@ use mathlib.Core.Bool.{Bool, cond, _&&_}
 use mathlib.Core.List.{List, [], _∷_}
 use Prim.Native.Nat.{ℕ, _+_, _-_, _^_}
 use lib.Bits.{bitOr}
+use lib.Dec.{eqb, ltb}
 use lib.ListN.{getD, set, take, drop}
-use Rattle.record.specs.Members.{leader, has, add, idRound, idMember, isRound}
+use Rattle.record.specs.Below.{least}
+use Rattle.record.specs.Members.{leaderAt, leader, has, add, idRound, idMember, isRound, slots}
 use Rattle.record.specs.Layout.{bodySize}
 use Rattle.protocol.specs.Dag.{Records, Dag}
 use Rattle.replica.specs.Layout.{memberCountAt, currentRoundAt, committedRoundAt, leaderCountAt, journalCountAt, heldKind, heardKind}
@@ -36,6 +38,10 @@ madeRounds l = getD l madeAt 0
 
 abbrev pub signedRounds : List ℕ → ℕ
 signedRounds l = getD l signedAt 0
+
+-- how many leaders a round has: one so far. All that is proved above asks no more of it than `proofs/Width.antt` says.
+unfoldable pub width : List ℕ → ℕ
+width l = 1
 
 -- the masks of round r
 abbrev pub maskOf : List ℕ → ℕ → ℕ → ℕ
@@ -80,13 +86,25 @@ leaderList l = take (leaderCount l) (drop leadersAt l)
 abbrev pub journalList : List ℕ → List ℕ
 journalList l = take (journalCount l) (drop journalAt l)
 
+-- which of the leaders of its round the vertex with the id x is of: its index, and the width if it is of none
+unfoldable pub leaderIndex : List ℕ → ℕ → ℕ
+leaderIndex l x = cond (isRound (idRound x)) (least (width l) (λ i. eqb (leaderAt (memberCount l) (idRound x) i) (idMember x))) (width l)
+
+-- the last entry of the leader list, if it has one
+abbrev pub lastLeader : List ℕ → ℕ
+lastLeader l = leaderWord l (leaderCount l - 1)
+
+-- how many leaders of the last round of the leader list are in it, by its last entry
+unfoldable pub lastPlace : List ℕ → ℕ
+lastPlace l = cond (eqb (leaderCount l) 0) 0 (leaderIndex l (lastLeader l) + 1)
+
 -- the cell of round r and member p
 abbrev pub cell : List ℕ → ℕ → ℕ → List ℕ
 cell l r p = take bodySize (drop (cellAt r p) l)
 
--- the vertices: the cells that are held
+-- the vertices: the cells that are held. A damaged mask may have bits that no cell is for.
 unfoldable pub vertices : List ℕ → Records
-vertices l r p = cond (isRound r && has (heldMask l r) p) (cell l r p) []
+vertices l r p = cond (isRound r && has (heldMask l r) p) (cond (ltb p slots) (cell l r p) []) []
 
 -- The first messages. Of one that was heard the state keeps only whether it votes, so it stands here with a strong mask that is
 -- the previous leader's bit, or none.

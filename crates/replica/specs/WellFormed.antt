@@ -6,13 +6,14 @@ use lib.Bits.{bitAnd}
 use lib.Dec.{eqb, leb, ltb}
 use lib.ListN.{getD, take}
 use Rattle.record.specs.Below.{all}
-use Rattle.record.specs.Members.{rounds, slots, legal, leader, has, within, idRound, idMember, idLimit, votedRounds}
+use Rattle.record.specs.Members.{rounds, slots, legal, has, within, idRound, idLimit, votedRounds}
 use Rattle.record.specs.Refusals.{numberOf}
 use Rattle.record.specs.Layout.{bodySize}
 use Rattle.record.specs.Questions.{bodyRefusal}
 use Rattle.protocol.specs.Journal.{among}
 use Rattle.replica.specs.Layout.{heldKind, heardKind, votesKind, orderedKind, watcher, leadersSize, journalSize, cellAt}
 use Rattle.replica.specs.State.{memberCount, currentRound, committedRound, leaderCount, journalCount, maskOf, heldMask, heardMask, votesMask}
+use Rattle.replica.specs.State.{width, leaderIndex, lastLeader}
 use Rattle.replica.specs.State.{ownWord, madeRounds, signedRounds}
 use Rattle.replica.specs.State.{timeoutsMask, noVotesMask, orderedMask, leaderWord, journalWord, journalList, cell, heldId, orderedId}
 use Rattle.replica.specs.Parents.{parentsHeld}
@@ -53,18 +54,30 @@ cellOk l r p =
     (recordOk l r p (cell l r p))
     (all bodySize (λ i. eqb (getD l (cellAt r p + i) 0) 0))
 
--- entry i of the leader list is a held leader's vertex, of a higher round than the entry before
+-- the place before entry i of the leader list: the round of the entry before it, and how many leaders of that round are in the list by then
+abbrev pub roundBefore : List ℕ → ℕ → ℕ
+roundBefore l i = cond (eqb i 0) 0 (idRound (leaderWord l (i - 1)))
+
+abbrev pub placeBefore : List ℕ → ℕ → ℕ
+placeBefore l i = cond (eqb i 0) 0 (leaderIndex l (leaderWord l (i - 1)) + 1)
+
+-- leader i of round r comes next behind the first a leaders of round c: it is the main one of a later round, or the next one of the same round
+abbrev pub comesNext : ℕ → ℕ → ℕ → ℕ → Bool
+comesNext c a r i = cond (eqb i 0) (ltb c r) (eqb r c && eqb i a)
+
+-- entry i of the leader list is the held vertex of a leader of its round, and comes next behind the entry before
 unfoldable pub leaderOk : List ℕ → ℕ → Bool
 leaderOk l i =
     heldId l (leaderWord l i)
-    && (eqb (idMember (leaderWord l i)) (leader (memberCount l) (idRound (leaderWord l i)))
-    && cond (eqb i 0) true (ltb (idRound (leaderWord l (i - 1))) (idRound (leaderWord l i))))
+    && (ltb (leaderIndex l (leaderWord l i)) (width l)
+    && comesNext (roundBefore l i) (placeBefore l i) (idRound (leaderWord l i)) (leaderIndex l (leaderWord l i)))
 
 -- the last round of the leader list, 0 if it is empty
 unfoldable pub lastLeaderRound : List ℕ → ℕ
-lastLeaderRound l = cond (eqb (leaderCount l) 0) 0 (idRound (leaderWord l (leaderCount l - 1)))
+lastLeaderRound l = cond (eqb (leaderCount l) 0) 0 (idRound (lastLeader l))
 
--- the leader list names held leader vertices by rising round; its last round is the committed round, so it is empty exactly if that is 0
+-- the leader list names held leader vertices by rising round, in a round by index 0, 1, .. without a gap; its last round is the committed round, so it is
+-- empty exactly if that is 0
 unfoldable pub leadersOk : List ℕ → Bool
 leadersOk l = leb (leaderCount l) leadersSize && (all (leaderCount l) (leaderOk l) && eqb (lastLeaderRound l) (committedRound l))
 

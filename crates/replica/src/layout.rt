@@ -61,6 +61,11 @@ pub const CELLS: usize = 744;
 
 pub const ROUND_SIZE: usize = BODY_SIZE * (SLOTS as usize);
 
+// Where the two lists end.
+pub const LEADERS_END: usize = LEADERS + LEADERS_SIZE;
+
+pub const JOURNAL_END: usize = JOURNAL + JOURNAL_SIZE;
+
 // Of the whole state.
 pub const STATE_SIZE: usize = CELLS + ROUND_SIZE * (ROUNDS as usize);
 

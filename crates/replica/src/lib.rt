@@ -5,5 +5,6 @@ pub mod lists;
 pub mod masks;
 pub mod opening;
 pub mod parents;
+pub mod places;
 pub mod status;
 pub mod wellformed;

@@ -2,7 +2,8 @@
 ghost use mathlib.Core.Path.{_≡_};
 ghost use Prim.Native.Nat.{_≤_};
 ghost use lib.ListN.{getD};
-ghost use Rattle.replica.specs.Layout.{leaderCountAt, journalCountAt, journalAt};
+ghost use Rattle.replica.specs.Inner.{ListAt};
+ghost use Rattle.replica.specs.Layout.{leaderCountAt, journalCountAt};
 ghost use Rattle.replica.specs.Outcome.{told};
 ghost use Rattle.replica.specs.Place.{partOf, cut};
 ghost use Rattle.replica.specs.Lists.{askList, askLeaders, askJournal, handList, handLeaders, handJournal};
@@ -38,7 +39,7 @@ fn ask_list(state: &[u32], k: u32, count: usize) -> Answer
 
 // Hands over a list from entry k on, as a part of the state. The list begins at the word `first`, and its count is the word `count`.
 fn hand_list(state: &[u32], k: u32, first: usize, count: usize) -> &[u32]
-    requires { ⌜ (first ≤ journalAt) × (leaderCountAt ≤ count) × (count ≤ journalCountAt) ⌝ }
+    requires { ⌜ ListAt first count ⌝ }
     ensures { λ r. ⌜ partOf r ≡ cut (state .entry) (handList (now (state .entry)) k first (getD (now (state .entry)) count 0)) ⌝ }
 {
     let asked = ask_list(state, k, count);

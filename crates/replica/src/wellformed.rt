@@ -5,24 +5,26 @@ ghost use Prim.Native.Nat.{_+_, _-_, _*_, _<_, _≤_};
 ghost use lib.Dec.{eqb};
 ghost use lib.ListN.{length, getD, take, drop};
 ghost use Rattle.record.specs.Below.{all};
-ghost use Rattle.record.specs.Members.{rounds, slots, legal};
+ghost use Rattle.record.specs.Members.{rounds, slots, legal, idRound};
 ghost use Rattle.record.specs.Handed.{QuorumOf};
 ghost use Rattle.record.specs.Layout.{bodySize};
 ghost use Rattle.replica.specs.Layout.{cellAt, stateSize, kinds, leadersSize, journalSize, roundSize};
-ghost use Rattle.replica.specs.State.{memberCount, committedRound, leaderCount, journalCount, orderedMask};
-ghost use Rattle.replica.specs.WellFormed.{ownOk, eachRound, masksWithin, kindWithin, recordOk, cellOk, leaderOk, lastLeaderRound, leadersOk, journalOk};
+ghost use Rattle.replica.specs.State.{memberCount, committedRound, leaderCount, journalCount, orderedMask, leaderIndex};
+ghost use Rattle.replica.specs.WellFormed.{ownOk, eachRound, masksWithin, kindWithin, recordOk, cellOk};
+ghost use Rattle.replica.specs.WellFormed.{comesNext, leaderOk, lastLeaderRound, leadersOk, journalOk};
 ghost use Rattle.replica.specs.WellFormed.{restZero, every, clauses, wellFormed};
 ghost use Rattle.replica.specs.Inner.{Grouped, GroupedRound, KnownIn};
-use super::layout::CELLS;
 use super::layout::COMMITTED_ROUND;
 use super::layout::CURRENT_ROUND;
 use super::layout::HEARD;
 use super::layout::HELD;
 use super::layout::JOURNAL;
 use super::layout::JOURNAL_COUNT;
+use super::layout::JOURNAL_END;
 use super::layout::JOURNAL_SIZE;
 use super::layout::LEADER_COUNT;
 use super::layout::LEADERS;
+use super::layout::LEADERS_END;
 use super::layout::LEADERS_SIZE;
 use super::layout::MADE;
 use super::layout::MEMBER_COUNT;
@@ -40,6 +42,8 @@ use super::layout::masks_at;
 use super::masks::is_marked;
 use super::masks::mask_of;
 use super::parents::parents_held;
+use super::places::index_of;
+use super::places::width_of;
 use record::layout::BODY_SIZE;
 use record::layout::wide;
 use record::members::MASKS;
@@ -50,7 +54,6 @@ use record::members::VOTED_ROUNDS;
 use record::members::has_bit;
 use record::members::is_legal;
 use record::members::is_within;
-use record::members::leader_of;
 use record::members::quorum_of;
 use record::questions::Terms;
 use record::questions::is_admitted;
@@ -257,7 +260,21 @@ fn cells_ok(state: &[u32]) -> bool
     true
 }
 
-// Entry i of the leader list is a held leader's vertex, of a higher round than the entry before.
+// Leader `index` of x's round comes next behind the entry before x.
+fn comes_next(state: &[u32], n: u32, before: u32, x: u32, index: u32) -> bool
+    requires { ⌜ (length (now state) ≡ stateSize) × (n ≡ memberCount (now state)) × (0 < n) ⌝ }
+    ensures { λ r. ⌜ r ≡ comesNext (idRound before) (leaderIndex (now (state .entry)) before + 1) (idRound x) index ⌝ }
+{
+    if index == 0 {
+        return before / SLOTS < x / SLOTS;
+    }
+    if x / SLOTS != before / SLOTS {
+        return false;
+    }
+    index == index_of(state, n, before) + 1
+}
+
+// Entry i of the leader list is the held vertex of a leader of its round, and comes next behind the entry before.
 fn leader_ok(state: &[u32], n: u32, i: usize) -> bool
     requires { ⌜ (length (now state) ≡ stateSize) × (n ≡ memberCount (now state)) × (0 < n) × (i < leadersSize) ⌝ }
     ensures { λ r. ⌜ r ≡ leaderOk (now (state .entry)) i ⌝ }
@@ -266,13 +283,14 @@ fn leader_ok(state: &[u32], n: u32, i: usize) -> bool
     if !is_marked(state, HELD, x) {
         return false;
     }
-    if x % SLOTS != leader_of(n, x / SLOTS) {
+    let index = index_of(state, n, x);
+    if width_of(state) <= index {
         return false;
     }
     if i == 0 {
-        return true;
+        return index == 0;
     }
-    state[LEADERS + (i - 1)] / SLOTS < x / SLOTS
+    comes_next(state, n, state[LEADERS + (i - 1)], x, index)
 }
 
 // The round of the last of so many leaders is the committed round.
@@ -355,10 +373,10 @@ fn rest_zero(state: &[u32]) -> bool
 {
     let leaders = LEADERS + wide(state[LEADER_COUNT]);
     let journal = JOURNAL + wide(state[JOURNAL_COUNT]);
-    if !is_zero(&state[leaders..JOURNAL]) {
+    if !is_zero(&state[leaders..LEADERS_END]) {
         return false;
     }
-    is_zero(&state[journal..CELLS])
+    is_zero(&state[journal..JOURNAL_END])
 }
 
 // The masks and the cells.

@@ -22,6 +22,7 @@ use Rattle.protocol.specs.Chain.{chain}
 use Rattle.protocol.proofs.Laws.{records-ext}
 use Rattle.replica.specs.Layout.{stateSize, timeoutsAt, noVotesAt, leadersAt, journalAt, madeAt}
 use Rattle.replica.specs.State.{memberCount, currentRound, committedRound, leaderCount, journalCount, heardMask, timeoutsMask, noVotesMask}
+use Rattle.replica.specs.State.{width, lastPlace}
 use Rattle.replica.specs.State.{addMember, addMembers, vertices}
 use Rattle.replica.specs.WellFormed.{wellFormed}
 use Rattle.replica.specs.Outcome.{Outcome, unchanged, outcome}
@@ -32,7 +33,7 @@ use Rattle.replica.specs.Lists.{spanIf, handList}
 use Rattle.replica.specs.declared.answer.Status.{Status}
 use Rattle.replica.proofs.Formed.{WellFormed, formed, well-formed}
 use Rattle.replica.proofs.Opened.{opened-formed}
-use Rattle.commits.specs.Commit.{raiseRound, appendLeaders, orderLeaders, commit, lowest, commitUpTo}
+use Rattle.commits.specs.Commit.{raiseRound, appendLeaders, orderLeaders, commit, lowest, grows, isReady, commitOnce, commitUpTo, mostCommits}
 use Rattle.ordering.specs.Calls.{placeQuestions, takeVertex, takeBody, hear, takeFirstBody}
 use Rattle.ordering.specs.Calls.{takeTimeout, takeNoVote, bundleQuestions, takeTimeouts}
 use Rattle.ordering.proofs.Carried.{written}
@@ -88,20 +89,32 @@ listed-is v = records-ext (byList v) v (λ r p. go r p (which (ltb r 33 && ltb p
     go r p (inr e) = cond-false _ _ e
 
 -- a commit where the vertices are v
-unfoldable pub commitBy : Records → List ℕ → ℕ → List ℕ
-commitBy v l q = orderLeaders v (set (appendLeaders l (chain (memberCount l) v (committedRound l) q)) 2 q) (chain (memberCount l) v (committedRound l) q)
+unfoldable pub commitBy : Records → List ℕ → ℕ → ℕ → List ℕ
+commitBy v l q i =
+    orderLeaders v (set (appendLeaders l (chain (memberCount l) (width l) v (committedRound l) (lastPlace l) q (i + 1))) 2 q)
+    (chain (memberCount l) (width l) v (committedRound l) (lastPlace l) q (i + 1))
+
+-- the next one
+unfoldable pub onceBy : Records → List ℕ → List ℕ
+onceBy v l = cond (grows l) (commitBy v l (committedRound l) (lastPlace l)) (commitBy v l (lowest l) 0)
 
 -- all commits
 unfoldable pub shortCommits : List ℕ → ℕ → List ℕ
 shortCommits l zero = l
-shortCommits l (suc k) = cond (ltb (lowest l) 32) (shortCommits (commitBy (byList (vertices l)) l (lowest l)) k) l
+shortCommits l (suc k) = cond (isReady l) (shortCommits (onceBy (byList (vertices l)) l) k) l
 
--- they end in the same words
+-- the next one ends in the same words
+once-is : (l : List ℕ) → commitOnce l ≡ onceBy (vertices l) l
+unfolding commitOnce onceBy commitBy commit
+once-is l = refl
+
+-- and so do all
 commits-are : (k : ℕ) (l : List ℕ) → commitUpTo l k ≡ shortCommits l k
-unfolding commitUpTo shortCommits commitBy commit
+unfolding commitUpTo shortCommits
 commits-are zero l = refl
-commits-are (suc k) l = ap (λ (x : List ℕ). cond (ltb (lowest l) 32) x l)
-    (commits-are k (commit l (lowest l)) ∙ ap (λ (v : Records). shortCommits (commitBy v l (lowest l)) k) (sym (listed-is (vertices l))))
+commits-are (suc k) l = ap (λ (x : List ℕ). cond (isReady l) x l)
+    (commits-are k (commitOnce l)
+    ∙ ap (λ (x : List ℕ). shortCommits x k) (once-is l ∙ ap (λ (v : Records). onceBy v l) (sym (listed-is (vertices l)))))
 
 -- ---- calls on a formed state, without the questions of the state
 
@@ -149,7 +162,7 @@ unfoldable pub shortWith : List ℕ → List ℕ → List ℕ → Refusal
 shortWith l s rec = inPlace (recordsIn s) rec (firstNo (laterQuestions l s (memberCount l) rec))
 
 unfoldable pub shortTake : List ℕ → List ℕ → Outcome
-shortTake l rec = outcome (shortVertex l rec) l (shortCommits (raiseRound (written l (roundOf rec) (sourceOf rec) (bodyOf rec))) 31)
+shortTake l rec = outcome (shortVertex l rec) l (shortCommits (raiseRound (written l (roundOf rec) (sourceOf rec) (bodyOf rec))) mostCommits)
 
 unfoldable pub shortTry : List ℕ → List ℕ → Trial (List ℕ)
 shortTry l rec = record { fate = fateOf (shortTake l rec .number); after = shortTake l rec .words }
@@ -165,7 +178,7 @@ unfoldable pub shortOf : Call → List ℕ → Outcome
 shortOf (opening n own) l = outcome (firstNo ((legal n, MemberCount) ∷ (leb own n, Source) ∷ [])) l (opened n own)
 shortOf (vertex rec) l = shortTake l rec
 shortOf (vertexWith s rec) l = shortEnding l s rec .outcome
-shortOf (firstMessage rec) l = outcome (shortFirst l rec) l (shortCommits (hear l (roundOf rec) (sourceOf rec) (bodyOf rec)) 31)
+shortOf (firstMessage rec) l = outcome (shortFirst l rec) l (shortCommits (hear l (roundOf rec) (sourceOf rec) (bodyOf rec)) mostCommits)
 shortOf (timeout r p) l = outcome (shortNote l r p (timeoutsMask l r)) l (raiseRound (addMember l (timeoutsAt r) p))
 shortOf (noVote r p) l = outcome (shortNote l r p (noVotesMask l r)) l (addMember l (noVotesAt r) p)
 shortOf (bundle r mask) l = outcome (shortBundle l r mask) l (raiseRound (addMembers l (timeoutsAt r) mask))
@@ -227,8 +240,8 @@ module _ (f g : List ℕ → List ℕ → Trial (List ℕ)) (P : List ℕ → Ty
 take-is : (l : List ℕ) → WellFormed l → (rec : List ℕ) → takeVertex l rec ≡ shortTake l rec
 unfolding shortTake shortVertex takeBody
 take-is l S rec =
-    ap (λ (why : Refusal). outcome why l (commitUpTo (raiseRound (written l (roundOf rec) (sourceOf rec) (bodyOf rec))) 31)) (sym (past-state l _ S))
-    ∙ ap (outcome (shortVertex l rec) l) (commits-are 31 _)
+    ap (λ (why : Refusal). outcome why l (commitUpTo (raiseRound (written l (roundOf rec) (sourceOf rec) (bodyOf rec))) mostCommits)) (sym (past-state l _ S))
+    ∙ ap (outcome (shortVertex l rec) l) (commits-are mostCommits _)
 
 -- a vertex with a pending buffer
 ending-is : (l : List ℕ) → WellFormed l → (s rec : List ℕ) → takeVertexWith l s rec ≡ shortEnding l s rec
@@ -263,7 +276,7 @@ module _ (l : List ℕ) (S : WellFormed l) where
   short-is (opening n own) = ap (λ (why : Refusal). outcome why l (opened n own)) (sym (next _ _ (eq-eqb (length l) stateSize (S .size)) refl))
   short-is (vertex rec) = take-is l S rec
   short-is (vertexWith s rec) = ap (λ (e : Ending). e .outcome) (ending-is l S s rec)
-  short-is (firstMessage rec) = past _ _ ∙ ap (outcome (shortFirst l rec) l) (commits-are 31 _)
+  short-is (firstMessage rec) = past _ _ ∙ ap (outcome (shortFirst l rec) l) (commits-are mostCommits _)
   short-is (timeout r p) = past _ _
   short-is (noVote r p) = past _ _
   short-is (bundle r mask) = past _ _

@@ -2,7 +2,7 @@
 ghost use mathlib.Core.Path.{_≡_};
 ghost use Prim.Native.Nat.{_≤_};
 ghost use lib.ListN.{getD};
-ghost use Rattle.replica.specs.Layout.{leaderCountAt, journalCountAt, journalAt};
+ghost use Rattle.replica.specs.Layout.{leaderCountAt, journalCountAt, stateSize};
 ghost use Rattle.replica.specs.Opening.{openState};
 ghost use Rattle.replica.specs.Status.{statusOf};
 ghost use Rattle.replica.specs.Lists.{askList, askLeaders, askJournal, handList, handLeaders, handJournal};
@@ -129,7 +129,7 @@ pub extern "C" fn yardbook_ask_journal(state: &[u32], k: u32) -> Answer
 // word `count`.
 fn hand_part(state: &[u32], k: u32, number: u32, first: u32, count: usize) -> Part
     requires { ⌜ number ≡ askList (now state) k (getD (now state) count 0) .number ⌝ }
-    requires { ⌜ (first ≤ journalAt) × (leaderCountAt ≤ count) × (count ≤ journalCountAt) ⌝ }
+    requires { ⌜ (first ≤ stateSize) × (leaderCountAt ≤ count) × (count ≤ journalCountAt) ⌝ }
     ensures { λ r. ⌜ spanOf r ≡ handList (now (state .entry)) k first (getD (now (state .entry)) count 0) ⌝ }
 {
     if number != 0 {

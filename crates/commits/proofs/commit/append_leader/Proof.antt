@@ -1,5 +1,5 @@
 use Rattle.commits.specs.Commit.{appendLeader}
-use Rattle.record.proofs.Masks.{leader-small}
+use Rattle.commits.proofs.Appending.{leaderAt-small}
 use native.Mathlib.Omega.{arith}
 use borrow.Author.Needs.{needs}
 use Rattle.commits.proofs.commit.append_leader.Statement.{statement}
@@ -8,14 +8,13 @@ use Rattle.commits.proofs.commit.append_leader.Tie as tie
 add-id : tie.Need-add-id
 add-id c =
     let start : tie.Start = search in
-    omega (arith, c .leader-of .ensures, leader-small (start .args .n) (start .args .round) (omega arith))
+    omega (arith, c .leader-at .ensures, leaderAt-small (start .args .n) (start .args .round) (start .args .i) (omega arith) (omega arith))
 
 returns : tie.Need-returns
 unfolding appendLeader
 returns c =
-    let after-leader-of : tie.After-leader-of = search in
-    let start : tie.Start = search in
-    rw (c .wide .ensures, after-leader-of .leader-of .ensures, start .pre .1)
+    let after : tie.After-leader-at = search in
+    rw (c .wide .ensures, after .leader-at .ensures)
 
 pub append-leader-spec : {M : Type 1} → statement M
 append-leader-spec =

@@ -1,38 +1,40 @@
--- The loop's invariant: q is the lowest committable round, and the state is on the way from the first one. Each commit raises q.
-use Rattle.commits.proofs.Repeating.{Onward, onward-start, onward-end, Soon, soon, Later}
-use Rattle.commits.specs.Commit.{lowest}
-use mathlib.Core.Path.{_≡_}
+-- The loop's invariant: the state is on the way from the first one. Each commit brings the leader list further.
+use Rattle.commits.proofs.Repeating.{Onward, onward-start, onward-end, onward-next, Later, reach}
+use Rattle.commits.specs.Commit.{mostCommits}
+use Rattle.record.proofs.Booleans.{passed, failed, cond-true, cond-false}
+use mathlib.Core.Path.{sym, _∙_}
 use Prim.Native.Nat.{_-_}
-use native.Mathlib.Omega.{arith}
-use borrow.Author.Needs.{needs}
 use Rattle.commits.proofs.commit.commit_all.Statement.{statement}
 use Rattle.commits.proofs.commit.commit_all.Tie as tie
-use Rattle.record.specs.Members.{rounds}
 
 abbrev Inv-loop : tie.InvT-loop
-Inv-loop state₀ n quorum q₀ state q = (q ≡ lowest state) × Onward state₀ state
+Inv-loop state₀ n quorum state = Onward state₀ state
 
 abbrev μ-loop : tie.MeasureT-loop
-μ-loop state₀ n quorum q₀ state q = rounds - q
+μ-loop state₀ n quorum state = mostCommits - reach state
 
-known : (c : tie.In-loop Inv-loop μ-loop) → let s : tie.Start Inv-loop μ-loop = search in let a : tie.At-loop Inv-loop μ-loop = search in
-    Soon (s .args .n) (s .args .state .now) (a .loop .q) (a .loop .state)
-known c =
+commit-once-requires : tie.Need-commit-once-requires Inv-loop μ-loop
+commit-once-requires c κs =
     let s : tie.Start Inv-loop μ-loop = search in
     let a : tie.At-loop Inv-loop μ-loop = search in
-    soon _ _ _ _ (s .pre .1) (a .loop .inv .1) (a .loop .inv .0) (c .loop-test .taken)
+    (a .loop .inv .going, s .pre .1 ∙ sym (a .loop .inv .alike .members), s .pre .2)
 
-later : (c : tie.After-commit-round Inv-loop μ-loop) → let s : tie.Start Inv-loop μ-loop = search in let a : tie.At-loop Inv-loop μ-loop = search in
-    Later (s .args .n) (s .args .state .now) (a .loop .q) (c .commit-round .last .0)
-later c = known (search) .next _ (c .commit-round .ensures)
-
-loop-holds : tie.Need-loop-holds Inv-loop μ-loop
-loop-holds c =
+later : (c : tie.Else1 Inv-loop μ-loop) → let s : tie.Start Inv-loop μ-loop = search in let a : tie.At-loop Inv-loop μ-loop = search in
+    let o : tie.After-commit-once Inv-loop μ-loop = search in Later (s .args .n) (s .args .state .now) (a .loop .state) (o .commit-once .last .0)
+later c =
     let s : tie.Start Inv-loop μ-loop = search in
-    (c .lowest-committable .ensures, onward-start _ (s .pre .0))
+    let a : tie.At-loop Inv-loop μ-loop = search in
+    let o : tie.After-commit-once Inv-loop μ-loop = search in
+    let h = passed (o .commit-once .ensures .0) (c .if1 .left) in
+    onward-next _ _ _ _ (s .pre .1) (a .loop .inv) h (o .commit-once .ensures .1 ∙ cond-true _ _ h)
 
 returns : tie.Need-returns Inv-loop μ-loop
-returns c = let a : tie.At-loop Inv-loop μ-loop = search in onward-end _ _ (a .loop .inv .1) (omega arith)
+returns c =
+    let a : tie.At-loop Inv-loop μ-loop = search in
+    let o : tie.After-commit-once Inv-loop μ-loop = search in
+    let t : tie.Then1 Inv-loop μ-loop = search in
+    let h = failed (o .commit-once .ensures .0) (t .if1 .taken) in
+    onward-end _ _ _ (a .loop .inv) h (o .commit-once .ensures .1 ∙ cond-false _ _ h)
 
 pub commit-all-spec : {M : Type 1} → statement M
 commit-all-spec =
@@ -40,11 +42,10 @@ commit-all-spec =
     (tie.spec
     Inv-loop
     μ-loop
-    (λ c κs. search needs)
-    loop-holds
-    (λ c κs. let k = known (search) in search needs)
-    (λ c κs. let k = later (search) in search needs)
-    (λ c. let k = later (search) in search needs)
-    (λ c. let k = later (search) in search needs)
-    (λ c. let a : tie.At-loop Inv-loop μ-loop = search in a .loop .inv .1 .alike .size)
-    returns)
+    (λ c. let s : tie.Start Inv-loop μ-loop = search in onward-start _ (s .pre .0))
+    commit-once-requires
+    (λ c. let o : tie.After-commit-once Inv-loop μ-loop = search in let a : tie.At-loop Inv-loop μ-loop = search in o .commit-once .kept .0
+    ∙ a .loop .inv .alike .size)
+    returns
+    (λ c. later (search) .less)
+    (λ c. later (search) .onward))

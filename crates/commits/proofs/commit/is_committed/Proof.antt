@@ -2,9 +2,9 @@
 use Rattle.commits.proofs.Steps.{held-word, not-led, by-voters}
 use Rattle.replica.specs.State.{vertices}
 use Rattle.protocol.specs.Dag.{held}
-use Rattle.record.specs.Members.{leader}
+use Rattle.record.specs.Members.{leaderAt}
 use Rattle.record.proofs.Booleans.{passed, failed}
-use Rattle.record.proofs.Masks.{leader-small, leader-lt}
+use Rattle.record.proofs.Masks.{leaderAt-lt}
 use Rattle.record.proofs.Handed.{meets-handed}
 use native.Mathlib.Omega.{arith}
 use mathlib.Core.Path.{_≡_, _∙_}
@@ -14,34 +14,45 @@ use Rattle.commits.proofs.commit.is_committed.Tie as tie
 
 -- the first test asks whether the leader's vertex is held
 led : (c : tie.After-has-bit) → let a = (let s : tie.Start = search in s .args) in c .has-bit .result
-    ≡ held (vertices (a .state .now)) (a .q) (leader (a .n) (a .q))
+    ≡ held (vertices (a .state .now)) (a .q) (leaderAt (a .n) (a .q) (a .i))
 led c =
     let s : tie.Start = search in
-    let small = leader-lt (s .args .n) (s .args .q) (omega (arith, s .pre .0 .low)) in
-    cc (held-word _ (s .pre .0) (s .args .q) (leader (s .args .n) (s .args .q)) (s .pre .3) (omega arith) (omega (arith, s .pre .0 .high)))
+    let L = s .pre .0 in
+    let S = L .standing in
+    let small = leaderAt-lt (s .args .n) (s .args .q) (s .args .i) (omega (arith, S .low, L .members)) in
+    cc (
+      held-word _ S (s .args .q) (leaderAt (s .args .n) (s .args .q) (s .args .i)) (L .low) (omega (arith, L .high))
+          (omega (arith, S .high, L .members)),
+      L .members,
+    )
 
-leader-of-requires : tie.Need-leader-of-requires
-leader-of-requires c κs = let s : tie.Start = search in search needs
+leader-at-requires : tie.Need-leader-at-requires
+leader-at-requires c κs = let s : tie.Start = search in let L = s .pre .0 in let S = L .standing in search needs
 
 has-bit-requires : tie.Need-has-bit-requires
-has-bit-requires c κs = let s : tie.Start = search in let small = leader-small (s .args .n) (s .args .q) (omega arith) in search needs
+has-bit-requires c κs =
+    let s : tie.Start = search in
+    let L = s .pre .0 in
+    let S = L .standing in
+    let small = leaderAt-lt (s .args .n) (s .args .q) (s .args .i) (omega (arith, S .low, L .members)) in
+    search needs
 
 returns : tie.Need-returns
-returns c = not-led _ _ _ (failed (led (search)) (c .if1 .taken))
+returns c = not-led _ _ _ _ (failed (led (search)) (c .if1 .taken))
 
 returns-2 : tie.Need-returns-2
 returns-2 c =
     let e : tie.Else1 = search in
     let v : tie.After-voters-for = search in
     let s : tie.Start = search in
-    meets-handed _ _ _ (s .pre .2) (c .meets-quorum .ensures)
-    ∙ by-voters _ _ _ _ (v .voters-for .ensures) (passed (led (search)) (e .if1 .left))
+    meets-handed _ _ _ (s .pre .1) (c .meets-quorum .ensures)
+    ∙ by-voters _ _ _ _ _ (v .voters-for .ensures) (passed (led (search)) (e .if1 .left))
 
 pub is-committed-spec : {M : Type 1} → statement M
 is-committed-spec =
     tie.close
     (tie.spec
-    leader-of-requires
+    leader-at-requires
     (λ c κs. search needs)
     has-bit-requires
     returns

@@ -23,6 +23,11 @@ loop-holds c =
     let start : tie.Start Inv-loop μ-loop = search in
     (omega arith, omega (arith, start .pre .3), any-false _ _ (λ i l. committable-low _ i (omega arith)))
 
+is-committed-requires : tie.Need-is-committed-requires Inv-loop μ-loop
+is-committed-requires c κs =
+    let start : tie.Start Inv-loop μ-loop = search in
+    (record { standing = start .pre .0; members = start .pre .1; low = omega arith; high = omega arith; index = omega arith }, start .pre .2)
+
 returns : tie.Need-returns Inv-loop μ-loop
 returns c =
     let after-is-committed : tie.After-is-committed Inv-loop μ-loop = search in
@@ -60,7 +65,7 @@ lowest-committable-spec =
     (λ c. search needs)
     (λ c. search needs)
     loop-holds
-    (λ c κs. search needs)
+    is-committed-requires
     returns
     (λ c. search needs)
     (λ c. search needs)

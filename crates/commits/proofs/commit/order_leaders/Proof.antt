@@ -1,49 +1,48 @@
--- The loop's invariant: the histories of the leaders taken of the rounds below r are ordered. The measure is how many rounds are left.
-use Rattle.commits.proofs.Committing.{Ordering, ordering-start, ordering-in, ordering-out}
-use mathlib.Core.Path.{_≡_, sym, _∙_}
-use mathlib.Core.Logic.{⊎-elim}
-use Prim.Native.Nat.{_≤_, _-_}
+-- The loop's invariant: the histories of the leaders before entry i are ordered. The measure is how many entries are left.
+use Rattle.commits.proofs.Committing.{Ordering, ordering-start, ordering-ready, ordering-next, ordering-end}
+use Rattle.replica.specs.Layout.{leadersSize}
+use Rattle.replica.specs.State.{leaderCount, leaderWord}
+use Rattle.commits.specs.Standing.{LeaderReady}
+use mathlib.Core.Path.{_≡_}
+use Prim.Native.Nat.{_-_, _<_}
 use native.Mathlib.Omega.{arith}
 use borrow.Author.Needs.{needs}
 use Rattle.commits.proofs.commit.order_leaders.Statement.{statement}
 use Rattle.commits.proofs.commit.order_leaders.Tie as tie
-use Rattle.record.specs.Members.{rounds}
 
 abbrev Inv-loop : tie.InvT-loop
-Inv-loop state₀ n taken r₀ state r = (1 ≤ r) × (r ≤ rounds) × Ordering n state₀ taken r state
+Inv-loop state₀ n first count i₀ state i = Ordering n state₀ first i state
 
 abbrev μ-loop : tie.MeasureT-loop
-μ-loop state₀ n taken r₀ state r = rounds - r
+μ-loop state₀ n first count i₀ state i = count - i
 
-loop-holds : tie.Need-loop-holds Inv-loop μ-loop
-loop-holds c =
-    let p = (let s : tie.Start Inv-loop μ-loop = search in s .pre) in
-    (omega arith, omega arith, ordering-start _ _ _ (p .0) (p .1))
-
-order-leader-requires : tie.Need-order-leader-requires Inv-loop μ-loop
-order-leader-requires c κs =
-    let a : tie.At-loop Inv-loop μ-loop = search in
-    let o = a .loop .inv .2 in
-    let there = o .led .there (a .loop .r) (omega arith) (cc) in
-    search needs
+known : (c : tie.In-loop Inv-loop μ-loop) → let s : tie.Start Inv-loop μ-loop = search in let w : tie.After-wide Inv-loop μ-loop = search in
+    let a : tie.At-loop Inv-loop μ-loop = search in (w .wide .result ≡ leaderCount (s .args .state .now)) × (a .loop .i < leadersSize)
+    × LeaderReady (a .loop .state) (s .args .n) (leaderWord (a .loop .state) (a .loop .i))
+known c =
+    let s : tie.Start Inv-loop μ-loop = search in
+    let w : tie.After-wide Inv-loop μ-loop = search in
+    let a : tie.At-loop Inv-loop μ-loop = search in (
+      w .wide .ensures,
+      omega (arith, s .pre .few, w .wide .ensures, c .loop-test .taken),
+      ordering-ready _ _ _ (s .pre) _ _ _ (a .loop .inv) (w .wide .ensures) (c .loop-test .taken),
+    )
 
 loop-again : tie.Need-loop-again Inv-loop μ-loop
 loop-again c =
+    let s : tie.Start Inv-loop μ-loop = search in
+    let w : tie.After-wide Inv-loop μ-loop = search in
     let a : tie.At-loop Inv-loop μ-loop = search in
-    let h : tie.After-has-bit Inv-loop μ-loop = search in (
-      omega arith,
-      omega arith,
-      ⊎-elim
-          (λ w. ordering-in _ _ _ _ _ _ (a .loop .inv .2) (omega arith) (sym (h .has-bit .ensures) ∙ w .0 .taken) (w .5 ∙ w .2 .ensures))
-          (λ w. ordering-out _ _ _ _ _ _ (a .loop .inv .2) (sym (h .has-bit .ensures) ∙ w .0 .left) (w .1))
-          (c .if1 .came),
-    )
+    let i : tie.In-loop Inv-loop μ-loop = search in
+    let o : tie.After-order-leader Inv-loop μ-loop = search in
+    ordering-next _ _ _ (s .pre) _ _ _ _ (a .loop .inv) (w .wide .ensures) (i .loop-test .taken) (o .order-leader .ensures)
 
 returns : tie.Need-returns Inv-loop μ-loop
 returns c =
+    let s : tie.Start Inv-loop μ-loop = search in
+    let w : tie.After-wide Inv-loop μ-loop = search in
     let a : tie.At-loop Inv-loop μ-loop = search in
-    let e : a .loop .r ≡ rounds = omega arith in
-    rw e at (a .loop .inv .2 .is)
+    ordering-end _ _ _ (s .pre) _ _ _ (a .loop .inv) (w .wide .ensures) (omega arith)
 
 pub order-leaders-spec : {M : Type 1} → statement M
 order-leaders-spec =
@@ -51,11 +50,15 @@ order-leaders-spec =
     (tie.spec
     Inv-loop
     μ-loop
-    loop-holds
+    (λ c. let s : tie.Start Inv-loop μ-loop = search in let z = s .pre .standing .size in search needs)
     (λ c κs. search needs)
-    order-leader-requires
-    (λ c. search needs)
+    (λ c. let s : tie.Start Inv-loop μ-loop = search in ordering-start _ _ _ (s .pre))
+    (λ c. let k = known (search) in search needs)
+    (λ c. let k = known (search) in search needs)
+    (λ c. let k = known (search) in let z = k .2 .standing .size in search needs)
+    (λ c κs. known (search) .2)
+    (λ c. let k = known (search) in search needs)
     (λ c. search needs)
     loop-again
-    (λ c. let a : tie.At-loop Inv-loop μ-loop = search in a .loop .inv .2 .alike .size)
+    (λ c. let a : tie.At-loop Inv-loop μ-loop = search in a .loop .inv .alike .size)
     returns)

@@ -1,65 +1,55 @@
--- The tests in turn; a held id has a round from 1 on.
-use borrow.Author.Tests.{eq-eqb, ne-eqb}
+-- The tests in turn.
+use mathlib.Core.Path.{_≡_, ap}
+use mathlib.Core.Bool.{true}
+use Prim.Native.Nat.{ℕ, _<_}
+use native.Mathlib.Omega.{arith}
+use lib.Dec.{eqb}
 use borrow.Author.Needs.{needs}
-use Rattle.record.proofs.Booleans.{passed, failed, and-left}
-use Rattle.record.proofs.Rounds.{round-range}
-use Rattle.replica.specs.WellFormed.{leaderOk}
+use Rattle.record.proofs.Booleans.{passed, failed}
+use Rattle.replica.specs.State.{width, leaderIndex, leaderWord, heldId}
+use Rattle.replica.proofs.Seats.{entry-no, entry-none, entry-first, entry-later}
 use Rattle.replica.proofs.wellformed.leader_ok.Statement.{statement}
 use Rattle.replica.proofs.wellformed.leader_ok.Tie as tie
 
 returns : tie.Need-returns
-unfolding leaderOk
 returns c =
-    let after-is-marked : tie.After-is-marked = search in
-    simp (failed (after-is-marked .is-marked .ensures) (c .if1 .taken))
+    let s : tie.Start = search in
+    let m : tie.After-is-marked = search in
+    entry-no (s .args .state .now) (s .args .i) (failed (m .is-marked .ensures) (c .if1 .taken))
 
-leader-of-requires : tie.Need-leader-of-requires
-leader-of-requires c κs =
-    let after-is-marked : tie.After-is-marked = search in
-    let start : tie.Start = search in
-    (start .pre .2, round-range _ (and-left _ _ (passed (after-is-marked .is-marked .ensures) (c .if1 .left))) .0)
+there : (c : tie.Else1) → let s : tie.Start = search in heldId (s .args .state .now) (leaderWord (s .args .state .now) (s .args .i)) ≡ true
+there c = let m : tie.After-is-marked = search in passed (m .is-marked .ensures) (c .if1 .left)
+
+low : (c : tie.Else2) → let s : tie.Start = search in leaderIndex (s .args .state .now) (leaderWord (s .args .state .now) (s .args .i)) < width
+    (s .args .state .now)
+low c =
+    let i : tie.After-index-of = search in
+    let w : tie.After-width-of = search in
+    let h = c .if2 .left in
+    omega (arith, i .index-of .ensures, w .width-of .ensures, h)
 
 returns-2 : tie.Need-returns-2
-unfolding leaderOk
 returns-2 c =
-    let after-leader-of : tie.After-leader-of = search in
-    let else1 : tie.Else1 = search in
-    let after-is-marked : tie.After-is-marked = search in
-    let start : tie.Start = search in
-    simp (
-      passed (after-is-marked .is-marked .ensures) (else1 .if1 .left),
-      ne-eqb _ _ (rw (after-leader-of .leader-of .ensures, start .pre .1) at
-          (c .if2 .taken)),
-    )
+    let s : tie.Start = search in
+    let i : tie.After-index-of = search in
+    let w : tie.After-width-of = search in
+    let h = c .if2 .taken in
+    entry-none (s .args .state .now) (s .args .i) (there (search)) (omega (arith, i .index-of .ensures, w .width-of .ensures, h))
 
 returns-3 : tie.Need-returns-3
-unfolding leaderOk
 returns-3 c =
-    let else2 : tie.Else2 = search in
-    let after-leader-of : tie.After-leader-of = search in
-    let else1 : tie.Else1 = search in
-    let after-is-marked : tie.After-is-marked = search in
-    let start : tie.Start = search in
-    simp (
-      passed (after-is-marked .is-marked .ensures) (else1 .if1 .left),
-      eq-eqb _ _ (rw (after-leader-of .leader-of .ensures, start .pre .1) at (else2 .if2 .left)),
-      eq-eqb _ _ (c .if3 .taken),
-    )
+    let s : tie.Start = search in
+    let i : tie.After-index-of = search in
+    let t : tie.Then3 = search in
+    entry-first (s .args .state .now) (s .args .i) _ (there (search)) (low (search)) (t .if3 .taken) (ap (λ (x : ℕ). eqb x 0) (i .index-of .ensures))
 
 returns-4 : tie.Need-returns-4
-unfolding leaderOk
 returns-4 c =
-    let else3 : tie.Else3 = search in
-    let else2 : tie.Else2 = search in
-    let after-leader-of : tie.After-leader-of = search in
-    let else1 : tie.Else1 = search in
-    let after-is-marked : tie.After-is-marked = search in
-    let start : tie.Start = search in
-    simp (
-      passed (after-is-marked .is-marked .ensures) (else1 .if1 .left),
-      eq-eqb _ _ (rw (after-leader-of .leader-of .ensures, start .pre .1) at (else2 .if2 .left)),
-      ne-eqb _ _ (else3 .if3 .left),
-    )
+    let s : tie.Start = search in
+    let i : tie.After-index-of = search in
+    let e : tie.Else3 = search in
+    let n : tie.After-comes-next = search in
+    entry-later (s .args .state .now) (s .args .i) _ (there (search)) (low (search)) (e .if3 .left) (rw (i .index-of .ensures) at (n .comes-next .ensures))
 
 pub leader-ok-spec : {M : Type 1} → statement M
 leader-ok-spec =
@@ -70,11 +60,13 @@ leader-ok-spec =
     (λ c. search needs)
     (λ c κs. search needs)
     returns
-    leader-of-requires
+    (λ c κs. search needs)
+    (λ c κs. search needs)
     returns-2
     returns-3
     (λ c. search needs)
     (λ c. search needs)
     (λ c. search needs)
     (λ c. search needs)
+    (λ c κs. search needs)
     returns-4)

@@ -9,14 +9,14 @@ use Rattle.record.specs.Below.{all}
 use Rattle.record.proofs.Booleans.{passed, failed}
 use Rattle.record.proofs.Below.{all-none, all-more, all-stop}
 use Rattle.record.proofs.Masks.{legal-range}
-use Rattle.record.specs.Members.{rounds}
+use Rattle.replica.specs.Layout.{leadersSize}
 use Rattle.replica.specs.State.{memberCount, leaderCount}
 use Rattle.replica.specs.WellFormed.{leaderOk, leadersOk}
 use Rattle.replica.proofs.wellformed.leaders_ok.Statement.{statement}
 use Rattle.replica.proofs.wellformed.leaders_ok.Tie as tie
 
 abbrev Inv-loop : tie.InvT-loop
-Inv-loop state n count i₀ i = (i ≤ count) × (n ≡ memberCount state) × (count ≡ leaderCount state) × (count ≤ rounds) × (all i (leaderOk state) ≡ true)
+Inv-loop state n count i₀ i = (i ≤ count) × (n ≡ memberCount state) × (count ≡ leaderCount state) × (count ≤ leadersSize) × (all i (leaderOk state) ≡ true)
 
 abbrev μ-loop : tie.MeasureT-loop
 μ-loop state n count i₀ i = count - i

@@ -42,14 +42,29 @@ impl Group {
         mask & !self.all() == 0
     }
 
-    /// The leader of a round from 1.
-    pub fn leader(self, round: u32) -> u32 {
-        (round - 1) % self.n
+    /// The leader of a round from 1 with an index (02, request A10); index 0 is the main one's.
+    pub fn leader_at(self, round: u32, index: u32) -> u32 {
+        (round - 1 + index) % self.n
     }
 
-    /// The vertex id of the leader of a round from 1.
+    /// The vertex id of the leader of a round from 1 with an index.
+    pub fn leader_id_at(self, round: u32, index: u32) -> u32 {
+        vertex_id(round, self.leader_at(round, index))
+    }
+
+    /// The mask of the first m leaders of a round from 1.
+    pub fn leader_mask(self, round: u32, m: u32) -> u32 {
+        (0..m).fold(0, |mask, index| mask | bit(self.leader_at(round, index)))
+    }
+
+    /// The main leader of a round from 1, its only one where m is 1.
+    pub fn leader(self, round: u32) -> u32 {
+        self.leader_at(round, 0)
+    }
+
+    /// The vertex id of the main leader of a round from 1.
     pub fn leader_id(self, round: u32) -> u32 {
-        vertex_id(round, self.leader(round))
+        self.leader_id_at(round, 0)
     }
 }
 

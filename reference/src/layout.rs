@@ -11,6 +11,8 @@ pub const LAST_ROUND: u32 = 32;
 pub const LAST_COMMITTABLE_ROUND: u32 = LAST_ROUND - 1;
 /// The highest current round, reached when the last round is complete.
 pub const LAST_CURRENT_ROUND: u32 = LAST_ROUND + 1;
+/// The most leaders that a round can have (02, request A10).
+pub const MOST_LEADERS: u32 = 3;
 /// A vertex id (01: ref) is this many times the round, plus the member.
 pub const IDS_PER_ROUND: u32 = 16;
 /// The vertex ids of all rounds.

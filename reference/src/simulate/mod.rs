@@ -7,11 +7,14 @@
 //! also in whether they vote. Or the members' own states make all that is sent. Either way
 //! some replicas get timeouts one by one, others in bundles, and some both ways; and some hand
 //! vertices over when their parents are held, others as they come, with a pending buffer.
+//!
+//! A world with several leaders in a round is for models alone: states have no words for it.
 
 pub mod buffers;
 mod delivery;
 pub mod digests;
 pub(crate) mod host;
+mod models;
 mod noise;
 mod options;
 mod proposing;
@@ -20,14 +23,14 @@ pub mod sightings;
 mod transport;
 mod world;
 
+pub use models::{simulate_models, ModelRun};
 pub use options::Options;
 pub use proposing::simulate_proposing;
+pub use world::World;
 
 use crate::call::Call;
 use crate::group::Group;
-use crate::layout::LAST_ROUND;
 use crate::rng::Rng;
-use world::World;
 
 /// The calls of a simulated group.
 #[derive(Clone, Debug)]
@@ -53,9 +56,8 @@ pub fn simulate_replicas(seed: u64, n: u32, options: &Options, replicas: usize) 
             replicas: vec![Vec::new(); replicas],
         };
     };
-    let mut rng = Rng::new(seed ^ (u64::from(n) << 56));
-    let rounds = options.rounds.clamp(1, LAST_ROUND);
-    let world = World::draw(&mut rng, group, rounds, options);
+    let mut rng = rng_of(seed, group);
+    let world = World::draw(&mut rng, group, 1, options);
     let replicas = (0..replicas)
         .map(|_| replica::draw_calls(&mut rng, &world, options))
         .collect();
@@ -64,4 +66,8 @@ pub fn simulate_replicas(seed: u64, n: u32, options: &Options, replicas: usize) 
         faulty: world.faulty,
         replicas,
     }
+}
+
+fn rng_of(seed: u64, group: Group) -> Rng {
+    Rng::new(seed ^ (u64::from(group.n()) << 56))
 }

@@ -1,8 +1,8 @@
 //! What a simulated group is like.
 
 /// Chances are in percent unless said otherwise. Groups driven by made records alone have no use
-/// for `missed`, `lost_vertices`, `members` and `premises`: their vertices all arrive, and the
-/// premises hold.
+/// for `missed`, `lost_vertices`, `members`, `premises` and `certified_leaders`: their vertices all
+/// arrive, and the premises hold.
 #[derive(Clone, Debug)]
 pub struct Options {
     /// Rounds that the group runs, from 1 to 32.
@@ -28,8 +28,9 @@ pub struct Options {
     /// some over in order too. With 0 nobody does, nor is a vertex with a buffer among the calls that
     /// are to be refused.
     pub buffers: u32,
-    /// That a faulty member sends a replica a first message that names the previous leader exactly if
-    /// its vertex does not. With 0 nobody is drawn for it; of made records alone nobody does it.
+    /// That a faulty member sends a replica a first message that names the previous leader, or some of
+    /// several, exactly if its vertex does not. With 0 nobody is drawn for it; of made records alone
+    /// nobody does it.
     pub split_votes: u32,
     /// That a replica never gets a vertex, in a thousand; what builds on it is then refused.
     pub lost_vertices: u32,
@@ -47,6 +48,10 @@ pub struct Options {
     /// Whether the premises of the agreement claim hold: a single vertex for a round and source,
     /// honest first messages equal to the vertex, and no honest voter in a no-vote mask.
     pub premises: bool,
+    /// The leaders of a round, from index 0 on, against which the next main leader's vertex needs
+    /// no-votes where it lacks them: at least the main one, and no more than there are. With fewer than
+    /// there are the premise about no-votes fails for the others.
+    pub certified_leaders: u32,
 }
 
 impl Options {
@@ -70,6 +75,7 @@ impl Options {
             early_stop: 0,
             members: 70,
             premises: true,
+            certified_leaders: u32::MAX,
         }
     }
 

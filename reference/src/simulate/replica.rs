@@ -73,9 +73,9 @@ fn draw_messages(rng: &mut Rng, world: &World, options: &Options) -> Messages {
     messages
 }
 
-type Messages = Vec<(u32, Call)>;
+pub type Messages = Vec<(u32, Call)>;
 
-fn draw_vertex(
+pub fn draw_vertex(
     rng: &mut Rng,
     world: &World,
     options: &Options,
@@ -105,7 +105,7 @@ fn draw_vertex(
 
 /// An honest member's first message is its vertex; a faulty member may send each replica any, also one
 /// that votes where its vertex does not.
-fn draw_first_message(
+pub fn draw_first_message(
     rng: &mut Rng,
     world: &World,
     options: &Options,
@@ -117,7 +117,7 @@ fn draw_first_message(
     let splits = is_faulty && options.split_votes > 0 && rng.percent(options.split_votes);
     let may_differ = is_faulty || !options.premises;
     let record = match vertex {
-        Some(vertex) if splits => Some(world.with_other_vote(rng, &vertex)),
+        Some(vertex) if splits => Some(world.with_other_votes(rng, &vertex)),
         _ if may_differ && rng.percent(50) => {
             Some(world.other_record(rng, round, member, world.group.all()))
         }
@@ -156,7 +156,7 @@ fn draw_notes(
             Call::Timeout(round, member),
         ));
     }
-    let may_sign = has(world.no_voters[round as usize], member);
+    let may_sign = has(world.no_voters[round as usize][0], member);
     if may_sign && rng.percent(chance) && !rng.percent(options.lost_messages) {
         messages.push((
             time + rng.below(options.spread),

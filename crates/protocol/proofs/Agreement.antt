@@ -7,14 +7,14 @@ use Prim.Native.Nat.{ℕ, zero, _<_}
 use native.Mathlib.Nat.{eq-zero-or-pos}
 use native.Mathlib.Omega.{arith}
 use Rattle.record.specs.Members.{leaderAt}
-use Rattle.protocol.specs.Dag.{Dag, Within, held, last, direct}
+use Rattle.protocol.specs.Dag.{Dag, held, last, direct}
 use Rattle.protocol.specs.Paths.{reaches}
 use Rattle.protocol.specs.Chain.{chain, leaders}
 use Rattle.protocol.specs.Journal.{extend, journalOf, journal}
 use Rattle.protocol.specs.Premises.{DagPremises}
 use Rattle.protocol.specs.Claims.{Prefix, Settled, Before, Growth, Agreement, Safety}
 use Rattle.protocol.proofs.Paths.{path-held, key}
-use Rattle.protocol.proofs.Commit.{settled-backed, settled-held, settled-low, settled-none, last-settled, before-total, last-grows}
+use Rattle.protocol.proofs.Commit.{settled-backed, settled-held, settled-low, settled-none, last-settled, before-total}
 use Rattle.protocol.proofs.Chain.{chain-self, chain-split, chain-longer, chain-same, chain-held}
 use Rattle.protocol.proofs.Journal.{extend-none, extend-append, extend-prefix, extend-same}
 
@@ -96,10 +96,6 @@ module _ (n m : ℕ) {I : Type 0} (dag : I → Dag) (honest : ℕ → Bool) (P :
   pub agreement : Agreement n m dag
   agreement i j = ⊎-elim (λ B. inl (ordered i j B)) (λ B. inr (ordered j i B))
       (before-total (last n (dag i)) (direct n m (dag i) (last n (dag i))) (last n (dag j)) (direct n m (dag j) (last n (dag j))))
-
-  -- a member's lists only grow as it gains records
-  pub lists-grow : (i j : I) → Within (dag i) (dag j) → Prefix (leaders n m (dag i)) (leaders n m (dag j)) × Prefix (journal n m (dag i)) (journal n m (dag j))
-  lists-grow i j W = ordered i j (last-grows n (dag i) (dag j) W m)
 
 -- The safety theorem.
 pub safety : Safety

@@ -13,7 +13,7 @@ use Rattle.record.proofs.Booleans.{which, never, and-left, and-right, and-both,
 use Rattle.record.proofs.Below.{count-mono, count-cong}
 use Rattle.protocol.specs.Dag.{Dag, Within, present, held, votes, voter, enough, backed, lastUpTo, last, direct}
 use Rattle.protocol.specs.Claims.{Settled, Before}
-use Rattle.record.proofs.Longest.{longest-le, longest-in, longest-reach, longest-cong}
+use Rattle.record.proofs.Longest.{longest-le, longest-in, longest-reach}
 use Rattle.protocol.proofs.Paths.{parent-present}
 
 -- a backed leader's vertex is held
@@ -58,10 +58,6 @@ up-to-highest n d (suc k) q l h c = go (which (backed n d (suc k) 0)) (eq-or-lt-
 -- the last round is at most votedRounds, for votes for round 32 would be of round 33
 pub last-low : (n : ℕ) (d : Dag) → last n d ≤ votedRounds
 last-low n d = up-to-low n d votedRounds
-
--- and no main leader from there up to votedRounds is backed
-pub backed-above : (n : ℕ) (d : Dag) (q : ℕ) → last n d < q → q ≤ votedRounds → backed n d q 0 ≡ false
-backed-above n d q l h = ⊎-elim (λ c. absurd (omega (arith, up-to-highest n d votedRounds q (omega arith) h c))) (λ e. e) (which (backed n d q 0))
 
 -- ---- direct runs
 
@@ -168,21 +164,6 @@ module _ (n : ℕ) (d e : Dag) (W : Within d e) where
   direct-grows m (suc q) = direct-reach n m e (suc q) (direct n m d (suc q)) (omega arith) (direct-le n m d (suc q))
       (λ x l. backed-stays (suc q) x (direct-backed n m d (suc q) x l))
 
-  -- the last round does not fall
-  pub up-to-grows : (k : ℕ) → lastUpTo n d k ≤ lastUpTo n e k
-  up-to-grows k = ⊎-elim
-      (λ z. omega (arith, leb-true (lastUpTo n d k) 0 z))
-      (λ z. up-to-highest n e k (lastUpTo n d k) (leb-false _ _ z) (up-to-low n d k) (backed-stays _ 0 (up-to-backed n d k (leb-false _ _ z))))
-      (which (leb (lastUpTo n d k) 0))
-
-  -- so the last place does not go back
-  pub last-grows : (m : ℕ) → Before (last n d) (direct n m d (last n d)) (last n e) (direct n m e (last n e))
-  last-grows m = go (eq-or-lt-of-le (up-to-grows votedRounds))
-    where
-      go : (last n d ≡ last n e) ⊎ (last n d < last n e) → Before (last n d) (direct n m d (last n d)) (last n e) (direct n m e (last n e))
-      go (inl q) = inr (q, rw (← q) (direct-grows m (last n d)))
-      go (inr l) = inl l
-
 -- ---- two DAGs with the same vertices, and the same votes of first messages
 
 module _ (n m : ℕ) (some : 1 ≤ m) (d e : Dag) (same : (r p : ℕ) → d .vertex r p ≡ e .vertex r p)
@@ -192,12 +173,6 @@ module _ (n m : ℕ) (some : 1 ≤ m) (d e : Dag) (same : (r p : ℕ) → d .ver
   unfolding backed voter
   backed-cong q x lx = ap₂ _&&_ (ap present (same q (leaderAt n q x)))
       (ap (leb (quorum n)) (count-cong n _ _ (λ p l. ap₂ _||_ (ap (votes n q x) (same (suc q) p)) (alike q x p lx))))
-
-  -- and have the same direct runs
-  pub direct-cong : (q : ℕ) → direct n m d q ≡ direct n m e q
-  unfolding direct
-  direct-cong zero = refl
-  direct-cong (suc q) = longest-cong m _ _ (λ x l. backed-cong (suc q) x l)
 
   -- and the same last round
   pub up-to-cong : (k : ℕ) → lastUpTo n d k ≡ lastUpTo n e k

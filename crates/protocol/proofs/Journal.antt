@@ -35,10 +35,6 @@ module _ (n : ℕ) (v : Records) where
   extend-append j [] ss = refl
   extend-append j (r ∷ rs) ss = extend-append (j ++ fresh n v j r) rs ss
 
-  -- one more leader
-  pub extend-more : (j rs : List ℕ) (r : ℕ) → extend n v j (rs ++ r ∷ []) ≡ extend n v j rs ++ fresh n v (extend n v j rs) r
-  extend-more j rs r = extend-append j rs (r ∷ []) ∙ extend-one (extend n v j rs) r
-
   -- a journal only grows
   pub extend-prefix : (j rs : List ℕ) → Prefix j (extend n v j rs)
   unfolding extend

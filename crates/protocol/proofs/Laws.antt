@@ -1,5 +1,6 @@
--- What the crates above cite beside the laws of the other modules: DAGs that hold the same, the lengths of the lists, and the places a chain goes through.
-use mathlib.Core.Path.{_≡_, sym, _∙_, ap, ap₂, fun-ext, subst}
+-- What the crates above cite beside the laws of the other modules: equal vertex functions, the last place, the lengths of the lists, and the places that a
+-- chain goes through.
+use mathlib.Core.Path.{_≡_, sym, _∙_, ap, fun-ext}
 use mathlib.Core.Bool.{Bool, true, false, not, _&&_}
 use mathlib.Core.Logic.{_⊎_, inl, inr, ⊎-elim}
 use mathlib.Core.List.{List, [], _∷_, _++_}
@@ -11,67 +12,27 @@ use lib.Dec.{leb}
 use lib.ListN.{length, getD, length-append}
 use borrow.Author.Tests.{leb-true, leb-false}
 use Rattle.record.specs.Below.{select}
-use Rattle.record.specs.Members.{legal, has, idRound, idMember, leaderAt, idLimit, votedRounds}
+use Rattle.record.specs.Members.{legal, has, idRound, idMember, idLimit, votedRounds}
 use Rattle.record.proofs.Booleans.{which, never}
 use Rattle.record.proofs.Below.{select-cong}
-use Rattle.protocol.specs.Dag.{Records, Dag, held, votes, backed, last, direct}
-use Rattle.protocol.specs.Paths.{path, history, reaches}
-use Rattle.protocol.specs.Chain.{leaderId, seats, span, walk, chain, leaders}
-use Rattle.protocol.specs.Journal.{among, fresh, extend, journal}
+use Rattle.protocol.specs.Dag.{Records, Dag, held, backed, last, direct}
+use Rattle.protocol.specs.Paths.{history, reaches}
+use Rattle.protocol.specs.Chain.{leaderId, seats, span, walk, chain}
+use Rattle.protocol.specs.Journal.{among, fresh}
 use Rattle.protocol.specs.Premises.{ValidVertices}
 use Rattle.protocol.specs.Claims.{Settled, Before}
 use Rattle.protocol.specs.Masks.{historyMasks}
 use Rattle.record.proofs.Longest.{longest-le, longest-some}
-use Rattle.protocol.proofs.Commit.{up-to-cong, direct-cong, up-to-backed, up-to-highest, last-low, settled-backed}
+use Rattle.protocol.proofs.Commit.{up-to-backed, up-to-highest, last-low, settled-backed}
 use Rattle.protocol.proofs.Lists.{once, once-span}
-use Rattle.protocol.proofs.Chain.{seats-none, seats-more, walk-none, walk-stop, walk-skip, walk-take, walk-last, chain-here, chain-some, chain-held}
-use Rattle.protocol.proofs.Journal.{extend-new}
+use Rattle.protocol.proofs.Chain.{seats-none, seats-more, walk-none, walk-stop, walk-skip, walk-take, walk-last, chain-here, chain-some}
 use Rattle.record.proofs.Rounds.{id-same}
-use Rattle.protocol.proofs.History.{Named, named-up, history-held}
+use Rattle.protocol.proofs.History.{Named, history-held}
 use Rattle.protocol.proofs.Masks.{history-claim}
 
 -- two vertex functions that agree everywhere are the same
 pub records-ext : (v w : Records) → ((r p : ℕ) → v r p ≡ w r p) → v ≡ w
 records-ext v w h = fun-ext (λ r. fun-ext (λ p. h r p))
-
-module _ (n m : ℕ) (v w : Records) (h : (r p : ℕ) → v r p ≡ w r p) where
-  -- they have the same paths, histories, walks, chains and journals
-  pub path-cong : (r p t q : ℕ) → path n v r p t q ≡ path n w r p t q
-  path-cong r p t q = ap (λ (x : Records). path n x r p t q) (records-ext v w h)
-
-  pub history-cong : (r p y : ℕ) → history n v r p y ≡ history n w r p y
-  history-cong r p y = ap (λ (x : Records). history n x r p y) (records-ext v w h)
-
-  pub walk-cong : (c a r t : ℕ) → walk n m v c a r t ≡ walk n m w c a r t
-  walk-cong c a r t = ap (λ (x : Records). walk n m x c a r t) (records-ext v w h)
-
-  pub chain-cong : (c a q b : ℕ) → chain n m v c a q b ≡ chain n m w c a q b
-  chain-cong c a q b = ap (λ (x : Records). chain n m x c a q b) (records-ext v w h)
-
-  pub fresh-cong : (j : List ℕ) (y : ℕ) → fresh n v j y ≡ fresh n w j y
-  fresh-cong j y = ap (λ (x : Records). fresh n x j y) (records-ext v w h)
-
-  pub extend-cong : (j ids : List ℕ) → extend n v j ids ≡ extend n w j ids
-  extend-cong j ids = ap (λ (x : Records). extend n x j ids) (records-ext v w h)
-
-  pub well-formed-cong : ValidVertices n v → ValidVertices n w
-  well-formed-cong = subst (λ (x : Records). ValidVertices n x) (records-ext v w h)
-
--- two DAGs with the same vertices, and the same votes of first messages, have the same lists
-module _ (n m : ℕ) (some : 1 ≤ m) (d e : Dag) (same : (r p : ℕ) → d .vertex r p ≡ e .vertex r p)
-    (alike : (r x p : ℕ) → x < m → votes n r x (d .first (suc r) p) ≡ votes n r x (e .first (suc r) p)) where
-  pub last-cong : last n d ≡ last n e
-  last-cong = up-to-cong n m some d e same alike votedRounds
-
-  pub last-direct-cong : direct n m d (last n d) ≡ direct n m e (last n e)
-  last-direct-cong = direct-cong n m some d e same alike (last n d) ∙ ap (direct n m e) last-cong
-
-  pub leaders-cong : leaders n m d ≡ leaders n m e
-  leaders-cong = chain-cong n m (d .vertex) (e .vertex) same 0 0 (last n d) (direct n m d (last n d))
-      ∙ ap₂ (λ (q : ℕ) (b : ℕ). chain n m (e .vertex) 0 0 q b) last-cong last-direct-cong
-
-  pub journal-cong : journal n m d ≡ journal n m e
-  journal-cong = extend-cong n m (d .vertex) (e .vertex) same [] (leaders n m d) ∙ ap (extend n (e .vertex) []) leaders-cong
 
 -- a settled place from which nothing more is ready is the last one
 pub last-place : (n m : ℕ) (d : Dag) (c a : ℕ) → 1 ≤ m → c ≤ votedRounds → Settled n m d c a → direct n m d c ≤ a
@@ -147,16 +108,6 @@ module _ (n m : ℕ) (v : Records) where
     where
       below : m * c + a + length (walk n m v c a (suc q) (suc q - 1)) ≤ m * q + m
       below = rw (sub-one (suc q)) (walk-length c a (suc q) q la (omega arith))
-
-  -- what a chain adds to a journal is held, of rounds 1 to q
-  pub extend-named : legal n ≡ true → ValidVertices n v → (j : List ℕ) (c a q b y : ℕ) → c ≤ q → ((x : ℕ) → x < b → held v q (leaderAt n q x) ≡ true)
-      → among (extend n v j (chain n m v c a q b)) y ≡ true → (among j y ≡ true) ⊎ Named n v q y
-  extend-named g W j c a q b y l h e = ⊎-elim (λ d. inl d) (λ d. inr (new (extend-new n v j (chain n m v c a q b) y e d))) (which (among j y))
-    where
-      new : (x : ℕ) × (among (chain n m v c a q b) x ≡ true) × (history n v (idRound x) (idMember x) y ≡ true) × (y < idLimit) → Named n v q y
-      new w =
-          let k = chain-held n m v g c a q b (w .0) l h (w .1) in
-          named-up n v (idRound (w .0)) q y (k .2) (history-held n v g W (idRound (w .0)) (idMember (w .0)) y (k .0) (w .2))
 
   -- a journal of ids of rounds 1 to q, each once, has at most 16 q
   pub journal-length : (j : List ℕ) (q : ℕ) → once j ≡ true → ((y : ℕ) → among j y ≡ true → Named n v q y) → length j ≤ 16 * q

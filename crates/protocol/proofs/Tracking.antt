@@ -3,7 +3,7 @@
 use mathlib.Core.Path.{_≡_, refl, sym, ap, ap₂, _∙_}
 use mathlib.Core.Bool.{Bool, true, false}
 use mathlib.Core.Logic.{_⊎_, inl, inr, ⊎-elim}
-use mathlib.Core.List.{List, [], _∷_, _++_, append-nil}
+use mathlib.Core.List.{List, [], _++_, append-nil}
 use Prim.Native.Nat.{ℕ, zero, suc, _≤_, _<_}
 use native.Mathlib.Nat.{eq-or-lt-of-le}
 use native.Mathlib.Omega.{arith}
@@ -12,12 +12,12 @@ use borrow.Author.Tests.{leb-true, leb-false}
 use Rattle.record.specs.Members.{votedRounds}
 use Rattle.record.proofs.Booleans.{which, never}
 use Rattle.protocol.specs.Dag.{Dag, Within, backed, last, direct}
-use Rattle.protocol.specs.Chain.{leaderId, chain, leaders}
+use Rattle.protocol.specs.Chain.{chain, leaders}
 use Rattle.protocol.specs.Journal.{extend, journalOf, journal}
 use Rattle.protocol.specs.Premises.{DagPremises}
 use Rattle.protocol.specs.Claims.{Settled, Before}
 use Rattle.protocol.proofs.Commit.{direct-none, direct-reach, direct-le, direct-backed, direct-grows, settled-backed}
-use Rattle.protocol.proofs.Chain.{seats-none, seats-more, chain-here, chain-self}
+use Rattle.protocol.proofs.Chain.{chain-self}
 use Rattle.protocol.proofs.Journal.{extend-none}
 use Rattle.protocol.proofs.Laws.{last-place}
 use Rattle.protocol.proofs.Agreement.{growth}
@@ -53,11 +53,6 @@ module _ (n m : ℕ) where
       go (inr e) =
           let l : a < direct n m d q = leb-false (direct n m d q) a e in
           never (direct-backed n m d q a l) (h (omega (arith, direct-le n m d q)))
-
-  -- what a commit of the next leader of a round takes: that leader
-  pub chain-next : (d : Dag) (q a : ℕ) → chain n m (d .vertex) q a q (suc a) ≡ leaderId n q a ∷ []
-  chain-next d q a = chain-here n m (d .vertex) q a (suc a) ∙ seats-more n q a a (omega arith)
-      ∙ ap (λ (l : List ℕ). l ++ leaderId n q a ∷ []) (seats-none n q a a (omega arith))
 
 -- (c, a) is a settled place of d, and the lists are those of its chain
 pub record At (n m : ℕ) (d : Dag) (c a : ℕ) (L J : List ℕ) : Type 0 where

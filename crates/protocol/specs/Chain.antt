@@ -13,10 +13,6 @@ module _ (n : ℕ) where
   abbrev pub leaderId : ℕ → ℕ → ℕ
   leaderId r i = idOf r (leaderAt n r i)
 
-  -- and of its main leader
-  abbrev pub mainId : ℕ → ℕ
-  mainId r = leaderId r 0
-
   -- the ids of the vertices of round r's leaders a, .. b - 1, by rising index
   unfoldable pub seats : ℕ → ℕ → ℕ → List ℕ
   seats r a zero = []

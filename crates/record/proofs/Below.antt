@@ -101,15 +101,6 @@ pub digit-mono : (a b : Bool) → (a ≡ true → b ≡ true) → cond a 1 0 ≤
 digit-mono true b h = rw (h refl) (omega arith)
 digit-mono false b h = omega arith
 
--- a turn of a rising loop
-pub count-more : (i : ℕ) (t : ℕ → Bool) → t i ≡ true → count (i + 1) t ≡ count i t + 1
-unfolding count
-count-more i t e = rw (add-one i) (rw e)
-
-pub count-same : (i : ℕ) (t : ℕ → Bool) → t i ≡ false → count (i + 1) t ≡ count i t
-unfolding count
-count-same i t e = rw (add-one i) (rw e (omega arith))
-
 pub count-le : (k : ℕ) (t : ℕ → Bool) → count k t ≤ k
 unfolding count
 count-le zero t = omega arith

@@ -24,7 +24,7 @@ use Rattle.commits.specs.Commit.{appendLeader, appendLeaders}
 use Rattle.commits.specs.Taken.{takenOf, gather}
 use Rattle.commits.specs.Standing.{LeaderRoom, RunsReady, entries}
 use Rattle.commits.proofs.Steps.{append-none, append-more, append-size, append-members, append-count}
-use Rattle.commits.proofs.Running.{gather-none}
+use Rattle.commits.proofs.Running.{gather-none, gather-above}
 
 -- a leader of the 32 rounds is a small number
 pub leaderAt-small : (n r i : ℕ) → r ≤ rounds → i < mostLeaders → leaderAt n r i < 64
@@ -145,10 +145,10 @@ pub record Appending (n c a : ℕ) (runs l₀ : List ℕ) (r : ℕ) (l : List �
   pub count : leaderCount l ≡ leaderCount l₀ + length (gather n c a runs r)
   pub is : l ≡ appendLeaders l₀ (gather n c a runs r)
 
-module _ (n c a : ℕ) (runs l₀ : List ℕ) (G : RunsReady l₀ n c a runs) where
-  pub appending-start : Appending n c a runs l₀ 1 l₀
+module _ (n c a q : ℕ) (runs l₀ : List ℕ) (G : RunsReady l₀ n c a q runs) where
+  pub appending-start : Appending n c a runs l₀ c l₀
   appending-start =
-      let e : gather n c a runs 1 ≡ [] = gather-none n c a runs 1 (λ r k. let z : r ≡ 0 = omega arith in rw z (G .none)) in
+      let e : gather n c a runs c ≡ [] = gather-none n c a runs c (G .below) in
       record {
         size = G .room .size;
         same = refl;
@@ -192,6 +192,12 @@ module _ (n c a : ℕ) (runs l₀ : List ℕ) (G : RunsReady l₀ n c a runs) wh
         count = omega (arith, A .count, appends-count new l (A .size), length-append (gather n c a runs r) new, ap length more);
         is = ap (λ (z : List ℕ). appendLeaders z new) (A .is) ∙ append-append l₀ (gather n c a runs r) new ∙ ap (appendLeaders l₀) (sym more);
       })
+
+  -- above round q there is nothing to append
+  pub appending-end : (r : ℕ) (l : List ℕ) → r ≡ q + 1 → Appending n c a runs l₀ r l → l ≡ appendLeaders l₀ (gather n c a runs rounds)
+  appending-end r l e A =
+      let d : (rounds - r) + r ≡ rounds = omega (arith, G .high) in
+      A .is ∙ ap (appendLeaders l₀) (sym (gather-above n c a runs r (rounds - r) (λ t k. G .above t (omega arith))) ∙ ap (gather n c a runs) d)
 
 -- ---- the entries from one on
 

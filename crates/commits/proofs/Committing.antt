@@ -23,10 +23,10 @@ use Rattle.replica.specs.State.{memberCount, committedRound, leaderCount, journ
 use Rattle.replica.specs.State.{width, lastPlace}
 use Rattle.replica.proofs.Width.{width-some, width-most}
 use Rattle.commits.specs.Commit.{appendLeader, appendLeaders, enter, enterAll, orderLeader, orderLeaders, taken, commit}
-use Rattle.commits.specs.Taken.{gather, TakenRuns}
+use Rattle.commits.specs.Taken.{takenOf, lowestTaken, gather, TakenRuns}
 use Rattle.commits.specs.Standing.{Standing, Room, LeaderRoom, LeaderReady, RunsReady, entries, orderFrom, LeadersReady}
 use Rattle.commits.specs.Standing.{Going, Ready, Next, Further}
-use Rattle.commits.proofs.Readying.{ready-before, taken-held, further-one}
+use Rattle.commits.proofs.Readying.{lowest-known, ready-before, taken-held, further-one}
 use Rattle.commits.proofs.Steps.{append-count}
 use Rattle.commits.proofs.Frame.{Alike, alike-self, alike-then, alike-set, loose-head, loose-leader, vertices-same, standing-kept}
 use Rattle.commits.proofs.Entering.{leader-alike, leader-room}
@@ -265,28 +265,37 @@ module _ (l : List ℕ) (G : Going l) (q seat : ℕ) (r : Ready l q seat) where
       d ∙ ap₂ (λ (v : Records) (z : ℕ). orderLeaders v second (entries second (leaderCount l) z)) (vertices-same (quiet-led .0 .alike)) k
       ∙ ap (orderLeaders (vertices l) second) second-new
 
--- what each later step may use of the leaders taken, of how many of each round
-pub record Taken (l : List ℕ) (n q c a : ℕ) (runs : List ℕ) : Type 0 where
-  pub fits : RunsReady l n c a runs
-  pub led : (m : List ℕ) (k : ℕ) → m ≡ appendLeaders l (gather n c a runs rounds) → k ≡ leaderCount l → LeadersReady (set m committedRoundAt q) n k
-  pub done : (m o : List ℕ) (k : ℕ) → m ≡ appendLeaders l (gather n c a runs rounds) → k ≡ leaderCount l
-      → o ≡ orderFrom (set m committedRoundAt q) k
+-- what each later step may use of the leaders taken, of how many of each round from low to q, where the first b of round low are already taken
+pub record Taken (l : List ℕ) (n low b q : ℕ) (runs : List ℕ) : Type 0 where
+  pub fits : RunsReady l n low b q runs
+  pub led : (m : List ℕ) (k : ℕ) → m ≡ appendLeaders l (gather n low b runs rounds) → k ≡ leaderCount l → LeadersReady (set m committedRoundAt q) n k
+  pub done : (m o : List ℕ) (k : ℕ) → m ≡ appendLeaders l (gather n low b runs rounds) → k ≡ leaderCount l → o ≡ orderFrom (set m committedRoundAt q) k
       → o ≡ commit l q 0
 
-pub taken-known : (l : List ℕ) (n m c a q : ℕ) (runs : List ℕ) → Next l n q → m ≡ width l → c ≡ committedRound l → a ≡ lastPlace l
-    → TakenRuns n m (vertices l) c q runs
-    → Taken l n q c a runs
-taken-known l n m c a q runs N em ec ea T =
-    let en = N .members in
-    let r : Ready l q 0 = record { step = inl (refl, N .low); high = N .high; index = width-some l; there = rw (← en) (N .there) } in
-    let G = N .going in
-    let is : gather n c a runs rounds ≡ taken l q 0 = T .is a ∙ rw (en, em, ec, ea) in
+pub taken-known : (l : List ℕ) (n m c a q low b : ℕ) (runs : List ℕ) → Next l n c a q → m ≡ width l → low ≡ lowestTaken c a m → b ≡ takenOf low c a
+    → TakenRuns n m (vertices l) low q runs → Taken l n low b q runs
+taken-known l n m c a q low b runs N em el eb T =
+    let A = N .at in
+    let en = A .members in
+    let G = A .going in
+    let r : Ready l q 0 = record {
+      step = inl (refl, omega (arith, A .round, N .low));
+      high = N .high;
+      index = width-some l;
+      there = rw (← en) (N .there);
+    } in
+    let L = lowest-known n m (vertices l) c a q low b (N .low) el eb in
+    let is : gather n low b runs rounds ≡ taken l q 0 = T .is b ∙ sym (L .is) ∙ rw (en, em, A .round, A .place) in
     record {
       fits = record {
         room = record { size = G .standing .size; room = rw is (taken-room l G q 0 r) };
         members = en;
         some = omega (arith, G .standing .low);
-        none = T .none;
+        low = L .some;
+        order = L .order;
+        high = N .high;
+        below = T .below;
+        above = T .above;
         few = λ t. omega (arith, T .few t, width-most l);
       };
       led = λ x k d e. rw (d, e, is, en) (led-ready l G q 0 r);

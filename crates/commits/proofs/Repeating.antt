@@ -24,7 +24,7 @@ use Rattle.replica.proofs.Formed.{WellFormed}
 use Rattle.commits.proofs.Ground.{ended}
 use Rattle.replica.proofs.Seats.{index-kept, index-leader, place-some}
 use Rattle.commits.specs.Commit.{appendLeaders, taken, commit, committable, lowest, grows, isReady, commitOnce, commitUpTo, mostCommits}
-use Rattle.commits.specs.Standing.{Room, Going, Step, Ready, Next, Further, commitStep}
+use Rattle.commits.specs.Standing.{Room, Going, Step, Ready, AtPlace, Next, Further, commitStep}
 use Rattle.commits.proofs.Readying.{taken-last, ready-rises}
 use Rattle.commits.proofs.Frame.{Alike, alike-self, alike-then, vertices-same, standing-kept}
 use Rattle.commits.proofs.Appending.{appends-size, appends-last}
@@ -279,18 +279,18 @@ further l n c a G en ec ea g =
     some (inl w) = absurd (omega (arith, w .1))
     some (inr w) = w .2
 
-pub main-next : (l : List ℕ) (n q : ℕ) → Going l → n ≡ memberCount l → q ≡ lowest l → q < rounds → Next l n q
+pub main-next : (l : List ℕ) (n c a q : ℕ) → AtPlace l n c a → q ≡ lowest l → q < rounds → Next l n c a q
 unfolding committable
-main-next l n q G en eq h =
+main-next l n c a q A eq h =
     let t = least-sat rounds (committable l) (omega arith) in
     let r = committable-ready l (lowest l) t in
-    rw (en, eq) (record {
-      going = G;
-      members = refl;
-      low = ltb-true _ _ (and-left (ltb (committedRound l) (lowest l)) _ t);
-      high = r .high;
-      there = r .there;
-    })
+    let above : committedRound l < lowest l = ltb-true _ _ (and-left (ltb (committedRound l) (lowest l)) _ t) in
+    record {
+      at = A;
+      low = omega (arith, A .round, eq);
+      high = omega (arith, eq, r .high);
+      there = rw (A .members, eq) (r .there);
+    }
 
 -- what the code tells of one commit
 pub told-some : (l m : List ℕ) (b : Bool) → isReady l ≡ true → b ≡ true → m ≡ commitOnce l → (b ≡ isReady l) × (m ≡ commitStep l)

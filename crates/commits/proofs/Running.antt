@@ -21,12 +21,12 @@ use Rattle.protocol.specs.Chain.{seats, span, walk, chain}
 use Rattle.protocol.specs.Premises.{ValidVertices}
 use Rattle.protocol.specs.Masks.{parents}
 use Rattle.protocol.proofs.Paths.{path-held}
-use Rattle.record.proofs.Longest.{longest-le, longest-in, longest-reach, longest-cong, longest-some}
+use Rattle.record.proofs.Longest.{longest-le, longest-in, longest-reach, longest-cong}
 use Rattle.protocol.proofs.Frontier.{path-start, parents-claim}
-use Rattle.protocol.proofs.Chain.{seats-none, walk-none, walk-stop, walk-skip, walk-take, walk-last, chain-some}
+use Rattle.protocol.proofs.Chain.{seats-none, walk-stop, walk-skip, walk-reach, chain-here, chain-some}
 use Rattle.replica.specs.State.{vertices}
 use Rattle.commits.specs.Standing.{WalkReady}
-use Rattle.commits.specs.Taken.{gather, TakenRuns}
+use Rattle.commits.specs.Taken.{takenOf, gather, TakenRuns}
 
 -- no word of as many zeros is another
 zeros : (k r : ℕ) → getD {A = ℕ} (replicate k 0) r 0 ≡ 0
@@ -66,6 +66,17 @@ module _ (n c a : ℕ) where
           ap₂ (λ (y : List ℕ) (w : ℕ). y ++ seats n k (cond (eqb k c) a 0) w) (ih m) (getD-set-other runs t k x 0 (λ e. omega arith))
           ∙ append-assoc (seats n t (cond (eqb t c) a 0) x) (gather n c a runs k) _
 
+-- above round q there is nothing
+pub gather-above : (n c a : ℕ) (runs : List ℕ) (k j : ℕ) → ((r : ℕ) → k ≤ r → getD runs r 0 ≡ 0) → gather n c a runs (j + k) ≡ gather n c a runs k
+unfolding gather
+gather-above n c a runs k zero h = let z : 0 + k ≡ k = omega arith in rw z
+gather-above n c a runs k (suc j) h =
+    let z : suc j + k ≡ suc (j + k) = omega arith in
+    rw z
+    (ap₂ (λ (x y : List ℕ). x ++ y) (gather-above n c a runs k j h)
+    (ap (seats n (j + k) (takenOf (j + k) c a)) (h (j + k) (omega arith)) ∙ seats-none n (j + k) (takenOf (j + k) c a) 0 (omega arith))
+    ∙ append-nil (gather n c a runs k))
+
 -- ---- the walk
 
 -- Above round t, standing on the main leader's vertex of round stand: the members that paths reach in round t + 1, and how many leaders are taken so far.
@@ -77,6 +88,7 @@ pub record Walked (n m : ℕ) (v : Records) (c q t : ℕ) (runs : List ℕ) (rea
   pub reach : (p : ℕ) → p < n → has reached p ≡ path n v stand (leader n stand) (suc t) p
   pub rest : (a : ℕ) → chain n m v c a q 1 ≡ walk n m v c a stand t ++ gather n c a runs rounds
   pub none : (r : ℕ) → r ≤ t → getD runs r 0 ≡ 0
+  pub high : (r : ℕ) → q < r → getD runs r 0 ≡ 0
   pub size : length runs ≡ rounds
   pub few : (r : ℕ) → getD runs r 0 ≤ m
 
@@ -89,32 +101,36 @@ module _ (n m : ℕ) (pos : 0 < n) (some : 1 ≤ m) (v : Records) (W : ValidVert
   -- one number more
   set-few : (runs : List ℕ) (t x : ℕ) → t < length runs → ((r : ℕ) → getD runs r 0 ≤ m) → x ≤ m → (r : ℕ) → getD (set runs t x) r 0 ≤ m
   set-few runs t x s f l r = ⊎-elim
-      (λ e. let d : t ≡ r = eqb-is e in rw (← d, getD-set-same runs t x 0 s) l)
+      (λ e. let d : t ≡ r = eqb-true t r e in rw (← d, getD-set-same runs t x 0 s) l)
       (λ e. rw (getD-set-other runs t r x 0 (λ d. never (eq-eqb t r (sym d)) e)) (f r))
       (which (eqb t r))
-    where
-      eqb-is : eqb t r ≡ true → t ≡ r
-      eqb-is e = eqb-true t r e
 
-  start : c < q → held v q (leader n q) ≡ true → Walked n m v c q (q - 1) (set (replicate rounds 0) q 1) (2 ^ leader n q)
-  start l h = record {
+  start : 0 < q → c ≤ q → held v q (leader n q) ≡ true → Walked n m v c q (q - 1) (set (replicate rounds 0) q 1) (2 ^ leader n q)
+  start pq l h = record {
     stand = q;
     above = omega arith;
     most = omega arith;
     there = h;
-    reach = here q (omega arith) h (q - 1) (omega arith);
-    rest = λ a. chain-some n m v c a q 1 l ∙ ap (λ (x : List ℕ). walk n m v c a q (q - 1) ++ x) (sym (one a));
+    reach = here q pq h (q - 1) (omega arith);
+    rest = λ a. begun a ∙ ap (λ (x : List ℕ). walk n m v c a q (q - 1) ++ x) (sym (one a));
     none = λ r k. getD-set-other (replicate rounds 0) q r 1 0 (λ e. omega arith) ∙ zeros rounds r;
+    high = λ r k. getD-set-other (replicate rounds 0) q r 1 0 (λ e. omega arith) ∙ zeros rounds r;
     size = length-set (replicate rounds 0) q 1;
     few = set-few (replicate rounds 0) q 1 (omega arith) (λ r. rw (zeros rounds r) (omega arith)) some;
   }
     where
-      one : (a : ℕ) → gather n c a (set (replicate rounds 0) q 1) rounds ≡ seats n q 0 1
+      one : (a : ℕ) → gather n c a (set (replicate rounds 0) q 1) rounds ≡ seats n q (takenOf q c a) 1
       one a =
           gather-first n c a (replicate rounds 0) q 1 rounds (omega arith) (omega arith) (λ r k. zeros rounds r)
-          ∙ ap₂ (λ (x : ℕ) (y : List ℕ). seats n q x 1 ++ y) (ap (λ (b : Bool). cond b a 0) (ne-eqb q c (λ e. omega arith)))
-          (gather-none n c a (replicate rounds 0) rounds (λ r k. zeros rounds r))
-          ∙ append-nil (seats n q 0 1)
+          ∙ ap (λ (y : List ℕ). seats n q (takenOf q c a) 1 ++ y) (gather-none n c a (replicate rounds 0) rounds (λ r k. zeros rounds r))
+          ∙ append-nil (seats n q (takenOf q c a) 1)
+
+      begun : (a : ℕ) → chain n m v c a q 1 ≡ walk n m v c a q (q - 1) ++ seats n q (takenOf q c a) 1
+      begun a = ⊎-elim
+          (λ (e : c ≡ q). rw (e, eq-eqb q q refl) (chain-here n m v q a 1
+          ∙ ap (λ (x : List ℕ). x ++ seats n q a 1) (sym (walk-stop n m v q a q (q - 1) (omega arith)))))
+          (λ k. rw (ne-eqb q c (λ e. omega arith)) (chain-some n m v c a q 1 k))
+          (eq-or-lt-of-le l)
 
   module _ (t : ℕ) (runs : List ℕ) (reached : ℕ) (l : c ≤ suc t) (w : Walked n m v c q (suc t) runs reached) where
     -- what the parents of those reached are
@@ -122,25 +138,17 @@ module _ (n m : ℕ) (pos : 0 < n) (some : 1 ≤ m) (v : Records) (W : ValidVert
     below p k =
         parents-claim n v W (w .stand) (leader n (w .stand)) (suc t) reached (leader-lt n (w .stand) pos) (omega arith) (w .above) (λ m z. w .reach m z) p k
 
+    -- whether the main leader is reached
+    main : has (parents v (suc (suc t)) reached n) (leader n (suc t)) ≡ reaches n v (w .stand) (suc t) 0
+    main = below (leader n (suc t)) (leader-lt n (suc t) pos)
+
     -- their run of leaders is the span
     spans : longest m (λ i. has (parents v (suc (suc t)) reached n) (leaderAt n (suc t) i)) ≡ span n m v (w .stand) (suc t)
     spans = longest-cong m _ _ (λ i k. below (leaderAt n (suc t) i) (leaderAt-lt n (suc t) i pos))
 
-    -- at a round whose main leader is reached
-    taking : (a : ℕ) → reaches n v (w .stand) (suc t) 0 ≡ true
-        → walk n m v c a (w .stand) (suc t) ≡ walk n m v c a (suc t) t ++ seats n (suc t) (cond (eqb (suc t) c) a 0) (span n m v (w .stand) (suc t))
-    taking a e = ⊎-elim
-        (λ (d : c ≡ suc t). rw d (walk-last n m v a (w .stand) t e
-        ∙ ap₂ (λ (x : List ℕ) (y : ℕ). x ++ seats n (suc t) y (span n m v (w .stand) (suc t)))
-        (sym (walk-stop n m v (suc t) a (suc t) t (omega arith))) (sym (ap (λ (b : Bool). cond b a 0) (eq-eqb (suc t) (suc t) refl)))))
-        (λ d. walk-take n m v c a (w .stand) t d e
-        ∙ ap (λ (y : ℕ). walk n m v c a (suc t) t ++ seats n (suc t) y (span n m v (w .stand) (suc t)))
-        (sym (ap (λ (b : Bool). cond b a 0) (ne-eqb (suc t) c (λ s. omega arith)))))
-        (eq-or-lt-of-le l)
-
-    taken-suc : (x : ℕ) → x ≡ span n m v (w .stand) (suc t) → (x ≡ 0 → ⊥) → Walked n m v c q t (set runs (suc t) x) (2 ^ leader n (suc t))
-    taken-suc x e h =
-        let link : reaches n v (w .stand) (suc t) 0 ≡ true = longest-in m (reaches n v (w .stand) (suc t)) 0 (omega (arith, positive x h)) in
+    taken-suc : (x : ℕ) → x ≡ span n m v (w .stand) (suc t) → reaches n v (w .stand) (suc t) 0 ≡ true
+        → Walked n m v c q t (set runs (suc t) x) (2 ^ leader n (suc t))
+    taken-suc x e link =
         let there′ : held v (suc t) (leader n (suc t)) ≡ true = path-held n v (w .stand) (leader n (w .stand)) (suc t) (leader n (suc t)) link in
         record {
           stand = suc t;
@@ -148,22 +156,19 @@ module _ (n m : ℕ) (pos : 0 < n) (some : 1 ≤ m) (v : Records) (W : ValidVert
           most = omega (arith, w .above, w .most);
           there = there′;
           reach = here (suc t) (omega arith) there′ t refl;
-          rest = λ a. w .rest a ∙ ap (λ (y : List ℕ). y ++ gather n c a runs rounds) (taking a link)
+          rest = λ a. w .rest a ∙ ap (λ (y : List ℕ). y ++ gather n c a runs rounds) (walk-reach n m v c a (w .stand) t l link)
               ∙ append-assoc (walk n m v c a (suc t) t) _ (gather n c a runs rounds)
               ∙ ap (λ (y : List ℕ). walk n m v c a (suc t) t ++ y)
-              (ap (λ (y : ℕ). seats n (suc t) (cond (eqb (suc t) c) a 0) y ++ gather n c a runs rounds) (sym e)
+              (ap (λ (y : ℕ). seats n (suc t) (takenOf (suc t) c a) y ++ gather n c a runs rounds) (sym e)
               ∙ sym (gather-first n c a runs (suc t) x rounds (omega (arith, w .above, w .most)) (omega (arith, w .size, w .above, w .most)) (w .none)));
           none = λ r k. getD-set-other runs (suc t) r x 0 (λ d. omega arith) ∙ w .none r (omega arith);
+          high = λ r k. getD-set-other runs (suc t) r x 0 (λ d. omega (arith, w .above, w .most)) ∙ w .high r k;
           size = length-set runs (suc t) x ∙ w .size;
           few = set-few runs (suc t) x (omega (arith, w .size, w .above, w .most)) (w .few) (rw e (longest-le m (reaches n v (w .stand) (suc t))));
         }
-      where
-        positive : (x : ℕ) → (x ≡ 0 → ⊥) → 0 < x
-        positive zero h = absurd (h refl)
-        positive (suc x) h = omega arith
 
-    passed-suc : span n m v (w .stand) (suc t) ≡ 0 → Walked n m v c q t runs (parents v (suc (suc t)) reached n)
-    passed-suc e = record {
+    passed-suc : reaches n v (w .stand) (suc t) 0 ≡ false → Walked n m v c q t runs (parents v (suc (suc t)) reached n)
+    passed-suc unlinked = record {
       stand = w .stand;
       above = omega (arith, w .above);
       most = w .most;
@@ -171,58 +176,54 @@ module _ (n m : ℕ) (pos : 0 < n) (some : 1 ≤ m) (v : Records) (W : ValidVert
       reach = below;
       rest = λ a. w .rest a ∙ ap (λ (x : List ℕ). x ++ gather n c a runs rounds) (walk-skip n m v c a (w .stand) t unlinked);
       none = λ r k. w .none r (omega arith);
+      high = w .high;
       size = w .size;
       few = w .few;
     }
-      where
-        unlinked : reaches n v (w .stand) (suc t) 0 ≡ false
-        unlinked = ⊎-elim (λ d. absurd (omega (arith, longest-some m (reaches n v (w .stand) (suc t)) some d))) (λ d. d)
-            (which (reaches n v (w .stand) (suc t) 0))
 
-  -- below the committed round, or at round 0, the numbers are those of the chain
-  finish : (t : ℕ) (runs : List ℕ) (reached : ℕ) → (t < c) ⊎ (t ≡ 0) → Walked n m v c q t runs reached → TakenRuns n m v c q runs
-  finish t runs reached l w = record {
-    is = λ a. sym (w .rest a ∙ ap (λ (x : List ℕ). x ++ gather n c a runs rounds) (over a l));
-    none = w .none 0 (omega arith);
+  -- below round c the numbers are those of the chain
+  finish : (t : ℕ) (runs : List ℕ) (reached : ℕ) → c ≡ t + 1 → Walked n m v c q t runs reached → TakenRuns n m v c q runs
+  finish t runs reached e w = record {
+    is = λ a. sym (w .rest a ∙ ap (λ (x : List ℕ). x ++ gather n c a runs rounds) (walk-stop n m v c a (w .stand) t (omega arith)));
+    below = λ r k. w .none r (omega arith);
+    above = w .high;
     few = w .few;
   }
-    where
-      over : (a : ℕ) → (t < c) ⊎ (t ≡ 0) → walk n m v c a (w .stand) t ≡ []
-      over a (inl k) = walk-stop n m v c a (w .stand) t k
-      over a (inr k) = rw k (walk-none n m v c a (w .stand))
 
   -- one round down
   take-run : (t : ℕ) (runs : List ℕ) (reached b x : ℕ) → 0 < t → c ≤ t → Walked n m v c q t runs reached → b ≡ parents v (t + 1) reached n
-      → x ≡ longest m (λ i. has b (leaderAt n t i)) → (x ≡ 0 → ⊥) → Walked n m v c q (t - 1) (set runs t x) (2 ^ leader n t)
-  take-run zero runs reached b x p l w e f h = absurd (not-suc-le-zero p)
-  take-run (suc t) runs reached b x p l w e f h =
-      rw (sub-one (suc t)) (taken-suc t runs reached l w x ((rw (e, add-one (suc t)) at f) ∙ spans t runs reached l w) h)
+      → has b (leader n t) ≡ true → x ≡ longest m (λ i. has b (leaderAt n t i)) → Walked n m v c q (t - 1) (set runs t x) (2 ^ leader n t)
+  take-run zero runs reached b x p l w e h f = absurd (not-suc-le-zero p)
+  take-run (suc t) runs reached b x p l w e h f =
+      rw (sub-one (suc t)) (taken-suc t runs reached l w x ((rw (e, add-one (suc t)) at f) ∙ spans t runs reached l w)
+      (sym (main t runs reached l w) ∙ (rw (e, add-one (suc t)) at h)))
 
-  pass-run : (t : ℕ) (runs : List ℕ) (reached b x : ℕ) → 0 < t → c ≤ t → Walked n m v c q t runs reached → b ≡ parents v (t + 1) reached n
-      → x ≡ longest m (λ i. has b (leaderAt n t i)) → x ≡ 0 → Walked n m v c q (t - 1) runs b
-  pass-run zero runs reached b x p l w e f h = absurd (not-suc-le-zero p)
-  pass-run (suc t) runs reached b x p l w e f h =
-      rw (sub-one (suc t), e, add-one (suc t)) (passed-suc t runs reached l w (sym (spans t runs reached l w) ∙ sym (rw (e, add-one (suc t)) at f) ∙ h))
+  pass-run : (t : ℕ) (runs : List ℕ) (reached b : ℕ) → 0 < t → c ≤ t → Walked n m v c q t runs reached → b ≡ parents v (t + 1) reached n
+      → has b (leader n t) ≡ false → Walked n m v c q (t - 1) runs b
+  pass-run zero runs reached b p l w e h = absurd (not-suc-le-zero p)
+  pass-run (suc t) runs reached b p l w e h =
+      rw (sub-one (suc t), e, add-one (suc t)) (passed-suc t runs reached l w (sym (main t runs reached l w) ∙ (rw (e, add-one (suc t)) at h)))
 
 -- ---- the walk over a state
 
 pub record Walk (l : List ℕ) (n m c q : ℕ) : Type 0 where
   pub begun : (i p y : ℕ) → i ≡ q → p ≡ leader n q → y ≡ 2 ^ p → Walked n m (vertices l) c q (q - 1) (set (replicate rounds 0) i 1) y
-  pub took : (t : ℕ) (runs : List ℕ) (reached b x i p y : ℕ) → 0 < t → c ≤ t → Walked n m (vertices l) c q t runs reached
-      → b ≡ parents (vertices l) (t + 1) reached n → x ≡ longest m (λ i. has b (leaderAt n t i)) → (x ≡ 0 → ⊥) → i ≡ t → p ≡ leader n t → y ≡ 2 ^ p
+  pub took : (t : ℕ) (runs : List ℕ) (reached b p x i y : ℕ) → c ≤ t → Walked n m (vertices l) c q t runs reached
+      → b ≡ parents (vertices l) (t + 1) reached n → p ≡ leader n t → has b p ≡ true → x ≡ longest m (λ i. has b (leaderAt n t i)) → i ≡ t → y ≡ 2 ^ p
       → (runs′ : List ℕ) (reached′ : ℕ) → runs′ ≡ set runs i x → reached′ ≡ y → Walked n m (vertices l) c q (t - 1) runs′ reached′
-  pub passed : (t : ℕ) (runs : List ℕ) (reached b x : ℕ) → 0 < t → c ≤ t → Walked n m (vertices l) c q t runs reached
-      → b ≡ parents (vertices l) (t + 1) reached n → x ≡ longest m (λ i. has b (leaderAt n t i)) → x ≡ 0
+  pub passed : (t : ℕ) (runs : List ℕ) (reached b p : ℕ) → c ≤ t → Walked n m (vertices l) c q t runs reached
+      → b ≡ parents (vertices l) (t + 1) reached n → p ≡ leader n t → has b p ≡ false
       → (runs′ : List ℕ) (reached′ : ℕ) → runs′ ≡ runs → reached′ ≡ b → Walked n m (vertices l) c q (t - 1) runs′ reached′
-  pub done : (t : ℕ) (runs : List ℕ) (reached : ℕ) → (t < c) ⊎ (t ≡ 0) → Walked n m (vertices l) c q t runs reached → TakenRuns n m (vertices l) c q runs
+  pub done : (t : ℕ) (runs : List ℕ) (reached : ℕ) → c ≡ t + 1 → Walked n m (vertices l) c q t runs reached → TakenRuns n m (vertices l) c q runs
 
 pub walk-runs : (l : List ℕ) (n m c q : ℕ) → WalkReady l n m c q → Walk l n m c q
 walk-runs l n m c q R = record {
-  begun = λ i p y a b d. rw (a, d, b) (start n m pos (R .some) (vertices l) W c q (R .high) (R .low) (R .there));
-  took = λ t runs reached b x i p y u k w eb ex h ei ep ey runs′ reached′ e₁ e₂.
-      rw (e₁, e₂, ei, ey, ep) (take-run n m pos (R .some) (vertices l) W c q (R .high) t runs reached b x u k w eb ex h);
-  passed = λ t runs reached b x u k w eb ex h runs′ reached′ e₁ e₂.
-      rw (e₁, e₂) (pass-run n m pos (R .some) (vertices l) W c q (R .high) t runs reached b x u k w eb ex h);
+  begun = λ i p y a b d. rw (a, d, b) (start n m pos (R .some) (vertices l) W c q (R .high) (omega (arith, R .low, R .order)) (R .order) (R .there));
+  took = λ t runs reached b p x i y k w eb ep h ex ei ey runs′ reached′ e₁ e₂.
+      rw (e₁, e₂, ei, ey, ep)
+      (take-run n m pos (R .some) (vertices l) W c q (R .high) t runs reached b x (omega (arith, R .low)) k w eb (rw ep at h) ex);
+  passed = λ t runs reached b p k w eb ep h runs′ reached′ e₁ e₂.
+      rw (e₁, e₂) (pass-run n m pos (R .some) (vertices l) W c q (R .high) t runs reached b (omega (arith, R .low)) k w eb (rw ep at h));
   done = finish n m pos (R .some) (vertices l) W c q (R .high);
 }
   where
@@ -237,8 +238,8 @@ walk-runs l n m c q R = record {
 pub record Running (n r mask i : ℕ) : Type 0 where
   pub all : (j : ℕ) → j < i → has mask (leaderAt n r j) ≡ true
 
-pub running-none : (n r mask : ℕ) → Running n r mask 0
-running-none n r mask = record { all = λ j l. absurd (omega arith) }
+pub running-one : (n r mask : ℕ) → has mask (leader n r) ≡ true → Running n r mask 1
+running-one n r mask h = record { all = λ j l. let z : j ≡ 0 = omega arith in rw z h }
 
 pub running-more : (n r mask i p : ℕ) (b : Bool) → Running n r mask i → p ≡ leaderAt n r i → b ≡ has mask p → not b ≡ false → Running n r mask (i + 1)
 running-more n r mask i p b R e f h = record {

@@ -13,7 +13,7 @@ use lib.ListN.{getD, set, take, drop, length, length-set, length-drop}
 use lib.Seq.{getD-set-same, getD-set-other}
 use borrow.Author.Tests.{lt-ltb, le-ltb, le-leb, eq-eqb, ne-eqb}
 use Rattle.record.specs.Below.{select}
-use Rattle.record.specs.Members.{quorum, leaderAt, leader, mostLeaders, has, with, meets, idOf, idMember, isRound, rounds, slots, votedRounds}
+use Rattle.record.specs.Members.{quorum, leaderAt, leader, mostLeaders, has, with, meets, idOf, idRound, idMember, idLimit, isRound, rounds, slots, votedRounds}
 use Rattle.record.specs.declared.members.Members.{Members}
 use Rattle.record.specs.Layout.{strongOf, bodySize, strongPlace}
 use Rattle.record.proofs.Booleans.{which, never, and-both, and-fails-left, and-fails-right, or-left, cond-true, cond-false}
@@ -88,6 +88,11 @@ append-count l r e =
     (omega (arith, length-set l (leadersAt + leaderCount l) r))
 
 -- ---- ids entered
+
+-- whether the vertex with an id is ordered is a bit of its round's mask
+pub ordered-word : (l : List ℕ) (y m : ℕ) (b : Bool) → slots ≤ y → y < idLimit → m ≡ orderedMask l (idRound y) → b ≡ has m (idMember y)
+    → b ≡ orderedId l y
+ordered-word l y m b low high e f = f ∙ rw (e, round-in (idRound y) (omega arith) (omega arith))
 
 pub order-out : (l : List ℕ) (mask y : ℕ) → has mask (idMember y) ≡ false → l ≡ orderId l mask y
 unfolding orderId

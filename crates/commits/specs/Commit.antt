@@ -74,7 +74,7 @@ committable l q = ltb (committedRound l) q && (leb q votedRounds && committed (m
 abbrev pub lowest : List ℕ → ℕ
 lowest l = least rounds (committable l)
 
--- the committed round grows: those before it in the round are in the list, and the next of its leaders is committed directly
+-- The committed round grows: of its leaders the next one, behind those in the list, is backed. With one leader a round there is no next one.
 unfoldable pub grows : List ℕ → Bool
 grows l = ltb 0 (committedRound l) && (ltb (lastPlace l) (width l) && backed (memberCount l) (dag l) (committedRound l) (lastPlace l))
 

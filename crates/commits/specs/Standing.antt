@@ -63,15 +63,26 @@ Room l = journalCount l ≤ count idLimit (orderedId l)
 abbrev pub LeaderHeld : List ℕ → ℕ → ℕ → Type 0
 LeaderHeld l n r = held (vertices l) r (leader n r) ≡ true
 
--- what the walk from round q's main leader asks, of m leaders a round, down to the committed round c
+-- what the walk from round q's main leader asks, of m leaders a round, down to round c and with it
 pub record WalkReady (l : List ℕ) (n m c q : ℕ) : Type 0 where
   pub standing : Standing l
   pub members : n ≡ memberCount l
   pub some : 1 ≤ m
   pub most : m ≤ mostLeaders
-  pub low : c < q
+  pub low : 1 ≤ c
+  pub order : c ≤ q
   pub high : q ≤ votedRounds
   pub there : LeaderHeld l n q
+
+-- what a run of a round's leaders in a mask asks, of m leaders a round: the mask has the main one
+pub record RunBegun (n m round mask : ℕ) : Type 0 where
+  pub members : 0 < n
+  pub few-members : n ≤ slots
+  pub low : 1 ≤ round
+  pub high : round ≤ rounds
+  pub some : 1 ≤ m
+  pub most : m ≤ mostLeaders
+  pub main : has mask (leader n round) ≡ true
 
 -- what ordering the history of the leader's vertex with the id x asks
 pub record LeaderReady (l : List ℕ) (n x : ℕ) : Type 0 where
@@ -82,12 +93,16 @@ pub record LeaderReady (l : List ℕ) (n x : ℕ) : Type 0 where
   pub high : idRound x ≤ votedRounds
   pub there : held (vertices l) (idRound x) (idMember x) ≡ true
 
--- what appending the leaders taken asks, of how many of each round, where the first a of round c are already taken
-pub record RunsReady (l : List ℕ) (n c a : ℕ) (runs : List ℕ) : Type 0 where
+-- what appending the leaders taken asks, of how many of each round from c to q, where the first a of round c are already taken
+pub record RunsReady (l : List ℕ) (n c a q : ℕ) (runs : List ℕ) : Type 0 where
   pub room : LeaderRoom l (length (gather n c a runs rounds))
   pub members : n ≡ memberCount l
   pub some : 0 < n
-  pub none : getD runs 0 0 ≡ 0
+  pub low : 1 ≤ c
+  pub order : c ≤ q
+  pub high : q ≤ votedRounds
+  pub below : (t : ℕ) → t < c → getD runs t 0 ≡ 0
+  pub above : (t : ℕ) → q < t → getD runs t 0 ≡ 0
   pub few : (t : ℕ) → getD runs t 0 ≤ mostLeaders
 
 -- the k entries of the leader list from entry i on
@@ -142,11 +157,10 @@ pub record Further (l : List ℕ) (n q i : ℕ) : Type 0 where
   pub index : i < width l
   pub there : held (vertices l) q (leaderAt n q i) ≡ true
 
--- what committing round q's main leader asks
-pub record Next (l : List ℕ) (n q : ℕ) : Type 0 where
-  pub going : Going l
-  pub members : n ≡ memberCount l
-  pub low : committedRound l < q
+-- what committing round q's main leader asks, where a leaders of the committed round c are in the list
+pub record Next (l : List ℕ) (n c a q : ℕ) : Type 0 where
+  pub at : AtPlace l n c a
+  pub low : c < q
   pub high : q ≤ votedRounds
   pub there : LeaderHeld l n q
 

@@ -11,7 +11,7 @@ ghost use Rattle.replica.specs.Layout.{stateSize, journalSize};
 ghost use Rattle.replica.specs.State.{memberCount, committedRound, journalCount, vertices, dag};
 ghost use Rattle.commits.specs.Commit.{appendLeader, appendLeaders, enter, orderLeader};
 ghost use Rattle.commits.specs.Commit.{commit, lowest, grows, isReady, commitAll};
-ghost use Rattle.commits.specs.Taken.{takenOf, gather};
+ghost use Rattle.commits.specs.Taken.{takenOf, lowestTaken, gather};
 ghost use Rattle.commits.specs.Standing.{Standing, firstVotes, Room, LeaderOf, LeaderRoom, LeaderReady, RunsReady};
 ghost use Rattle.commits.specs.Standing.{orderFrom, LeadersReady, Going, AtPlace, Next, Further, commitStep, orderId, orderRound};
 use super::history::history_of;
@@ -35,7 +35,6 @@ use replica::layout::VOTES;
 use replica::layout::cell_at;
 use replica::layout::masks_at;
 use replica::masks::add_member;
-use replica::masks::is_marked;
 use replica::masks::mask_of;
 use replica::places::last_place;
 use replica::places::width_of;
@@ -70,8 +69,8 @@ fn voters_for(state: &[u32], n: u32, q: u32, i: u32, voted: u32) -> Members
     voters
 }
 
-// Leader i of round q is committed directly: its vertex is held, and it has a quorum of voters.
-fn is_committed(state: &[u32], n: u32, quorum: u32, q: u32, i: u32) -> bool
+// Leader i of round q is backed: its vertex is held, and it has a quorum of voters.
+fn is_backed(state: &[u32], n: u32, quorum: u32, q: u32, i: u32) -> bool
     requires { ⌜ LeaderOf (now state) n q i × QuorumOf n quorum ⌝ }
     ensures { λ r. ⌜ r ≡ backed n (dag (now (state .entry))) q i ⌝ }
 {
@@ -90,7 +89,7 @@ fn lowest_committable(state: &[u32], n: u32, quorum: u32) -> u32
 {
     let mut q: u32 = state[COMMITTED_ROUND] + 1;
     while q < ROUNDS {
-        if is_committed(state, n, quorum, q, 0) {
+        if is_backed(state, n, quorum, q, 0) {
             return q;
         }
         q += 1;
@@ -121,7 +120,7 @@ fn append_run(state: &mut [u32], n: u32, round: u32, a: u32, b: u32)
     }
 }
 
-// How many leaders of the round are already taken, where those of the committed round are.
+// How many leaders of the round are already taken, where `place` of the committed round are.
 fn taken_of(round: u32, committed: u32, place: u32) -> u32
     ensures { λ r. ⌜ r ≡ takenOf round committed place ⌝ }
 {
@@ -131,14 +130,28 @@ fn taken_of(round: u32, committed: u32, place: u32) -> u32
     0
 }
 
-// The leaders taken join the leader list, run by run, but for those already taken.
-fn append_runs(state: &mut [u32], n: u32, committed: u32, place: u32, runs: [u32; MASKS])
-    requires { ⌜ RunsReady (now state) n committed place runs ⌝ }
-    ensures { λ _. ⌜ now (state .exit) ≡ appendLeaders (now (state .entry)) (gather n committed place runs rounds) ⌝ }
+// The lowest round that a commit can take a leader of.
+fn lowest_taken(committed: u32, place: u32, width: u32) -> u32
+    requires { ⌜ committed ≤ votedRounds ⌝ }
+    ensures { λ r. ⌜ r ≡ lowestTaken committed place width ⌝ }
 {
-    let mut r: u32 = 1;
-    while r < ROUNDS {
-        append_run(state, n, r, taken_of(r, committed, place), runs[wide(r)]);
+    if committed == 0 {
+        return 1;
+    }
+    if width <= place {
+        return committed + 1;
+    }
+    committed
+}
+
+// The leaders taken of the rounds from low to q join the leader list, run by run; the first `taken` of round low are in it already.
+fn append_runs(state: &mut [u32], n: u32, low: u32, taken: u32, q: u32, runs: [u32; MASKS])
+    requires { ⌜ RunsReady (now state) n low taken q runs ⌝ }
+    ensures { λ _. ⌜ now (state .exit) ≡ appendLeaders (now (state .entry)) (gather n low taken runs rounds) ⌝ }
+{
+    let mut r: u32 = low;
+    while r <= q {
+        append_run(state, n, r, taken_of(r, low, taken), runs[wide(r)]);
         r += 1;
     }
 }
@@ -163,7 +176,7 @@ fn order_id(state: &mut [u32], mask: u32, id: u32)
     if !has_bit(mask, id % SLOTS) {
         return;
     }
-    if is_marked(state, ORDERED, id) {
+    if has_bit(mask_of(state, ORDERED, id / SLOTS), id % SLOTS) {
         return;
     }
     enter_id(state, id);
@@ -212,21 +225,21 @@ fn order_leaders(state: &mut [u32], n: u32, first: usize)
     }
 }
 
-// Commits round q's main leader.
-fn commit_round(state: &mut [u32], n: u32, q: u32)
-    requires { ⌜ Next (now state) n q ⌝ }
+// Commits round q's main leader, where `place` leaders of the committed round are in the list.
+fn commit_round(state: &mut [u32], n: u32, committed: u32, place: u32, q: u32)
+    requires { ⌜ Next (now state) n committed place q ⌝ }
     ensures { λ _. ⌜ now (state .exit) ≡ commit (now (state .entry)) q 0 ⌝ }
 {
-    let committed = state[COMMITTED_ROUND];
-    let place = last_place(state, n);
     let first = wide(state[LEADER_COUNT]);
-    let runs = taken_runs(state, n, width_of(state), committed, q);
-    append_runs(state, n, committed, place, runs);
+    let width = width_of(state);
+    let low = lowest_taken(committed, place, width);
+    let runs = taken_runs(state, n, width, low, q);
+    append_runs(state, n, low, taken_of(low, committed, place), q, runs);
     state[COMMITTED_ROUND] = q;
     order_leaders(state, n, first);
 }
 
-// The committed round grows: behind its leaders in the list, `place` of them, the next one is committed directly.
+// The committed round grows: behind its leaders in the list, `place` of them, the next one is backed.
 fn does_grow(state: &[u32], n: u32, quorum: u32, committed: u32, place: u32) -> bool
     requires { ⌜ AtPlace (now state) n committed place × QuorumOf n quorum ⌝ }
     ensures { λ r. ⌜ r ≡ grows (now (state .entry)) ⌝ }
@@ -237,7 +250,7 @@ fn does_grow(state: &[u32], n: u32, quorum: u32, committed: u32, place: u32) -> 
     if width_of(state) <= place {
         return false;
     }
-    is_committed(state, n, quorum, committed, place)
+    is_backed(state, n, quorum, committed, place)
 }
 
 // Commits the next leader of the committed round, leader i of round q: it alone joins the leader list, and the committed round stays.
@@ -265,7 +278,7 @@ fn commit_once(state: &mut [u32], n: u32, quorum: u32) -> bool
     if ROUNDS <= q {
         return false;
     }
-    commit_round(state, n, q);
+    commit_round(state, n, committed, place, q);
     true
 }
 

@@ -1,12 +1,12 @@
 // The walk over leaders.
 ghost use mathlib.Core.Path.{_≡_};
-ghost use Prim.Native.Nat.{_<_, _≤_};
-ghost use Rattle.record.specs.Members.{has, leaderAt, mostLeaders, rounds, slots};
+ghost use Prim.Native.Nat.{_≤_};
+ghost use Rattle.record.specs.Members.{has, leaderAt, rounds};
 ghost use Rattle.record.specs.Below.{longest};
 ghost use Rattle.commits.specs.Taken.{TakenRuns};
 ghost use Rattle.protocol.specs.Masks.{parents};
 ghost use Rattle.replica.specs.State.{memberCount, vertices};
-ghost use Rattle.commits.specs.Standing.{Standing, WalkReady};
+ghost use Rattle.commits.specs.Standing.{Standing, WalkReady, RunBegun};
 use record::layout::STRONG;
 use record::layout::wide;
 use record::members::MASKS;
@@ -33,12 +33,12 @@ fn parents_of(state: &[u32], n: u32, round: u32, mask: u32) -> u32
     joined
 }
 
-// How many of the round's m leaders, from the main one on, the mask has.
+// How many of the round's m leaders, from the main one on, the mask has, where it has the main one.
 fn run_in(n: u32, m: u32, round: u32, mask: u32) -> u32
-    requires { ⌜ (0 < n) × (n ≤ slots) × (1 ≤ round) × (round ≤ rounds) × (m ≤ mostLeaders) ⌝ }
+    requires { ⌜ RunBegun n m round mask ⌝ }
     ensures { λ r. ⌜ r ≡ longest m (λ i. has mask (leaderAt n round i)) ⌝ }
 {
-    let mut i: u32 = 0;
+    let mut i: u32 = 1;
     while i < m {
         if !has_bit(mask, leader_at(n, round, i)) {
             return i;
@@ -48,27 +48,25 @@ fn run_in(n: u32, m: u32, round: u32, mask: u32) -> u32
     m
 }
 
-// How many leaders of each round committing round q's main leader takes, of m a round, down to the committed round and with it. Going down, `reached` has the
-// members that strong paths reach, in the round above t, from the main leader's vertex that one stands on.
-pub fn taken_runs(state: &[u32], n: u32, m: u32, committed: u32, q: u32) -> [u32; MASKS]
-    requires { ⌜ WalkReady (now state) n m committed q ⌝ }
-    ensures { λ r. ⌜ TakenRuns n m (vertices (now (state .entry))) committed q r ⌝ }
+// How many leaders of each round committing round q's main leader takes, of m a round, down to round low and with it. Going down, `reached` has the members
+// that strong paths reach, in the round above t, from the main leader's vertex that one stands on.
+pub fn taken_runs(state: &[u32], n: u32, m: u32, low: u32, q: u32) -> [u32; MASKS]
+    requires { ⌜ WalkReady (now state) n m low q ⌝ }
+    ensures { λ r. ⌜ TakenRuns n m (vertices (now (state .entry))) low q r ⌝ }
 {
     let mut runs = [0u32; MASKS];
     runs[wide(q)] = 1;
     let mut reached: u32 = power(leader_of(n, q));
     let mut t: u32 = q - 1;
-    while 0 < t {
-        if t < committed {
-            return runs;
-        }
+    while low <= t {
         let below = parents_of(state, n, t + 1, reached);
-        let run = run_in(n, m, t, below);
-        if run == 0 {
-            reached = below;
-        } else {
+        let leader = leader_of(n, t);
+        if has_bit(below, leader) {
+            let run = run_in(n, m, t, below);
             runs[wide(t)] = run;
-            reached = power(leader_of(n, t));
+            reached = power(leader);
+        } else {
+            reached = below;
         }
         t -= 1;
     }

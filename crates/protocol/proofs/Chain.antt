@@ -16,7 +16,7 @@ use Rattle.protocol.specs.Paths.{reaches}
 use Rattle.protocol.specs.Chain.{leaderId, seats, span, walk, chain}
 use Rattle.protocol.specs.Journal.{among}
 use Rattle.protocol.specs.Premises.{DagPremises}
-use Rattle.record.proofs.Longest.{longest-in, longest-reach, longest-cong}
+use Rattle.record.proofs.Longest.{longest-le, longest-in, longest-reach, longest-cong}
 use Rattle.protocol.proofs.Paths.{path-held, path-same}
 use Rattle.record.proofs.Rounds.{id-round, id-member}
 use Rattle.protocol.proofs.Lists.{among-none, among-append, among-one}
@@ -81,7 +81,13 @@ module _ (n m : ℕ) (v : Records) where
       skip : ltb (suc t) c ≡ false → walk n m v c a r (suc t) ≡ walk n m v c a r t
       skip d = unfold walk in rw (d, e)
 
-  -- of one above the last taken its span is taken, and the walk goes on from its main leader
+  -- of one whose main leader is reached its span is taken, less those already taken, and the walk goes on from its main leader
+  pub walk-reach : (c a r t : ℕ) → c ≤ suc t → reaches n v r (suc t) 0 ≡ true
+      → walk n m v c a r (suc t) ≡ walk n m v c a (suc t) t ++ seats n (suc t) (cond (eqb (suc t) c) a 0) (span n m v r (suc t))
+  unfolding walk
+  walk-reach c a r t l e = rw (le-ltb (suc t) c l, e)
+
+  -- of one above the last taken its whole span
   pub walk-take : (c a r t : ℕ) → c < suc t → reaches n v r (suc t) 0 ≡ true
       → walk n m v c a r (suc t) ≡ walk n m v c a (suc t) t ++ seats n (suc t) 0 (span n m v r (suc t))
   unfolding walk
@@ -102,6 +108,49 @@ module _ (n m : ℕ) (v : Records) where
   pub chain-some : (c a q b : ℕ) → c < q → chain n m v c a q b ≡ walk n m v c a q (q - 1) ++ seats n q 0 b
   unfolding chain
   chain-some c a q b l = rw (ne-eqb c q (λ s. omega arith))
+
+  -- where no leader of round c is left, or c is 0, the walk is that to the round above
+  walk-full : (c a : ℕ) → (c ≡ 0) ⊎ (m ≤ a) → (r t : ℕ) → walk n m v c a r t ≡ walk n m v (suc c) 0 r t
+  walk-full c a h r zero = walk-none c a r ∙ sym (walk-none (suc c) 0 r)
+  walk-full c a h r (suc t) = go (which (leb (suc t) c)) (which (reaches n v r (suc t) 0)) (walk-full c a h (suc t) t) (walk-full c a h r t)
+    where
+      -- of round c nothing is taken
+      here : suc t ≡ c → (c ≡ 0) ⊎ (m ≤ a) → (reaches n v r (suc t) 0 ≡ true) ⊎ (reaches n v r (suc t) 0 ≡ false) → walk n m v c a r (suc t) ≡ []
+      here e (inl z) d = absurd (omega arith)
+      here e (inr k) (inl d) =
+          rw (← e) (walk-last a r t d ∙ seats-none n (suc t) a (span n m v r (suc t)) (omega (arith, longest-le m (reaches n v r (suc t)))))
+      here e (inr k) (inr d) = walk-skip c a r t d ∙ walk-stop c a r t (omega arith)
+
+      over : suc t ≤ c → (reaches n v r (suc t) 0 ≡ true) ⊎ (reaches n v r (suc t) 0 ≡ false) → walk n m v c a r (suc t) ≡ []
+      over l d = ⊎-elim (λ (e : suc t ≡ c). here e h d) (λ k. walk-stop c a r (suc t) k) (eq-or-lt-of-le l)
+
+      -- above it the walks go alike
+      from-nothing : (b : Bool) → cond {A = ℕ} b 0 0 ≡ 0
+      from-nothing true = refl
+      from-nothing false = refl
+
+      go : (leb (suc t) c ≡ true) ⊎ (leb (suc t) c ≡ false) → (reaches n v r (suc t) 0 ≡ true) ⊎ (reaches n v r (suc t) 0 ≡ false)
+          → walk n m v c a (suc t) t ≡ walk n m v (suc c) 0 (suc t) t → walk n m v c a r t ≡ walk n m v (suc c) 0 r t
+          → walk n m v c a r (suc t) ≡ walk n m v (suc c) 0 r (suc t)
+      go (inl l) d taken passed = let k : suc t ≤ c = leb-true (suc t) c l in over k d ∙ sym (walk-stop (suc c) 0 r (suc t) (omega arith))
+      go (inr l) (inl d) taken passed =
+          let k : c < suc t = leb-false (suc t) c l in
+          walk-take c a r t k d
+          ∙ ap₂ (λ (x : List ℕ) (y : ℕ). x ++ seats n (suc t) y (span n m v r (suc t))) taken (sym (from-nothing (eqb (suc t) (suc c))))
+          ∙ sym (walk-reach (suc c) 0 r t k d)
+      go (inr l) (inr d) taken passed = walk-skip c a r t d ∙ passed ∙ sym (walk-skip (suc c) 0 r t d)
+
+  -- and so is the chain
+  pub chain-full : (c a q b : ℕ) → c < q → (c ≡ 0) ⊎ (m ≤ a) → chain n m v c a q b ≡ chain n m v (suc c) 0 q b
+  chain-full c a q b l h = ⊎-elim
+      (λ (e : suc c ≡ q). rw (← e) (begun (suc c) (omega arith)
+      ∙ ap (λ (x : List ℕ). x ++ seats n (suc c) 0 b) (walk-stop (suc c) 0 (suc c) (suc c - 1) (omega arith))
+      ∙ sym (chain-here (suc c) 0 b)))
+      (λ k. begun q l ∙ sym (chain-some (suc c) 0 q b k))
+      (eq-or-lt-of-le l)
+    where
+      begun : (q : ℕ) → c < q → chain n m v c a q b ≡ walk n m v (suc c) 0 q (q - 1) ++ seats n q 0 b
+      begun q l = chain-some c a q b l ∙ ap (λ (x : List ℕ). x ++ seats n q 0 b) (walk-full c a h q (q - 1))
 
   -- nothing is taken where no place is gained
   pub chain-self : (q a : ℕ) → chain n m v q a q a ≡ []

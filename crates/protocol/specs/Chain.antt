@@ -25,9 +25,8 @@ module _ (n m : ℕ) where
   span v r t = longest m (reaches n v r t)
 
   -- Where the first a leaders of round c are already taken: the ids that are taken of the rounds t, t - 1, .. c, where one stands on the main leader's
-  -- vertex of
-  -- round r. At each round whose main leader is reached, its span joins, less those already taken, and one stands on that main leader from then on.
-  -- The ids are given by rising round, and in a round by rising index.
+  -- vertex of round r. At each round whose main leader is reached, its span joins, less those already taken, and one stands on that main leader from then
+  -- on. The ids are given by rising round, and in a round by rising index.
   unfoldable pub walk : Records → ℕ → ℕ → ℕ → ℕ → List ℕ
   walk v c a r zero = []
   walk v c a r (suc t) =

@@ -11,7 +11,7 @@ use record::layout::wide;
 use record::members::SLOTS;
 use record::members::leader_at;
 
-// How many leaders a round has.
+// How many leaders a round has: one so far.
 const WIDTH: u32 = 1;
 
 pub fn width_of(state: &[u32]) -> u32

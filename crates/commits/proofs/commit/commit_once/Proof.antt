@@ -2,6 +2,7 @@
 use Rattle.commits.proofs.Repeating.{further, main-next, is-growing, is-lowest, is-over, once-growing, once-lowest, told-some, told-none}
 use Rattle.commits.proofs.Ground.{width-fits}
 use Rattle.commits.specs.Commit.{grows, commit, lowest}
+use Rattle.commits.specs.Standing.{AtPlace}
 use Rattle.replica.specs.State.{committedRound}
 use mathlib.Core.Bool.{true, false}
 use mathlib.Core.Path.{_≡_, refl, sym, ap, _∙_}
@@ -21,11 +22,13 @@ last-place-requires c κs =
       omega (arith, G .few, G .place, width-fits (s .args .state .now) _ (G .high)),
     )
 
+-- the place that the list has come to
+at : (c : tie.After-last-place) → let s : tie.Start = search in
+    AtPlace (s .args .state .now) (s .args .n) (committedRound (s .args .state .now)) (c .last-place .result)
+at c = let s : tie.Start = search in record { going = s .pre .0; members = s .pre .1; round = refl; place = c .last-place .ensures }
+
 does-grow-requires : tie.Need-does-grow-requires
-does-grow-requires c κs =
-    let s : tie.Start = search in
-    let p : tie.After-last-place = search in
-    (record { going = s .pre .0; members = s .pre .1; round = refl; place = p .last-place .ensures }, s .pre .2)
+does-grow-requires c κs = let s : tie.Start = search in (at (search), s .pre .2)
 
 growing : (c : tie.Then1) → let s : tie.Start = search in grows (s .args .state .now) ≡ true
 growing c = let g : tie.After-does-grow = search in sym (g .does-grow .ensures) ∙ c .if1 .taken
@@ -64,7 +67,7 @@ commit-round-requires c κs =
     let q : tie.After-lowest-committable = search in
     let e : tie.Else2 = search in
     let h = e .if2 .left in
-    main-next (s .args .state .now) _ _ (s .pre .0) (s .pre .1) (q .lowest-committable .ensures) (omega arith)
+    main-next (s .args .state .now) _ _ _ _ (at (search)) (q .lowest-committable .ensures) (omega arith)
 
 returns-3 : tie.Need-returns-3
 returns-3 c =

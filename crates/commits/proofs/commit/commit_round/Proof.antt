@@ -1,47 +1,41 @@
 -- `commit_round` meets its contract. Assumes nothing.
 use Rattle.commits.proofs.Committing.{Taken, taken-known}
+use Rattle.commits.proofs.Readying.{lowest-known}
 use Rattle.replica.specs.Layout.{committedRoundAt}
+use Rattle.replica.specs.State.{vertices}
 use Rattle.replica.proofs.Width.{width-some, width-most}
-use Rattle.commits.proofs.Ground.{width-fits}
-use lib.ListN.{getD, length-set}
+use lib.ListN.{length-set}
 use mathlib.Core.Path.{refl, _∙_}
 use native.Mathlib.Omega.{arith}
 use borrow.Author.Needs.{needs}
 use Rattle.commits.proofs.commit.commit_round.Statement.{statement}
 use Rattle.commits.proofs.commit.commit_round.Tie as tie
 
-known : (c : tie.After-taken-runs) → let s : tie.Start = search in let p : tie.After-last-place = search in
-    Taken (s .args .state .now) (s .args .n) (s .args .q) (getD (s .args .state .now) committedRoundAt 0) (p .last-place .result) (c .taken-runs .result)
+known : (c : tie.After-taken-of) → let s : tie.Start = search in let w : tie.After-lowest-taken = search in let t : tie.After-taken-runs = search in
+    Taken (s .args .state .now) (s .args .n) (w .lowest-taken .result) (c .taken-of .result) (s .args .q) (t .taken-runs .result)
 known c =
     let s : tie.Start = search in
-    let p : tie.After-last-place = search in
-    let w : tie.After-width-of = search in
-    let N = s .pre in
-    taken-known _ _ _ _ _ _ _ N (w .width-of .ensures) refl (p .last-place .ensures) (c .taken-runs .ensures)
-
-last-place-requires : tie.Need-last-place-requires
-last-place-requires c κs =
-    let s : tie.Start = search in
-    let N = s .pre in
-    let G = N .going in (
-      G .standing .size,
-      N .members,
-      omega (arith, G .standing .low, N .members),
-      omega (arith, G .few, G .place, width-fits (s .args .state .now) _ (G .high)),
-    )
+    let m : tie.After-width-of = search in
+    let w : tie.After-lowest-taken = search in
+    let t : tie.After-taken-runs = search in
+    taken-known _ _ _ _ _ _ _ _ _ (s .pre) (m .width-of .ensures) (w .lowest-taken .ensures) (c .taken-of .ensures) (t .taken-runs .ensures)
 
 taken-runs-requires : tie.Need-taken-runs-requires
 taken-runs-requires c κs =
     let s : tie.Start = search in
-    let w : tie.After-width-of = search in
+    let m : tie.After-width-of = search in
+    let w : tie.After-lowest-taken = search in
     let N = s .pre in
-    let e = w .width-of .ensures in
+    let A = N .at in
+    let e = m .width-of .ensures in
+    let L = lowest-known (s .args .n) (m .width-of .result) (vertices (s .args .state .now)) _ _ _ _ _ (N .low) (w .lowest-taken .ensures) refl in
     record {
-      standing = N .going .standing;
-      members = N .members;
+      standing = A .going .standing;
+      members = A .members;
       some = omega (arith, e, width-some (s .args .state .now));
       most = omega (arith, e, width-most (s .args .state .now));
-      low = N .low;
+      low = L .some;
+      order = L .order;
       high = N .high;
       there = N .there;
     }
@@ -69,14 +63,14 @@ pub commit-round-spec : {M : Type 1} → statement M
 commit-round-spec =
     tie.close
     (tie.spec
-    (λ c. let s : tie.Start = search in let z = s .pre .going .standing .size in search needs)
-    last-place-requires
-    (λ c. search needs)
+    (λ c. let s : tie.Start = search in let z = s .pre .at .going .standing .size in search needs)
     (λ c κs. search needs)
-    (λ c κs. search needs)
+    (λ c κs. let s : tie.Start = search in let z = s .pre .at .going .standing .size in search needs)
+    (λ c κs. let s : tie.Start = search in let N = s .pre in search needs)
     taken-runs-requires
+    (λ c κs. search needs)
     (λ c κs. known (search) .fits)
-    (λ c. search needs)
+    (λ c. let s : tie.Start = search in let z = s .pre .at .going .standing .size in search needs)
     order-leaders-requires
     same-length
     returns)

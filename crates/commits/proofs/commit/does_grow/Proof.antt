@@ -16,8 +16,8 @@ returns-2 c =
     let h = c .if2 .taken in
     grow-full (s .args .state .now) _ _ (s .pre .0 .place) (w .width-of .ensures) (omega arith)
 
-is-committed-requires : tie.Need-is-committed-requires
-is-committed-requires c κs =
+is-backed-requires : tie.Need-is-backed-requires
+is-backed-requires c κs =
     let s : tie.Start = search in
     let w : tie.After-width-of = search in
     let e : tie.Else1 = search in
@@ -45,7 +45,7 @@ returns-3 c =
     let h = f .if2 .left in
     let A = s .pre .0 in
     grow-asked (s .args .state .now) _ _ _ _ _ (A .members) (A .round) (A .place) (w .width-of .ensures) (e .if1 .left) (omega arith)
-    (c .is-committed .ensures)
+    (c .is-backed .ensures)
 
 pub does-grow-spec : {M : Type 1} → statement M
 does-grow-spec =
@@ -54,5 +54,5 @@ does-grow-spec =
     returns
     (λ c κs. let s : tie.Start = search in let z = s .pre .0 .going .standing .size in search needs)
     returns-2
-    is-committed-requires
+    is-backed-requires
     returns-3)

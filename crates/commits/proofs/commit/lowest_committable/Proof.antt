@@ -23,31 +23,31 @@ loop-holds c =
     let start : tie.Start Inv-loop μ-loop = search in
     (omega arith, omega (arith, start .pre .3), any-false _ _ (λ i l. committable-low _ i (omega arith)))
 
-is-committed-requires : tie.Need-is-committed-requires Inv-loop μ-loop
-is-committed-requires c κs =
+is-backed-requires : tie.Need-is-backed-requires Inv-loop μ-loop
+is-backed-requires c κs =
     let start : tie.Start Inv-loop μ-loop = search in
     (record { standing = start .pre .0; members = start .pre .1; low = omega arith; high = omega arith; index = omega arith }, start .pre .2)
 
 returns : tie.Need-returns Inv-loop μ-loop
 returns c =
-    let after-is-committed : tie.After-is-committed Inv-loop μ-loop = search in
+    let after-is-backed : tie.After-is-backed Inv-loop μ-loop = search in
     let in-loop : tie.In-loop Inv-loop μ-loop = search in
     let at-loop : tie.At-loop Inv-loop μ-loop = search in
     let start : tie.Start Inv-loop μ-loop = search in
     sym (least-at rounds (committable (start .args .state .now)) (at-loop .loop .q) (in-loop .loop-test .taken) (at-loop .loop .inv .2)
     (sym (committable-at _ _ (at-loop .loop .q) (start .pre .1) (at-loop .loop .inv .0) (omega arith))
-    ∙ (sym (after-is-committed .is-committed .ensures) ∙ c .if1 .taken)))
+    ∙ (sym (after-is-backed .is-backed .ensures) ∙ c .if1 .taken)))
 
 loop-again : tie.Need-loop-again Inv-loop μ-loop
 loop-again c =
-    let after-is-committed : tie.After-is-committed Inv-loop μ-loop = search in
+    let after-is-backed : tie.After-is-backed Inv-loop μ-loop = search in
     let at-loop : tie.At-loop Inv-loop μ-loop = search in
     let start : tie.Start Inv-loop μ-loop = search in (
       omega arith,
       omega arith,
       any-less _ _ (at-loop .loop .inv .2)
           (sym (committable-at _ _ (at-loop .loop .q) (start .pre .1) (at-loop .loop .inv .0) (omega arith))
-          ∙ (sym (after-is-committed .is-committed .ensures) ∙ c .if1 .left)),
+          ∙ (sym (after-is-backed .is-backed .ensures) ∙ c .if1 .left)),
     )
 
 returns-2 : tie.Need-returns-2 Inv-loop μ-loop
@@ -65,7 +65,7 @@ lowest-committable-spec =
     (λ c. search needs)
     (λ c. search needs)
     loop-holds
-    is-committed-requires
+    is-backed-requires
     returns
     (λ c. search needs)
     (λ c. search needs)

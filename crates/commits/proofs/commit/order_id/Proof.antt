@@ -1,5 +1,5 @@
 -- An id that is not ordered finds room in the journal.
-use Rattle.commits.proofs.Steps.{order-out, order-old, order-new}
+use Rattle.commits.proofs.Steps.{ordered-word, order-out, order-old, order-new}
 use Rattle.commits.proofs.Growing.{enter-fits}
 use Rattle.record.proofs.Booleans.{passed, failed}
 use Rattle.replica.specs.State.{orderedId}
@@ -10,8 +10,15 @@ use borrow.Author.Needs.{needs}
 use Rattle.commits.proofs.commit.order_id.Statement.{statement}
 use Rattle.commits.proofs.commit.order_id.Tie as tie
 
+-- the second test asks whether the vertex is ordered
+ordered : (c : tie.After-has-bit2) → let s : tie.Start = search in c .has-bit2 .result ≡ orderedId (s .args .state .now) (s .args .id)
+ordered c =
+    let s : tie.Start = search in
+    let m : tie.After-mask-of = search in
+    ordered-word (s .args .state .now) (s .args .id) _ _ (s .pre .1) (s .pre .2) (m .mask-of .ensures) (c .has-bit2 .ensures)
+
 fresh : (c : tie.Else2) → let s : tie.Start = search in orderedId (s .args .state .now) (s .args .id) ≡ false
-fresh c = let o : tie.After-is-marked = search in sym (o .is-marked .ensures) ∙ c .if2 .left
+fresh c = sym (ordered (search)) ∙ c .if2 .left
 
 enter-id-requires : tie.Need-enter-id-requires
 enter-id-requires c κs =
@@ -33,8 +40,9 @@ order-id-spec =
     (λ c κs. search needs)
     (λ c. let h : tie.After-has-bit = search in order-out _ _ _ (failed (h .has-bit .ensures) (c .if1 .taken)))
     (λ c κs. search needs)
+    (λ c κs. search needs)
     (λ c. search needs)
-    (λ c. let o : tie.After-is-marked = search in order-old _ _ _ (sym (o .is-marked .ensures) ∙ c .if2 .taken))
+    (λ c. order-old _ _ _ (sym (ordered (search)) ∙ c .if2 .taken))
     enter-id-requires
     (λ c. search needs)
     returns-3)

@@ -2,9 +2,8 @@
 use Prim.Native.Nat.{_≤_, _<_, _-_}
 use native.Mathlib.Omega.{arith}
 use borrow.Author.Needs.{needs}
-use Rattle.record.specs.Members.{has}
 use Rattle.record.proofs.Masks.{leaderAt-lt}
-use Rattle.commits.proofs.Running.{Running, running-none, running-more, running-stop, running-all}
+use Rattle.commits.proofs.Running.{Running, running-one, running-more, running-stop, running-all}
 use Rattle.commits.proofs.walk.run_in.Statement.{statement}
 use Rattle.commits.proofs.walk.run_in.Tie as tie
 
@@ -18,11 +17,11 @@ small : (c : tie.After-leader-at Inv-loop μ-loop) → c .leader-at .result < 32
 small c =
     let s : tie.Start Inv-loop μ-loop = search in
     let a : tie.At-loop Inv-loop μ-loop = search in
-    omega (arith, c .leader-at .ensures, leaderAt-lt (s .args .n) (s .args .round) (a .loop .i) (s .pre .0))
+    let B = s .pre in
+    omega (arith, c .leader-at .ensures, leaderAt-lt (s .args .n) (s .args .round) (a .loop .i) (B .members), B .few-members)
 
 returns : tie.Need-returns Inv-loop μ-loop
 returns c =
-    let s : tie.Start Inv-loop μ-loop = search in
     let a : tie.At-loop Inv-loop μ-loop = search in
     let i : tie.In-loop Inv-loop μ-loop = search in
     let l : tie.After-leader-at Inv-loop μ-loop = search in
@@ -48,11 +47,11 @@ run-in-spec =
     (tie.spec
     Inv-loop
     μ-loop
-    (λ c. (omega arith, running-none _ _ _))
-    (λ c κs. search needs)
+    (λ c. let s : tie.Start Inv-loop μ-loop = search in (omega (arith, s .pre .some), running-one _ _ _ (s .pre .main)))
+    (λ c κs. let s : tie.Start Inv-loop μ-loop = search in let B = s .pre in search needs)
     (λ c κs. let z = small (search) in search needs)
     returns
-    (λ c. search needs)
+    (λ c. let s : tie.Start Inv-loop μ-loop = search in let B = s .pre in search needs)
     (λ c. search needs)
     loop-again
     returns-2)

@@ -1,4 +1,4 @@
--- `is_committed` meets its contract. Assumes nothing.
+-- `is_backed` meets its contract. Assumes nothing.
 use Rattle.commits.proofs.Steps.{held-word, not-led, by-voters}
 use Rattle.replica.specs.State.{vertices}
 use Rattle.protocol.specs.Dag.{held}
@@ -9,8 +9,8 @@ use Rattle.record.proofs.Handed.{meets-handed}
 use native.Mathlib.Omega.{arith}
 use mathlib.Core.Path.{_≡_, _∙_}
 use borrow.Author.Needs.{needs}
-use Rattle.commits.proofs.commit.is_committed.Statement.{statement}
-use Rattle.commits.proofs.commit.is_committed.Tie as tie
+use Rattle.commits.proofs.commit.is_backed.Statement.{statement}
+use Rattle.commits.proofs.commit.is_backed.Tie as tie
 
 -- the first test asks whether the leader's vertex is held
 led : (c : tie.After-has-bit) → let a = (let s : tie.Start = search in s .args) in c .has-bit .result
@@ -48,8 +48,8 @@ returns-2 c =
     meets-handed _ _ _ (s .pre .1) (c .meets-quorum .ensures)
     ∙ by-voters _ _ _ _ _ (v .voters-for .ensures) (passed (led (search)) (e .if1 .left))
 
-pub is-committed-spec : {M : Type 1} → statement M
-is-committed-spec =
+pub is-backed-spec : {M : Type 1} → statement M
+is-backed-spec =
     tie.close
     (tie.spec
     leader-at-requires

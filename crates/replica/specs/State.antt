@@ -39,7 +39,7 @@ madeRounds l = getD l madeAt 0
 abbrev pub signedRounds : List ℕ → ℕ
 signedRounds l = getD l signedAt 0
 
--- how many leaders a round has: one so far. All that is proved above asks no more of it than `proofs/Width.antt` says.
+-- how many leaders a round has: one so far. What is proved of all states asks no more of it than `proofs/Width.antt` says.
 unfoldable pub width : List ℕ → ℕ
 width l = 1
 

@@ -26,6 +26,7 @@
 //   21 a b word a of the digest, all zero at first, becomes b, if the digest has it
 // A call prints a line: the operation, the numbers of the answer (of asking, the number alone; of making, the words of the record too; of a
 // vertex with the pending buffer, the checksum of the buffer too), and the checksum.
+#![tactic(auto)]
 mod calls;
 mod input;
 mod output;

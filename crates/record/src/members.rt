@@ -20,7 +20,7 @@ pub const SLOTS: u32 = 16;
 pub const ID_LIMIT: u32 = SLOTS * (ROUNDS + 1);
 
 // A mask of members.
-#[derive(Drop)]
+#[derive(Clone, Copy)]
 pub struct Members {
     pub bits: u32,
 }

@@ -22,7 +22,7 @@ use super::refusal::{Refusal, number};
 const BEFORE_IDS: u32 = SLOTS - 1;
 
 // What the questions need of the group and the round, worked out once for all records of a round.
-#[derive(Drop)]
+#[derive(Clone, Copy)]
 pub struct Terms {
     pub n: u32,
     pub previous: u32,

@@ -1,4 +1,5 @@
 // Calls on one replica state, a line each, from standard input; their answers to standard output.
+#![tactic(auto)]
 ghost use Rattle.std.specs.Prelude.{◌≤◌, length};
 ghost use Rattle.sheetlog.specs.Blocks.{Room};
 

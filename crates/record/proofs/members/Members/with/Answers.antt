@@ -1,0 +1,6 @@
+use borrow.Author.Rules.{rules}
+use Rattle.record.proofs.members.Members.with.Goals as goal
+
+pub returns : goal.returns
+returns c =
+    rw c.with_bit.ensures

@@ -1,0 +1,6 @@
+use borrow.Author.Rules.{rules}
+use Rattle.record.proofs.members.Members.without.Goals as goal
+
+pub returns : goal.returns
+returns c =
+    rw c.without_bit.ensures

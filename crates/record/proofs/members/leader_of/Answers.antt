@@ -1,0 +1,6 @@
+use borrow.Author.Rules.{rules}
+use Rattle.record.proofs.Masks.{leader_main}
+use Rattle.record.proofs.members.leader_of.Goals as goal
+
+pub returns : goal.returns
+returns c = leader_main _ _

@@ -1,0 +1,6 @@
+use borrow.Author.Rules.{rules}
+use Rattle.record.proofs.members.with_bit.Goals as goal
+
+pub returns : goal.returns
+returns c =
+    rw c.power.ensures

@@ -1,0 +1,49 @@
+-- `masks_strong`, `masks_lacking` and `masks_full` of `Parts`.
+use Rattle.record.specs.Questions.{lacks_leader}
+use Rattle.record.specs.Handed.{handed_strong}
+use Rattle.record.specs.Layout.{strong_of, timeouts_of, no_votes_of}
+use Rattle.record.specs.Members.{leader, within}
+use Rattle.record.specs.Inner.{masks_admitted}
+use Rattle.record.specs.declared.questions.Terms.{Terms}
+use Rattle.record.proofs.Booleans.{passed, failed}
+use Rattle.record.proofs.Parts.{lacks_largest, masks_strong, masks_lacking, masks_full}
+use mathlib.Core.Path.{◌≡◌, sym, ap, ◌∙◌}
+use mathlib.Core.Bool.{true, ◌&&◌}
+use lib.Bits.{bit_or}
+use lib.Dec.{eqb}
+use borrow.Author.Rules.{rules}
+use Rattle.record.proofs.questions.masks_admitted.Goals as goal
+use Rattle.record.proofs.questions.masks_admitted.Goals.{Else-lacks_leader, Else-not-strong_ok, Then-lacks_leader}
+
+strong : (c : Else-not-strong_ok) → let a = (c.args) in
+    (within a.terms.n (strong_of a.body.now) && handed_strong a.quorum a.round (strong_of a.body.now)) ≡ true
+unfolding strong_of
+strong c = passed c.strong_ok.ensures c.if-not-strong_ok.false-raw
+
+-- the mask has the previous leader
+full : (c : Else-lacks_leader) → let a = (c.args) in masks_admitted a.terms.n a.quorum a.round a.source a.body.now
+    ≡ eqb (bit_or (timeouts_of a.body.now) (no_votes_of a.body.now)) 0
+unfolding strong_of
+full c = masks_full _ _ _ _ _ (strong (goal.at.Else-lacks_leader c).Else-not-strong_ok) (cc)
+
+pub returns-then-not-strong_ok : goal.returns-then-not-strong_ok
+unfolding strong_of
+returns-then-not-strong_ok c = sym (masks_strong _ _ _ _ _ (failed c.strong_ok.ensures c.if-not-strong_ok.true-raw))
+
+-- it lacks that leader
+lacks : (c : Then-lacks_leader) → let a = (c.args) in lacks_leader a.terms.n a.round (strong_of a.body.now) ≡ true
+unfolding strong_of
+lacks c = sym c.lacks_leader.ensures ∙ c.if-lacks_leader.true
+
+pub certificates_ok-requires : goal.certificates_ok-requires
+certificates_ok-requires c = lacks_largest _ _ _ c.requires.terms_are (lacks c)
+
+pub returns-then-lacks_leader : goal.returns-then-lacks_leader
+unfolding strong_of timeouts_of no_votes_of
+returns-then-lacks_leader c =
+    rw (ap (λ (t : Terms). t.leader) c.requires.terms_are) at c.certificates_ok.ensures
+    ∙ masks_lacking _ _ _ _ _ (strong (goal.at.returns-then-lacks_leader c).Else-not-strong_ok) (lacks (goal.at.returns-then-lacks_leader c).Then-lacks_leader)
+
+pub returns : goal.returns
+unfolding strong_of timeouts_of no_votes_of
+returns c = sym (full c)

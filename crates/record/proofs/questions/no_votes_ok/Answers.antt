@@ -1,0 +1,13 @@
+use Rattle.record.proofs.Turn.{wanted_leading, wanted_not}
+use mathlib.Core.Path.{◌∙◌}
+use borrow.Author.Tests.{eq-eqb, ne_eqb}
+use borrow.Author.Rules.{rules}
+use Rattle.record.proofs.questions.no_votes_ok.Goals as goal
+
+pub returns-then-source-terms : goal.returns-then-source-terms
+returns-then-source-terms c =
+    c.quorum_if.ensures ∙ wanted_leading _ _ _ _ (eq-eqb _ _ c.if-source-terms.true)
+
+pub returns : goal.returns
+returns c =
+    wanted_not c.args.quorum c.args.lack _ c.args.no_votes (ne_eqb _ _ c.if-source-terms.false)

@@ -1,0 +1,9 @@
+-- `none_used` of `Weak`.
+use Rattle.record.specs.Layout.{weak_of}
+use Rattle.record.proofs.Weak.{none_used}
+use borrow.Author.Rules.{rules}
+use Rattle.record.proofs.questions.slots_blank.Goals as goal
+
+pub returns : goal.returns
+unfolding weak_of
+returns c = none_used c.args.body.now

@@ -1,0 +1,49 @@
+-- None is used, and the slots decide; or not too many are; those that are and then the other slots decide: the lemmas are of `Weak`.
+use borrow.Author.Rules.{rules}
+use Rattle.record.specs.Layout.{weak_count_of}
+use Rattle.record.proofs.Weak.{used_few, none_decide, weak_over, ids_no, slots_decide}
+use Rattle.record.proofs.questions.weak_ok.Goals as goal
+
+pub bounds-body-11 : goal.bounds-body-11
+unfolding weak_count_of
+bounds-body-11 c = search rules
+
+pub slots_blank-requires : goal.slots_blank-requires
+unfolding weak_count_of
+slots_blank-requires c = search rules
+
+pub returns-then-body-eq0 : goal.returns-then-body-eq0
+unfolding weak_count_of
+returns-then-body-eq0 c = search none_decide
+
+pub faulty_of-most-requires : goal.faulty_of-most-requires
+unfolding weak_count_of
+faulty_of-most-requires c = search rules
+
+pub bounds-body-11-2 : goal.bounds-body-11-2
+unfolding weak_count_of
+bounds-body-11-2 c = search rules
+
+pub returns-then-most-body : goal.returns-then-most-body
+unfolding weak_count_of
+returns-then-most-body c = search weak_over
+
+pub used_slots-count-requires : goal.used_slots-count-requires
+unfolding weak_count_of
+used_slots-count-requires c = search rules
+
+pub weak_ids_ok-requires : goal.weak_ids_ok-requires
+unfolding weak_count_of
+weak_ids_ok-requires c = let u = used_few c.args.body.now in search rules
+
+pub returns-then-not-weak_ids_ok : goal.returns-then-not-weak_ids_ok
+unfolding weak_count_of
+returns-then-not-weak_ids_ok c = search ids_no
+
+pub slots_zero-requires : goal.slots_zero-requires
+unfolding weak_count_of
+slots_zero-requires c = let u = used_few c.args.body.now in search rules
+
+pub returns : goal.returns
+unfolding weak_count_of
+returns c = search slots_decide

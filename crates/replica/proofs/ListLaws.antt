@@ -100,8 +100,8 @@ module _ (x : Bor (List ℕ)) (k first c : ℕ) (at : ListAt first c) (a : Answe
   -- no words
   pub hand_none : (m ≡ 0 → ⊥) → record { block = x.ref_ptr.0; byte = x.ref_ptr.1; words = [] } ≡ cut x (hand_list x.now k first (get_or x.now c 0))
   hand_none h =
-      let here : x.ptr.1 ≡ 0 * word_size + x.ptr.1 = omega arith in
-      ap (λ (b : ℕ). record { block = x.ptr.0; byte = b; words = [] }) here
+      let here : x.ref_ptr.1 ≡ 0 * word_size + x.ref_ptr.1 = omega arith in
+      ap (λ (b : ℕ). record { block = x.ref_ptr.0; byte = b; words = [] }) here
       ∙ sym (ap (cut x) (span_none _ first k (get_or x.now c 0) (λ z. h (asked ∙ z))))
 
   -- the entries

@@ -20,8 +20,8 @@ abbrev pub journal_count_at : ℕ
 journal_count_at = 4
 
 -- the own member plus 1, or a watcher's word
-abbrev pub field_own : ℕ
-field_own = 5
+abbrev pub own_at : ℕ
+own_at = 5
 
 abbrev pub watcher : ℕ
 watcher = 0

@@ -4,7 +4,7 @@ ghost use Rattle.replica.specs.Outcome.{nothing_added};
 
 use record::refusal::Refusal;
 
-#[derive(Drop)]
+#[derive(Clone, Copy)]
 pub struct Answer {
     pub refusal: Refusal,
     pub leaders: u32,
@@ -12,7 +12,7 @@ pub struct Answer {
 }
 
 // The number, and words 1 to 4 of the state.
-#[derive(Drop)]
+#[derive(Clone, Copy)]
 pub struct Status {
     pub refusal: Refusal,
     pub current_round: u32,

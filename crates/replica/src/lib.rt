@@ -1,5 +1,6 @@
 // The replica state, its well-formedness, and the calls that admit nothing: opening, status and the lists.
 #![tactic(auto)]
+
 pub mod answer;
 pub mod layout;
 pub mod lists;

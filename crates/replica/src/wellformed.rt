@@ -213,7 +213,7 @@ fn round_cells_ok(state: &[u32], quorum: u32, round: u32) -> bool
 // The quorum is worked out here, ahead of the loops over rounds and members, and handed on to the questions of every record.
 fn cells_ok(state: &[u32]) -> bool
     requires { Grouped state.now }
-    ensures* { λ r. ⌜ r ≡ each_round (λ r. all slots (cell_ok state.now r)) ⌝ }
+    ensures { result ≡ each_round (λ r. all slots (cell_ok state.now r)) }
 {
     let quorum = quorum_of(state[MEMBER_COUNT]);
     let mut i: u32 = 0;

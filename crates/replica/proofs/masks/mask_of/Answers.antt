@@ -1,0 +1,7 @@
+-- The word at the place that `masks_at` ensures.
+use borrow.Author.Rules.{rules}
+use Rattle.replica.proofs.masks.mask_of.Goals as goal
+
+pub returns : goal.returns
+returns c =
+    rw c.masks_at-at.ensures

@@ -1,0 +1,77 @@
+use mathlib.Core.Path.{◌≡◌}
+use mathlib.Core.Bool.{true}
+use Prim.Native.Nat.{◌≤◌, ◌-◌}
+use native.Mathlib.Omega.{arith}
+use borrow.Author.Rules.{rules}
+use Rattle.record.specs.Below.{all}
+use Rattle.record.specs.Layout.{weak_count_of, weak_of}
+use Rattle.record.proofs.Below.{all_none}
+use Rattle.replica.specs.State.{held_id}
+use Rattle.replica.proofs.Laws.{all_no, all_yes, all_end}
+use Rattle.replica.proofs.ParentLaws.{weak_held_id}
+use Rattle.replica.proofs.parents.weak_held.Goals as goal
+
+pub loop-i-init : goal.loop-i-init
+unfolding weak_count_of
+loop-i-init c = (omega arith, c.wide-count.ensures, all_none _)
+
+-- all that are used are held
+pub returns-then-count-i : goal.returns-then-count-i
+returns-then-count-i c =
+    all_end _ _ c.loop-i.i (omega arith) (omega arith) c.loop-i.invariant.2
+
+pub mask_of-requires : goal.mask_of-requires
+unfolding weak_of
+mask_of-requires c =
+    let low = c.requires.low c.loop-i.i (omega arith) in
+    let high = c.requires.high c.loop-i.i (omega arith) in
+    search rules
+
+pub returns-then-not-has_bit : goal.returns-then-not-has_bit
+unfolding weak_of
+returns-then-not-has_bit c =
+    let e = weak_held_id _ _ c.requires c.loop-i.i (omega arith) _ (rw c.mask_of.ensures at c.has_bit.ensures) in
+    all_no _ (λ k. held_id c.args.state.now (weak_of c.args.body.now k)) _ _ (omega arith) e c.if-not-has_bit.true-raw
+
+pub loop-i-preserved : goal.loop-i-preserved
+unfolding weak_of
+loop-i-preserved c =
+    let e = weak_held_id _ _ c.requires c.loop-i.i (omega arith) _ (rw c.mask_of.ensures at c.has_bit.ensures) in
+    (omega arith, c.loop-i.invariant.1, all_yes _ _ _ c.loop-i.invariant.2 e c.if-not-has_bit.false-raw)
+
+pub returns : goal.returns
+returns c =
+    let few = c.requires.few in
+    all_end _ _ c.loop-i.i (omega arith) (omega arith) c.loop-i.invariant.2
+
+pub bounds-body-11 : goal.bounds-body-11
+unfolding weak_count_of
+bounds-body-11 c = search rules
+
+pub wide-count-requires : goal.wide-count-requires
+unfolding weak_count_of
+wide-count-requires c = search rules
+
+pub overflow_add-x : goal.overflow_add-x
+unfolding weak_count_of
+overflow_add-x c = search rules
+
+pub offset_bounds-body-i : goal.offset_bounds-body-i
+unfolding weak_count_of
+offset_bounds-body-i c = search rules
+
+pub bounds-body-i : goal.bounds-body-i
+unfolding weak_count_of
+bounds-body-i c = search rules
+
+pub has_bit-requires : goal.has_bit-requires
+unfolding weak_count_of
+has_bit-requires c = search rules
+
+pub overflow_add-i : goal.overflow_add-i
+unfolding weak_count_of
+overflow_add-i c = search rules
+
+pub loop-i-smaller : goal.loop-i-smaller
+unfolding weak_count_of
+loop-i-smaller c = search rules

@@ -1,0 +1,33 @@
+use mathlib.Core.Path.{◌≡◌, sym}
+use mathlib.Core.Bool.{true}
+use Prim.Native.Nat.{◌≤◌, ◌-◌, ◌+◌}
+use native.Mathlib.Omega.{arith}
+use lib.Dec.{eqb}
+use lib.ListN.{get_or}
+use borrow.Author.Tests.{eq-eqb, ne_eqb}
+use borrow.Author.Rules.{rules}
+use Rattle.record.specs.Below.{all}
+use Rattle.record.proofs.Below.{all_none, all_more, all_stop}
+use Rattle.record.specs.Members.{rounds}
+use Rattle.replica.specs.State.{ordered_mask}
+use Rattle.replica.proofs.wellformed.all_marked.Goals as goal
+
+pub loop-i-init : goal.loop-i-init
+loop-i-init c = (omega arith, all_none _)
+
+pub returns-then-marks-wide : goal.returns-then-marks-wide
+returns-then-marks-wide c =
+    sym (all_stop rounds (λ k. eqb (get_or c.args.marks k 0) (ordered_mask c.args.state.now (k + 1))) c.loop-i.i (omega arith)
+    (ne_eqb _ _ (rw (c.mask_of.ensures, c.wide.ensures) at c.if-marks-wide.true)))
+
+pub loop-i-preserved : goal.loop-i-preserved
+loop-i-preserved c =
+    (
+      omega arith,
+      all_more _ _ c.loop-i.invariant.1
+          (eq-eqb _ _ (rw (c.mask_of.ensures, c.wide.ensures) at c.if-marks-wide.false)),
+    )
+
+pub returns : goal.returns
+returns c =
+    let e : c.loop-i.i ≡ rounds = omega arith in sym (rw e at c.loop-i.invariant.1)

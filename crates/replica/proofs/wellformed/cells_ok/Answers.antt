@@ -1,0 +1,31 @@
+use mathlib.Core.Path.{◌≡◌, sym}
+use mathlib.Core.Bool.{true}
+use Prim.Native.Nat.{◌≤◌, ◌-◌, ◌+◌}
+use native.Mathlib.Omega.{arith}
+use borrow.Author.Rules.{rules}
+use Rattle.record.specs.Below.{all}
+use Rattle.record.proofs.Booleans.{passed, failed}
+use Rattle.record.proofs.Below.{all_none, all_more, all_stop}
+use Rattle.record.specs.Members.{rounds, slots}
+use Rattle.replica.specs.WellFormed.{cell_ok}
+use Rattle.replica.proofs.wellformed.cells_ok.Goals as goal
+
+pub loop-i-init : goal.loop-i-init
+loop-i-init c = (omega arith, all_none _)
+
+pub round_cells_ok-requires : goal.round_cells_ok-requires
+round_cells_ok-requires c =
+    (c.requires, c.quorum_of-quorum.ensures, omega arith, omega arith)
+
+pub returns-then-not-round_cells_ok : goal.returns-then-not-round_cells_ok
+returns-then-not-round_cells_ok c =
+    sym (all_stop rounds (λ k. all slots (cell_ok c.args.state.now (k + 1))) c.loop-i.i (omega arith)
+    (failed c.round_cells_ok.ensures c.if-not-round_cells_ok.true-raw))
+
+pub loop-i-preserved : goal.loop-i-preserved
+loop-i-preserved c =
+    (omega arith, all_more _ _ c.loop-i.invariant.1 (passed c.round_cells_ok.ensures c.if-not-round_cells_ok.false-raw))
+
+pub returns : goal.returns
+returns c =
+    let e : c.loop-i.i ≡ rounds = omega arith in sym (rw e at c.loop-i.invariant.1)

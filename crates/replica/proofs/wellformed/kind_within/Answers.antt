@@ -1,0 +1,37 @@
+use mathlib.Core.Path.{◌≡◌, sym}
+use mathlib.Core.Bool.{Bool, true}
+use mathlib.Core.List.{List}
+use Prim.Native.Nat.{ℕ, ◌≤◌, ◌-◌, ◌+◌}
+use native.Mathlib.Omega.{arith}
+use borrow.Author.Tests.{eq-eqb, ne_eqb}
+use borrow.Author.Rules.{rules}
+use Rattle.record.specs.Below.{all}
+use Rattle.record.proofs.Below.{all_none, all_more, all_stop}
+use Rattle.record.specs.Members.{rounds}
+use Rattle.replica.specs.State.{mask_of}
+use Rattle.replica.specs.WellFormed.{subset}
+use Rattle.replica.proofs.wellformed.kind_within.Goals as goal
+
+-- the round after k passes
+abbrev inside : List ℕ → ℕ → ℕ → ℕ → Bool
+inside l kind other k = subset (mask_of l kind (k + 1)) (mask_of l other (k + 1))
+
+pub loop-i-init : goal.loop-i-init
+loop-i-init c = (omega arith, all_none _)
+
+pub returns-then-mask-mask_of : goal.returns-then-mask-mask_of
+returns-then-mask-mask_of c =
+    sym (all_stop rounds (inside c.args.state.now c.args.kind c.args.other) c.loop-i.i
+    (omega arith) (ne_eqb _ _ (rw (c.mask_of-mask.ensures, c.mask_of.ensures) at c.if-mask-mask_of.true)))
+
+pub loop-i-preserved : goal.loop-i-preserved
+loop-i-preserved c =
+    (
+      omega arith,
+      all_more _ _ c.loop-i.invariant.1
+          (eq-eqb _ _ (rw (c.mask_of-mask.ensures, c.mask_of.ensures) at c.if-mask-mask_of.false)),
+    )
+
+pub returns : goal.returns
+returns c =
+    let e : c.loop-i.i ≡ rounds = omega arith in sym (rw e at c.loop-i.invariant.1)

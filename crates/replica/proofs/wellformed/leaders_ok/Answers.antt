@@ -1,0 +1,59 @@
+use mathlib.Core.Path.{◌≡◌, refl}
+use mathlib.Core.Bool.{true}
+use Prim.Native.Nat.{◌≤◌, ◌-◌}
+use native.Mathlib.Omega.{arith}
+use borrow.Author.Tests.{le-leb, lt-leb}
+use borrow.Author.Rules.{rules}
+use Rattle.record.specs.Below.{all}
+use Rattle.record.proofs.Booleans.{passed, failed}
+use Rattle.record.proofs.Below.{all_none, all_more, all_stop}
+use Rattle.record.proofs.Masks.{legal_range}
+use Rattle.replica.specs.Layout.{leaders_size}
+use Rattle.replica.specs.State.{member_count, leader_count}
+use Rattle.replica.specs.WellFormed.{leader_ok, leaders_ok}
+use Rattle.replica.proofs.wellformed.leaders_ok.Goals as goal
+
+pub returns-then-count-gt-LEADERS_SIZE : goal.returns-then-count-gt-LEADERS_SIZE
+unfolding leaders_ok
+returns-then-count-gt-LEADERS_SIZE c =
+    simp (lt-leb _ _ (rw c.wide-count.ensures at c.if-count-gt-LEADERS_SIZE.true))
+
+pub loop-i-init : goal.loop-i-init
+loop-i-init c =
+    (omega arith, refl, c.wide-count.ensures, omega arith, all_none _)
+
+pub leader_ok-requires : goal.leader_ok-requires
+leader_ok-requires c =
+    let g = legal_range _ c.requires.1 in (c.requires.0, c.loop-i.invariant.1, omega arith, omega arith)
+
+pub returns-then-not-leader_ok : goal.returns-then-not-leader_ok
+unfolding leaders_ok
+returns-then-not-leader_ok c =
+    simp (
+      le-leb _ _ (rw c.loop-i.invariant.2 at c.loop-i.invariant.3),
+      all_stop _ (leader_ok c.args.state.now) c.loop-i.i
+          (rw c.loop-i.invariant.2 at c.loop-i-test.true) (failed c.leader_ok.ensures c.if-not-leader_ok.true-raw),
+    )
+
+pub loop-i-preserved : goal.loop-i-preserved
+loop-i-preserved c =
+    (
+      omega arith,
+      c.loop-i.invariant.1,
+      c.loop-i.invariant.2,
+      c.loop-i.invariant.3,
+      all_more _ _ c.loop-i.invariant.4 (passed c.leader_ok.ensures c.if-not-leader_ok.false-raw),
+    )
+
+pub last_ok-requires : goal.last_ok-requires
+last_ok-requires c =
+    (c.requires.0, c.loop-i.invariant.2, c.loop-i.invariant.3)
+
+pub returns : goal.returns
+unfolding leaders_ok
+returns c =
+    let e : c.loop-i.i
+    ≡ leader_count c.args.state.now = omega arith in simp (
+      le-leb _ _ (rw c.loop-i.invariant.2 at c.loop-i.invariant.3),
+      rw e at c.loop-i.invariant.4,
+    ) c.last_ok.ensures

@@ -1,0 +1,27 @@
+use mathlib.Core.Path.{◌≡◌, sym}
+use mathlib.Core.Bool.{true}
+use Prim.Native.Nat.{◌≤◌, ◌-◌, ◌+◌}
+use native.Mathlib.Omega.{arith}
+use borrow.Author.Rules.{rules}
+use Rattle.record.specs.Below.{all}
+use Rattle.record.proofs.Booleans.{passed, failed}
+use Rattle.record.proofs.Below.{all_none, all_more, all_stop}
+use Rattle.record.specs.Members.{rounds}
+use Rattle.replica.specs.WellFormed.{masks_within}
+use Rattle.replica.proofs.wellformed.masks_within.Goals as goal
+
+pub loop-i-init : goal.loop-i-init
+loop-i-init c = (omega arith, all_none _)
+
+pub returns-then-not-round_within : goal.returns-then-not-round_within
+returns-then-not-round_within c =
+    sym (all_stop rounds (λ k. masks_within c.args.state.now (k + 1)) c.loop-i.i (omega arith)
+    (failed c.round_within.ensures c.if-not-round_within.true-raw))
+
+pub loop-i-preserved : goal.loop-i-preserved
+loop-i-preserved c =
+    (omega arith, all_more _ _ c.loop-i.invariant.1 (passed c.round_within.ensures c.if-not-round_within.false-raw))
+
+pub returns : goal.returns
+returns c =
+    let e : c.loop-i.i ≡ rounds = omega arith in sym (rw e at c.loop-i.invariant.1)

@@ -358,12 +358,12 @@ pub record Committed (l : List ℕ) (q seat : ℕ) (l' : List ℕ) : Type 0 wher
   pub kept : Keeps OffLists l l'
   pub committed : committed_round l' ≡ q
   pub leaders : leader_list l' ≡ leader_list l ++ taken l q seat
-  pub leader_count : leader_count l' ≡ leader_count l + length (taken l q seat)
+  pub leaders_counted : leader_count l' ≡ leader_count l + length (taken l q seat)
   pub leader_rest : (i : ℕ) → leader_count l' ≤ i → i < leaders_size → leader_word l' i ≡ leader_word l i
   pub ids : List ℕ
   pub journal : journal_list l' ≡ journal_list l ++ ids
   pub extends : journal_list l' ≡ extend (member_count l) (vertices l) (journal_list l) (taken l q seat)
-  pub journal_count : journal_count l' ≡ journal_count l + length ids
+  pub journal_counted : journal_count l' ≡ journal_count l + length ids
   pub journal_rest : (i : ℕ) → journal_count l' ≤ i → i < journal_size → journal_word l' i ≡ journal_word l i
   pub ordered : (z : ℕ) → ordered_id l' z ≡ (ordered_id l z || among ids z)
   pub ordered_low : (r : ℕ) → 1 ≤ r → r ≤ rounds → ordered_mask l' r < 2 ^ member_count l
@@ -471,12 +471,12 @@ module _ (l : List ℕ) (S : WellFormed l) (q seat : ℕ) (ready : Ready l q sea
         (keeps_less OffLeading OffLists l second (λ j k. (k.not_committed, k.off_leaders)) leading) (journal_lists second (commit l q seat) after.kept);
     committed = committed_after;
     leaders = leader_list_after;
-    leader_count = count_after ∙ appended.count;
+    leaders_counted = count_after ∙ appended.count;
     leader_rest = λ i a b. leader_word_after i b ∙ appended.rest i (rw count_after at a) b;
     ids = histories.ids;
     journal = after.list ∙ ap (λ (j : List ℕ). j ++ histories.ids) second_journal;
     extends = after.list ∙ histories.extends ∙ ap (λ (j : List ℕ). extend (member_count l) (vertices l) j (taken l q seat)) second_journal;
-    journal_count = after.count ∙ ap (λ (x : ℕ). x + length histories.ids) second_count;
+    journal_counted = after.count ∙ ap (λ (x : ℕ). x + length histories.ids) second_count;
     journal_rest = λ i a b. after.rest i a b ∙ second_word (journal_at + i) (λ e. omega arith, (λ e. omega arith, λ c d. omega arith));
     ordered = λ z. after.ordered z ∙ ap (λ (b : Bool). b || among histories.ids z) (second_ordered z);
     ordered_low = after.low (member_count l) (λ y e. (histories.named y e).member) (λ r a b. rw (second_ordered_mask r a b) (S.journal.ordered_low r a b));
@@ -506,12 +506,12 @@ module _ (l : List ℕ) (S : WellFormed l) (q seat : ℕ) (ready : Ready l q sea
 
   -- the leader count, by the leaders taken
   pub commit_leader_count : leader_count (commit l q seat) ≡ leader_count l + length (taken l q seat)
-  commit_leader_count = grown.leader_count
+  commit_leader_count = grown.leaders_counted
 
   -- the journal count, by the list
   pub commit_journal_length : journal_count (commit l q seat) ≡ length (extend (member_count l) (vertices l) (journal_list l) (taken l q seat))
   commit_journal_length =
-      grown.journal_count ∙ omega (arith, length-append (journal_list l) grown.ids, journal_length l S) ∙ ap length (sym grown.journal ∙ grown.extends)
+      grown.journal_counted ∙ omega (arith, length-append (journal_list l) grown.ids, journal_length l S) ∙ ap length (sym grown.journal ∙ grown.extends)
 
 -- ---- Standing, and room, are kept
 

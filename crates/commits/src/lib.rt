@@ -1,5 +1,6 @@
 // The round rule and the commits.
 #![tactic(auto)]
+
 pub mod commit;
 pub mod history;
 pub mod rounds;

@@ -125,13 +125,13 @@ module _ (l : List ℕ) (S : WellFormed l) (q seat : ℕ) (ready : Ready l q sea
   commit_leaders_formed : Leaders (commit l q seat)
   commit_leaders_formed = record {
     committed_high = rw C.committed ready.high;
-    few = rw C.leader_count (omega (arith, leaders_fit l S q seat ready));
+    few = rw C.leaders_counted (omega (arith, leaders_fit l S q seat ready));
     led = rw (width_same l (commit l q seat), place, C.committed, C.leaders)
         (led_more (width l) (held_id l) (held_id (commit l q seat)) (leader_index l) (leader_index (commit l q seat)) 0 0 q (seat + 1) _
         (λ y e. held_same y ∙ e) (index_kept l (commit l q seat) members)
         (led_append (width l) (held_id l) (leader_index l) 0 0 (committed_round l) (last_place l) q (seat + 1) (leader_list l) (taken l q seat)
         S.leaders.led taken_led));
-    rest = λ i a b. C.leader_rest i a b ∙ S.leaders.rest i (omega (arith, C.leader_count)) b;
+    rest = λ i a b. C.leader_rest i a b ∙ S.leaders.rest i (omega (arith, C.leaders_counted)) b;
   }
 
   commit_journal_formed : Journal (commit l q seat)
@@ -143,7 +143,7 @@ module _ (l : List ℕ) (S : WellFormed l) (q seat : ℕ) (ready : Ready l q sea
     names = λ y. ap (λ (j : List ℕ). among j y) C.journal ∙ among_append (journal_list l) C.ids y
         ∙ ap (λ (b : Bool). b || among C.ids y) (S.journal.names y)
         ∙ sym (C.ordered y);
-    rest = λ i a b. C.journal_rest i a b ∙ S.journal.rest i (omega (arith, C.journal_count)) b;
+    rest = λ i a b. C.journal_rest i a b ∙ S.journal.rest i (omega (arith, C.journal_counted)) b;
   }
     where
       now_held : (r p : ℕ) → 1 ≤ r → r ≤ rounds → has (ordered_mask (commit l q seat) r) p ≡ true → has (held_mask (commit l q seat) r) p ≡ true

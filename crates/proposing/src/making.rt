@@ -24,14 +24,14 @@ use replica::layout::{CURRENT_ROUND, HELD, MADE, MEMBER_COUNT, NO_VOTES, OWN, SI
 use replica::masks::mask_of;
 
 // The answer, and the words of the record.
-#[derive(Drop)]
+#[derive(Clone, Copy)]
 pub struct Proposal {
     pub answer: Answer,
     pub words: [u32; RECORD_SIZE],
 }
 
 // The masks of the record, and whether question 9 wants timeouts and question 10 no-votes.
-#[derive(Drop)]
+#[derive(Clone, Copy)]
 struct Draft {
     strong: u32,
     timeouts: u32,

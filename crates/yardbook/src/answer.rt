@@ -6,7 +6,7 @@ use record::layout::RECORD_SIZE;
 use record::refusal::{missing_id, number};
 
 #[repr(C)]
-#[derive(Drop)]
+#[derive(Clone, Copy)]
 pub struct Answer {
     pub number: u32,
     pub id: u32,
@@ -15,7 +15,7 @@ pub struct Answer {
 }
 
 #[repr(C)]
-#[derive(Drop)]
+#[derive(Clone, Copy)]
 pub struct Status {
     pub number: u32,
     pub current_round: u32,
@@ -26,7 +26,7 @@ pub struct Status {
 
 // The answer, and the words of the record.
 #[repr(C)]
-#[derive(Drop)]
+#[derive(Clone, Copy)]
 pub struct Proposal {
     pub answer: Answer,
     pub words: [u32; RECORD_SIZE],
@@ -34,7 +34,7 @@ pub struct Proposal {
 
 // A part of the lent words, as its first word and how many there are.
 #[repr(C)]
-#[derive(Drop)]
+#[derive(Clone, Copy)]
 pub struct Part {
     pub number: u32,
     pub start: u32,

@@ -1,0 +1,13 @@
+-- The loop's invariant: the state is on the way from the first one. Each commit brings the leader list further.
+use Rattle.commits.proofs.Repeating.{Onward, onward_start, onward_end, onward_next, Later, reach}
+use Rattle.commits.specs.Commit.{most_commits}
+use Rattle.record.proofs.Booleans.{passed, failed, cond_true, cond_false}
+use mathlib.Core.Path.{sym, ◌∙◌}
+use Prim.Native.Nat.{◌-◌}
+use Rattle.commits.proofs.commit.commit_all.Given as goal
+
+abbrev pub invariant-loop-n : goal.invariant-loop-n
+invariant-loop-n l = Onward l.initial.state l.state
+
+abbrev pub decreases-loop-n : goal.decreases-loop-n
+decreases-loop-n l = most_commits - reach l.state

@@ -1,0 +1,14 @@
+-- The loop's invariant: the history's ids of the rounds up to r are ordered. The measure is how many rounds are left.
+use Rattle.commits.proofs.Entering.{Roomy, so_far_in, Growth, growth}
+use Rattle.record.specs.Members.{slots, id_round}
+use mathlib.Core.Path.{◌≡◌, refl, sym, ◌∙◌}
+use Prim.Native.Nat.{◌+◌, ◌*◌, ◌-◌, ◌≤◌}
+use native.Mathlib.Omega.{arith}
+use borrow.Author.Rules.{rules}
+use Rattle.commits.proofs.commit.order_leader.Given as goal
+
+abbrev pub invariant-loop-r : goal.invariant-loop-r
+invariant-loop-r l = (l.r ≤ l.round) × (l.state ≡ so_far_in l.n l.initial.state l.id (slots * (l.r + 1)))
+
+abbrev pub decreases-loop-r : goal.decreases-loop-r
+decreases-loop-r l = l.round - l.r

@@ -1,0 +1,37 @@
+use Rattle.commits.specs.Standing.{order_round}
+use Rattle.commits.proofs.Steps.{round_none, round_more, round_old}
+use Rattle.commits.proofs.Entering.{Roomy, round_kept}
+use mathlib.Core.Path.{◌≡◌, sym, ◌∙◌}
+use Prim.Native.Nat.{◌-◌, ◌≤◌}
+use native.Mathlib.Omega.{arith}
+use borrow.Author.Rules.{rules}
+use borrow.Author.Tests.{eq-eqb}
+use Rattle.record.specs.Members.{slots}
+use Rattle.commits.proofs.commit.order_round.Goals as goal
+use Rattle.commits.proofs.commit.order_round.Goals.{At-loop-p}
+
+known : (c : At-loop-p) → Roomy c.loop-p.state
+known c =
+    round_kept _ _ _ _ _ c.requires.1 c.requires.2 c.loop-p.invariant.0 c.requires.0 c.requires.3 c.loop-p.invariant.1
+
+pub returns-then-mask-mask_of : goal.returns-then-mask-mask_of
+returns-then-mask-mask_of c =
+    round_old _ _ _ slots c.requires.1 c.requires.2 (omega arith) (eq-eqb _ _ (rw c.mask_of.ensures at c.if-mask-mask_of.true))
+
+pub loop-p-preserved : goal.loop-p-preserved
+loop-p-preserved c =
+    (omega arith, round_more _ _ _ _ _ _ c.loop-p.invariant.1 c.order_id.ensures)
+
+pub returns : goal.returns
+returns c =
+    let e : c.loop-p.p ≡ slots = omega arith in
+    rw e at c.loop-p.invariant.1
+
+pub loop-p-init : goal.loop-p-init
+loop-p-init c = (omega arith, round_none _ _ _)
+
+pub order_id-requires : goal.order_id-requires
+order_id-requires c = let k = known (goal.at.order_id-requires c).At-loop-p in search rules
+
+pub shape_of-state : goal.shape_of-state
+shape_of-state c = (known (goal.at.shape_of-state c).At-loop-p).0 ∙ sym c.requires.0

@@ -1,0 +1,17 @@
+-- The loop's invariant: the ids of the members below p are ordered. The measure is how many slots are left.
+use Rattle.commits.specs.Standing.{order_round}
+use Rattle.commits.proofs.Steps.{round_none, round_more, round_old}
+use Rattle.commits.proofs.Entering.{Roomy, round_kept}
+use mathlib.Core.Path.{◌≡◌, sym, ◌∙◌}
+use Prim.Native.Nat.{◌-◌, ◌≤◌}
+use native.Mathlib.Omega.{arith}
+use borrow.Author.Rules.{rules}
+use borrow.Author.Tests.{eq-eqb}
+use Rattle.record.specs.Members.{slots}
+use Rattle.commits.proofs.commit.order_round.Given as goal
+
+abbrev pub invariant-loop-p : goal.invariant-loop-p
+invariant-loop-p l = (l.p ≤ slots) × (l.state ≡ order_round l.initial.state l.mask l.round l.p)
+
+abbrev pub decreases-loop-p : goal.decreases-loop-p
+decreases-loop-p l = slots - l.p

@@ -1,0 +1,8 @@
+use Rattle.protocol.specs.Masks.{join}
+use borrow.Author.Rules.{rules}
+use Rattle.commits.proofs.history.join_id.Goals as goal
+
+pub returns : goal.returns
+unfolding join
+returns c =
+    rw (c.with-more.ensures, c.wide-at.ensures)

@@ -1,0 +1,45 @@
+use Rattle.commits.proofs.Laws.{WeakWord, Cell, cell_known, join_weak_none, join_weak_more}
+use Rattle.protocol.specs.Masks.{join_weak}
+use Rattle.replica.specs.State.{vertices}
+use mathlib.Core.Path.{◌≡◌}
+use Prim.Native.Nat.{◌≤◌, ◌-◌}
+use native.Mathlib.Omega.{arith}
+use borrow.Author.Rules.{rules}
+use Rattle.commits.proofs.history.join_weak.Goals as goal
+use Rattle.commits.proofs.history.join_weak.Goals.{After-cell_at-at, In-loop-i}
+
+known : (c : After-cell_at-at) → let a = (c.args) in
+    Cell a.state.now a.round a.member c.cell_at-at.result
+known c =
+    cell_known _ c.requires.0 _ _ _ c.requires.1 c.requires.2 c.requires.3 c.cell_at-at.ensures
+
+weak : (c : In-loop-i) → WeakWord c.args.state.now c.args.round c.args.member c.cell_at-at.result c.loop-i.i
+weak c = (known (goal.at.In-loop-i c).After-cell_at-at).weak _ (omega arith)
+
+pub loop-i-preserved : goal.loop-i-preserved
+loop-i-preserved c =
+    (omega arith, join_weak_more _ _ _ _ _ _ c.loop-i.invariant.1 (weak (goal.at.loop-i-preserved c).In-loop-i).is c.join_id.ensures)
+
+pub returns : goal.returns
+returns c =
+    let e : c.loop-i.i ≡ c.wide-count.result = omega arith in
+    let k = known (goal.at.returns c).After-cell_at-at in
+    cc
+
+pub loop-i-init : goal.loop-i-init
+loop-i-init c = (omega arith, join_weak_none _ _)
+
+pub overflow_add-i : goal.overflow_add-i
+overflow_add-i c = let w = weak (goal.at.overflow_add-i c).In-loop-i in search rules
+
+pub overflow_add-at-in-loop-i : goal.overflow_add-at-in-loop-i
+overflow_add-at-in-loop-i c = let w = weak (goal.at.overflow_add-at-in-loop-i c).In-loop-i in search rules
+
+pub offset_bounds-state-at-in-loop-i : goal.offset_bounds-state-at-in-loop-i
+offset_bounds-state-at-in-loop-i c = let w = weak (goal.at.offset_bounds-state-at-in-loop-i c).In-loop-i in search rules
+
+pub bounds-state-at-in-loop-i : goal.bounds-state-at-in-loop-i
+bounds-state-at-in-loop-i c = let w = weak (goal.at.bounds-state-at-in-loop-i c).In-loop-i in search rules
+
+pub join_id-requires : goal.join_id-requires
+join_id-requires c = let w = weak (goal.at.join_id-requires c).In-loop-i in search rules

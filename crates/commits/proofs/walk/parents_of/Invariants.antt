@@ -1,0 +1,16 @@
+-- The loop's invariant: the strong masks of the members below p that the mask has are joined. The measure is how many members are left.
+use Rattle.commits.proofs.Laws.{cell_known, parents_none, parents_in_lem, parents_out}
+use Rattle.protocol.specs.Masks.{parents}
+use Rattle.replica.specs.State.{vertices}
+use mathlib.Core.Path.{◌≡◌, sym, ◌∙◌}
+use mathlib.Core.Logic.{⊎_elim}
+use Prim.Native.Nat.{◌≤◌, ◌-◌}
+use native.Mathlib.Omega.{arith}
+use borrow.Author.Rules.{rules}
+use Rattle.commits.proofs.walk.parents_of.Given as goal
+
+abbrev pub invariant-loop-p : goal.invariant-loop-p
+invariant-loop-p l = (l.p ≤ l.n) × (l.joined ≡ parents (vertices l.state) l.round l.mask l.p)
+
+abbrev pub decreases-loop-p : goal.decreases-loop-p
+decreases-loop-p l = l.n - l.p

@@ -1,0 +1,18 @@
+-- Invariant: the records from slot j on decide, with ids above the last one.
+use mathlib.Core.Path.{◌≡◌, refl, sym, ap, ◌∙◌}
+use mathlib.Core.List.{List}
+use Prim.Native.Nat.{ℕ, ◌+◌, ◌≤◌, ◌-◌}
+use native.Mathlib.Omega.{arith}
+use borrow.Author.Rules.{rules}
+use Rattle.record.specs.Refusals.{number_of}
+use Rattle.record.specs.Questions.{record_refusal}
+use Rattle.pending.specs.Buffer.{record_id, count_of, record_at, records_from, records_in, records_ok}
+use Rattle.pending.proofs.Slots.{slot_part, records_all}
+use Rattle.pending.proofs.Order.{bounded, ok_refused, ok_low, ok_next, ok_end}
+use Rattle.pending.proofs.buffer.records_ok.Given as goal
+
+abbrev pub invariant-loop-j : goal.invariant-loop-j
+invariant-loop-j l = (l.j ≤ l.count) × (l.count ≡ count_of l.buffer) × (records_ok l.n l.last (records_from l.buffer l.j (l.count - l.j)) ≡ records_ok l.n 0 (records_in l.buffer))
+
+abbrev pub decreases-loop-j : goal.decreases-loop-j
+decreases-loop-j l = l.count - l.j

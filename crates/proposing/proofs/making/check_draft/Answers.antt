@@ -1,0 +1,25 @@
+-- Questions 9, 10, 12 and 18 in turn: laws of `Asking`.
+use Rattle.proposing.proofs.Asking.{draft_timeouts, draft_no_votes, draft_made, draft_first, draft_few, draft_done}
+use borrow.Author.Rules.{rules}
+use Rattle.proposing.proofs.making.check_draft.Goals as goal
+
+pub returns-then-not-quorum_if : goal.returns-then-not-quorum_if
+returns-then-not-quorum_if c = search draft_timeouts
+
+pub returns-then-not-quorum_if-2 : goal.returns-then-not-quorum_if-2
+returns-then-not-quorum_if-2 c = search draft_no_votes
+
+pub bounds-state-6 : goal.bounds-state-6
+bounds-state-6 c = search rules
+
+pub returns-then-marks_round : goal.returns-then-marks_round
+returns-then-marks_round c = search draft_made
+
+pub returns-then-round-eq1 : goal.returns-then-round-eq1
+returns-then-round-eq1 c = search draft_first
+
+pub returns-then-not-meets_quorum : goal.returns-then-not-meets_quorum
+returns-then-not-meets_quorum c = search draft_few
+
+pub returns : goal.returns
+returns c = search draft_done

@@ -1,0 +1,7 @@
+-- The digest stands between words that are known: the equation computes.
+use borrow.Author.Rules.{rules}
+use Rattle.proposing.proofs.making.plain_record.Goals as goal
+
+pub returns : goal.returns
+returns c =
+    rw c.copy_words.ensures

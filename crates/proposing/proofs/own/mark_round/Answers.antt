@@ -1,0 +1,8 @@
+use Rattle.proposing.specs.Own.{mark_round}
+use borrow.Author.Rules.{rules}
+use Rattle.proposing.proofs.own.mark_round.Goals as goal
+
+pub returns : goal.returns
+unfolding mark_round
+returns c =
+    rw c.with_bit-marked.ensures

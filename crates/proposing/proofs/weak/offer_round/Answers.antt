@@ -1,0 +1,23 @@
+use mathlib.Core.Path.{◌≡◌}
+use Prim.Native.Nat.{◌-◌, ◌≤◌}
+use native.Mathlib.Omega.{arith}
+use Rattle.record.specs.Members.{slots}
+use Rattle.proposing.specs.Inner.{offer_round}
+use Rattle.proposing.proofs.Laws.{round_none, round_more, round_all}
+use borrow.Author.Rules.{rules}
+use Rattle.proposing.proofs.weak.offer_round.Goals as goal
+
+pub loop-p-preserved : goal.loop-p-preserved
+loop-p-preserved c =
+    (omega arith, round_more _ _ _ _ _ _ _ _ c.loop-p.invariant.1 c.offer_id.ensures)
+
+pub returns : goal.returns
+returns c =
+    let e : c.loop-p.p ≡ slots = omega arith in
+    rw e at c.loop-p.invariant.1
+
+pub returns-then-held-reached : goal.returns-then-held-reached
+returns-then-held-reached c = round_all _ _ _ _ _ slots (omega arith) c.if-held-reached.true
+
+pub loop-p-init : goal.loop-p-init
+loop-p-init c = (omega arith, round_none _ _ _ _ _)

@@ -1,0 +1,7 @@
+use Rattle.yardbook.proofs.Laws.{answered}
+use borrow.Author.Rules.{rules}
+use Rattle.yardbook.proofs.calls.yardbook_ask_journal.Goals as goal
+
+pub returns : goal.returns
+returns c =
+    answered c.ask_journal.result _ _ _ c.plain_answer.ensures c.ask_journal.ensures

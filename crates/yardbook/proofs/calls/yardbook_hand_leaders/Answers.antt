@@ -1,0 +1,9 @@
+use Rattle.yardbook.proofs.Laws.{numbered}
+use borrow.Author.Rules.{rules}
+use Rattle.yardbook.proofs.calls.yardbook_hand_leaders.Goals as goal
+
+-- the number is that of asking
+pub hand_part-requires : goal.hand_part-requires
+hand_part-requires c =
+    let e = numbered c.ask_leaders.result _ _ _ c.plain_answer-asked.ensures c.ask_leaders.ensures in
+    search rules

@@ -1,0 +1,7 @@
+use Rattle.yardbook.proofs.Laws.{answered_proposal}
+use borrow.Author.Rules.{rules}
+use Rattle.yardbook.proofs.calls.yardbook_propose.Goals as goal
+
+pub returns : goal.returns
+returns c =
+    answered_proposal c.propose.result _ _ _ c.plain_proposal.ensures c.propose.ensures

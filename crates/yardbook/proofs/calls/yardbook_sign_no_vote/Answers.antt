@@ -1,0 +1,7 @@
+use Rattle.yardbook.proofs.Laws.{answered}
+use borrow.Author.Rules.{rules}
+use Rattle.yardbook.proofs.calls.yardbook_sign_no_vote.Goals as goal
+
+pub returns : goal.returns
+returns c =
+    answered c.sign_no_vote.result _ _ _ c.plain_answer.ensures c.sign_no_vote.ensures

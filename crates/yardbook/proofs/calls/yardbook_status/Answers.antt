@@ -1,0 +1,8 @@
+use mathlib.Core.Path.{◌∙◌, ap}
+use Rattle.yardbook.specs.Plain.{status_plain}
+use borrow.Author.Rules.{rules}
+use Rattle.yardbook.proofs.calls.yardbook_status.Goals as goal
+
+pub returns : goal.returns
+returns c =
+    c.plain_status.ensures ∙ ap status_plain c.status.ensures

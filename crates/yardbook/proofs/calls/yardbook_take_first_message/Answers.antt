@@ -1,0 +1,7 @@
+use Rattle.yardbook.proofs.Laws.{answered}
+use borrow.Author.Rules.{rules}
+use Rattle.yardbook.proofs.calls.yardbook_take_first_message.Goals as goal
+
+pub returns : goal.returns
+returns c =
+    answered c.take_first_message.result _ _ _ c.plain_answer.ensures c.take_first_message.ensures

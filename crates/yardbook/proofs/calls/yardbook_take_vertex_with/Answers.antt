@@ -1,0 +1,8 @@
+-- `yardbook_take_vertex_with` meets its contract. Assumes nothing.
+use Rattle.yardbook.proofs.Laws.{answered_with}
+use borrow.Author.Rules.{rules}
+use Rattle.yardbook.proofs.calls.yardbook_take_vertex_with.Goals as goal
+
+pub returns : goal.returns
+returns c =
+    answered_with c.take_vertex_with.result _ _ _ _ c.plain_answer.ensures c.take_vertex_with.ensures

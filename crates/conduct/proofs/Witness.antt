@@ -43,7 +43,7 @@ use Rattle.conduct.specs.Witness.{own, start, first, voting, against, calls, Wit
 -- the records of one call
 short_record : Call → List ℕ → List (List ℕ)
 short_record (making digest) l = cond (eqb (short_of (making digest) l).number 0) (short_made l digest.words ∷ []) []
-short_record (opening n own) l = []
+short_record (opening n o) l = []
 short_record (vertex rec) l = []
 short_record (vertex_with s rec) l = []
 short_record (first_message rec) l = []
@@ -60,7 +60,7 @@ short_record signing l = []
 -- the round that it signed for
 short_round : Call → List ℕ → List ℕ
 short_round signing l = cond (eqb (short_of signing l).number 0) (signing_round l ∷ []) []
-short_round (opening n own) l = []
+short_round (opening n o) l = []
 short_round (vertex rec) l = []
 short_round (vertex_with s rec) l = []
 short_round (first_message rec) l = []
@@ -93,7 +93,7 @@ module _ (l : List ℕ) (S : WellFormed l) where
       (λ e. ap (map (λ (m : Made). m.words)) (cond_false _ _ e) ∙ sym (cond_false _ _ e))
       (which (eqb (propose_vertex l digest.words).outcome.number 0))
       ∙ ap₂ (λ (o : Outcome) (x : List ℕ). cond (eqb o.number 0) (x ∷ []) []) (short_is l S (making digest)) (made_is l S digest.words)
-  record_is (opening n own) = refl
+  record_is (opening n o) = refl
   record_is (vertex rec) = refl
   record_is (vertex_with s rec) = refl
   record_is (first_message rec) = refl
@@ -111,7 +111,7 @@ module _ (l : List ℕ) (S : WellFormed l) where
   round_is : (c : Call) → signed_by c l ≡ short_round c l
   unfolding short_round
   round_is signing = ap (λ (o : Outcome). cond (eqb o.number 0) (signing_round l ∷ []) []) (short_is l S signing)
-  round_is (opening n own) = refl
+  round_is (opening n o) = refl
   round_is (vertex rec) = refl
   round_is (vertex_with s rec) = refl
   round_is (first_message rec) = refl

@@ -12,12 +12,12 @@ commit_once-requires c =
 
 later : (c : Else-not-commit_once) → Later c.args.n c.args.state.now c.loop-n.state c.commit_once.new.state
 later c =
-    let h = passed c.commit_once.ensures.0 c.if-not-commit_once.false-raw in
+    let h = sym c.commit_once.ensures.0 ∙ c.if-not-commit_once.false in
     onward_next _ _ _ _ c.requires.1 c.loop-n.invariant h (c.commit_once.ensures.1 ∙ cond_true _ _ h)
 
 pub returns-then-not-commit_once : goal.returns-then-not-commit_once
 returns-then-not-commit_once c =
-    let h = failed c.commit_once.ensures.0 c.if-not-commit_once.true-raw in
+    let h = sym c.commit_once.ensures.0 ∙ c.if-not-commit_once.true in
     onward_end _ _ _ c.loop-n.invariant h (c.commit_once.ensures.1 ∙ cond_false _ _ h)
 
 pub loop-n-init : goal.loop-n-init

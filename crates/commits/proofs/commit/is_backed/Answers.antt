@@ -7,7 +7,7 @@ use Rattle.record.proofs.Booleans.{passed, failed}
 use Rattle.record.proofs.Masks.{leader_at_lt}
 use Rattle.record.proofs.Handed.{meets_law}
 use native.Mathlib.Omega.{arith}
-use mathlib.Core.Path.{◌≡◌, ◌∙◌}
+use mathlib.Core.Path.{sym, ◌≡◌, ◌∙◌}
 use borrow.Author.Rules.{rules}
 use Rattle.commits.proofs.commit.is_backed.Goals as goal
 use Rattle.commits.proofs.commit.is_backed.Goals.{After-has_bit}
@@ -36,9 +36,9 @@ has_bit-requires c =
     search rules
 
 pub returns-then-not-has_bit : goal.returns-then-not-has_bit
-returns-then-not-has_bit c = not_led _ _ _ _ (failed (led (goal.at.returns-then-not-has_bit c).After-has_bit) c.if-not-has_bit.true-raw)
+returns-then-not-has_bit c = not_led _ _ _ _ (sym (led (goal.at.returns-then-not-has_bit c).After-has_bit) ∙ c.if-not-has_bit.true)
 
 pub returns : goal.returns
 returns c =
     c.meets_quorum.ensures ∙ meets_law _ _ _ c.requires.1
-    ∙ by_voters _ _ _ _ _ c.voters_for-voters.ensures (passed (led (goal.at.returns c).After-has_bit) c.if-not-has_bit.false-raw)
+    ∙ by_voters _ _ _ _ _ c.voters_for-voters.ensures (sym (led (goal.at.returns c).After-has_bit) ∙ c.if-not-has_bit.false)

@@ -25,10 +25,10 @@ enter_id-requires c =
 
 pub returns : goal.returns
 returns c =
-    c.enter_id.ensures ∙ order_new _ _ _ (passed c.has_bit.ensures c.if-not-has_bit.false-raw) (fresh (goal.at.returns c).Else-has_bit)
+    c.enter_id.ensures ∙ order_new _ _ _ (sym c.has_bit.ensures ∙ c.if-not-has_bit.false) (fresh (goal.at.returns c).Else-has_bit)
 
 pub returns-then-not-has_bit : goal.returns-then-not-has_bit
-returns-then-not-has_bit c = order_out _ _ _ (failed c.has_bit.ensures c.if-not-has_bit.true-raw)
+returns-then-not-has_bit c = order_out _ _ _ (sym c.has_bit.ensures ∙ c.if-not-has_bit.true)
 
 pub returns-then-has_bit : goal.returns-then-has_bit
 returns-then-has_bit c = order_old _ _ _ (sym (ordered (goal.at.returns-then-has_bit c).After-has_bit-2) ∙ c.if-has_bit.true)

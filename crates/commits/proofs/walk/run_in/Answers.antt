@@ -1,3 +1,5 @@
+use mathlib.Core.Bool.{not}
+use mathlib.Core.Path.{ap}
 use Prim.Native.Nat.{◌≤◌, ◌<◌, ◌-◌}
 use native.Mathlib.Omega.{arith}
 use borrow.Author.Rules.{rules}
@@ -13,11 +15,11 @@ small c =
 
 pub returns-then-not-has_bit : goal.returns-then-not-has_bit
 returns-then-not-has_bit c =
-    running_stop _ _ _ _ _ _ _ c.loop-i.invariant.1 c.loop-i-test.true c.leader_at.ensures c.has_bit.ensures c.if-not-has_bit.true-raw
+    running_stop _ _ _ _ _ _ _ c.loop-i.invariant.1 c.loop-i-test.true c.leader_at.ensures c.has_bit.ensures (ap not c.if-not-has_bit.true)
 
 pub loop-i-preserved : goal.loop-i-preserved
 loop-i-preserved c =
-    (omega arith, running_more _ _ _ _ _ _ c.loop-i.invariant.1 c.leader_at.ensures c.has_bit.ensures c.if-not-has_bit.false-raw)
+    (omega arith, running_more _ _ _ _ _ _ c.loop-i.invariant.1 c.leader_at.ensures c.has_bit.ensures (ap not c.if-not-has_bit.false))
 
 pub returns : goal.returns
 returns c =

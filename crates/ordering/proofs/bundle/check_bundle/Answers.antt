@@ -1,5 +1,5 @@
 -- `check_bundle` meets its contract. Assumes nothing.
-use mathlib.Core.Path.{◌≡◌}
+use mathlib.Core.Path.{◌∙◌, sym, ◌≡◌}
 use Prim.Native.Nat.{◌≤◌}
 use lib.ListN.{length}
 use borrow.Author.Rules.{rules}
@@ -17,7 +17,7 @@ size c = search bundle_size
 
 -- and 5
 range : (c : Else-not-is_round) → (1 ≤ c.args.round) × (c.args.round ≤ rounds)
-range c = round_range _ (passed c.is_round.ensures c.if-not-is_round.false-raw)
+range c = round_range _ (sym c.is_round.ensures ∙ c.if-not-is_round.false)
 
 pub returns-then-number-ne0 : goal.returns-then-number-ne0
 returns-then-number-ne0 c = search bundle_state

@@ -1,3 +1,4 @@
+use mathlib.Core.Path.{◌∙◌, sym}
 use Rattle.ordering.proofs.Missing.{WeakHeld, StrongHeld, Search, searched}
 use Rattle.record.proofs.Booleans.{passed}
 use mathlib.Core.Logic.{inl, inr}
@@ -14,7 +15,7 @@ pub loop-p-preserved : goal.loop-p-preserved
 loop-p-preserved c =
     (known (goal.at.loop-p-preserved c).Start).strong_more _ (search) _ c.has_bit.ensures
     (elim c.if-has_bit.branch [
-      then-has_bit+else-not-is_marked-2 v ↦ inr (passed v.is_marked-then-has_bit.ensures v.if-not-is_marked-2.false-raw)
+      then-has_bit+else-not-is_marked-2 v ↦ inr (sym v.is_marked-then-has_bit.ensures ∙ v.if-not-is_marked-2.false)
       | else-has_bit v ↦ inl v.if-has_bit.false
     ])
 

@@ -6,7 +6,7 @@ use borrow.Author.Rules.{rules}
 use Rattle.proposing.proofs.making.leads.Goals as goal
 
 pub returns-then-not-wants_timeouts : goal.returns-then-not-wants_timeouts
-returns-then-not-wants_timeouts c = let e : c.args.wants_timeouts ≡ false = not-true _ c.if-not-wants_timeouts.true-raw in sym (and_fails_left _ e)
+returns-then-not-wants_timeouts c = let e : c.args.wants_timeouts ≡ false = c.if-not-wants_timeouts.true in sym (and_fails_left _ e)
 
 pub returns : goal.returns
-returns c = let e : c.args.wants_timeouts ≡ true = not-false _ c.if-not-wants_timeouts.false-raw in rw e
+returns c = let e : c.args.wants_timeouts ≡ true = c.if-not-wants_timeouts.false in rw e

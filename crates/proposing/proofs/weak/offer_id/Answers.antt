@@ -7,10 +7,10 @@ use Rattle.proposing.proofs.weak.offer_id.Goals as goal
 
 pub returns : goal.returns
 returns c =
-    c.add_weak.ensures ∙ offer_new _ _ _ _ _ (passed c.has_bit.ensures c.if-not-has_bit.false-raw) (sym c.has_bit-2.ensures ∙ c.if-has_bit.false) c.if-most-words.false
+    c.add_weak.ensures ∙ offer_new _ _ _ _ _ (sym c.has_bit.ensures ∙ c.if-not-has_bit.false) (sym c.has_bit-2.ensures ∙ c.if-has_bit.false) c.if-most-words.false
 
 pub returns-then-not-has_bit : goal.returns-then-not-has_bit
-returns-then-not-has_bit c = offer_out _ _ _ _ _ (failed c.has_bit.ensures c.if-not-has_bit.true-raw)
+returns-then-not-has_bit c = offer_out _ _ _ _ _ (sym c.has_bit.ensures ∙ c.if-not-has_bit.true)
 
 pub returns-then-has_bit : goal.returns-then-has_bit
 returns-then-has_bit c = offer_reached _ _ _ _ _ (sym c.has_bit-2.ensures ∙ c.if-has_bit.true)

@@ -8,7 +8,7 @@ use Rattle.record.specs.declared.refusal.Refusal.{Refusal}
 use Rattle.record.proofs.Booleans.{passed, failed}
 use Rattle.record.proofs.Parts.{strong_asked}
 use Rattle.record.proofs.Turn.{next, stop, done, known}
-use mathlib.Core.Path.{◌≡◌, ap}
+use mathlib.Core.Path.{◌∙◌, sym, ◌≡◌, ap}
 use mathlib.Core.List.{List}
 use Prim.Native.Nat.{ℕ}
 use lib.ListN.{drop}
@@ -35,7 +35,7 @@ masks c = c.masks_ok.ensures
 strong : (c : After-strong_ok) → c.strong_ok.result ≡ handed_strong (c.args.quorum) (c.args.round) (strong_of (c.args.body.now))
 unfolding strong_of
 strong c =
-    strong_asked _ _ _ _ _ (passed (masks (goal.at.After-strong_ok c).After-masks_ok) c.if-not-masks_ok.false-raw) c.strong_ok.ensures
+    strong_asked _ _ _ _ _ (sym (masks (goal.at.After-strong_ok c).After-masks_ok) ∙ c.if-not-masks_ok.false) c.strong_ok.ensures
 
 timeouts : (c : After-quorum_if) → c.quorum_if.result ≡ handed_timeouts (c.args.terms.n) (c.args.quorum) (c.args.round) (c.args.body.now)
 unfolding handed_timeouts strong_of timeouts_of
@@ -48,19 +48,19 @@ no_votes c =
 
 from_strong : (c : Else-not-masks_ok) → Left (goal.at.Else-not-masks_ok c).Start 4
 unfolding handed_questions record_questions signer_questions
-from_strong c r d = from_masks (goal.at.Else-not-masks_ok c).Start r (next _ _ (passed (masks (goal.at.Else-not-masks_ok c).After-masks_ok) c.if-not-masks_ok.false-raw) d)
+from_strong c r d = from_masks (goal.at.Else-not-masks_ok c).Start r (next _ _ (sym (masks (goal.at.Else-not-masks_ok c).After-masks_ok) ∙ c.if-not-masks_ok.false) d)
 
 from_timeouts : (c : Else-not-strong_ok) → Left (goal.at.Else-not-strong_ok c).Start 5
 unfolding handed_questions record_questions signer_questions
-from_timeouts c r d = from_strong (goal.at.Else-not-strong_ok c).Else-not-masks_ok r (next _ _ (passed (strong (goal.at.Else-not-strong_ok c).After-strong_ok) c.if-not-strong_ok.false-raw) d)
+from_timeouts c r d = from_strong (goal.at.Else-not-strong_ok c).Else-not-masks_ok r (next _ _ (sym (strong (goal.at.Else-not-strong_ok c).After-strong_ok) ∙ c.if-not-strong_ok.false) d)
 
 from_no_votes : (c : Else-not-quorum_if) → Left (goal.at.Else-not-quorum_if c).Start 6
 unfolding handed_questions record_questions signer_questions
-from_no_votes c r d = from_timeouts (goal.at.Else-not-quorum_if c).Else-not-strong_ok r (next _ _ (passed (timeouts (goal.at.Else-not-quorum_if c).After-quorum_if) c.if-not-quorum_if.false-raw) d)
+from_no_votes c r d = from_timeouts (goal.at.Else-not-quorum_if c).Else-not-strong_ok r (next _ _ (sym (timeouts (goal.at.Else-not-quorum_if c).After-quorum_if) ∙ c.if-not-quorum_if.false) d)
 
 from_weak : (c : Else-not-no_votes_ok) → Left (goal.at.Else-not-no_votes_ok c).Start 7
 unfolding handed_questions record_questions signer_questions
-from_weak c r d = from_no_votes (goal.at.Else-not-no_votes_ok c).Else-not-quorum_if r (next _ _ (passed (no_votes (goal.at.Else-not-no_votes_ok c).After-no_votes_ok) c.if-not-no_votes_ok.false-raw) d)
+from_weak c r d = from_no_votes (goal.at.Else-not-no_votes_ok c).Else-not-quorum_if r (next _ _ (sym (no_votes (goal.at.Else-not-no_votes_ok c).After-no_votes_ok) ∙ c.if-not-no_votes_ok.false) d)
 
 pub bounds-body-0 : goal.bounds-body-0
 unfolding handed_questions record_questions signer_questions
@@ -80,7 +80,7 @@ masks_ok-requires c = search rules
 
 pub returns-then-not-masks_ok : goal.returns-then-not-masks_ok
 unfolding handed_questions record_questions signer_questions
-returns-then-not-masks_ok c = from_masks (goal.at.returns-then-not-masks_ok c).Start _ (stop _ _ (failed (masks (goal.at.returns-then-not-masks_ok c).After-masks_ok) c.if-not-masks_ok.true-raw))
+returns-then-not-masks_ok c = from_masks (goal.at.returns-then-not-masks_ok c).Start _ (stop _ _ (sym (masks (goal.at.returns-then-not-masks_ok c).After-masks_ok) ∙ c.if-not-masks_ok.true))
 
 pub strong_ok-requires : goal.strong_ok-requires
 unfolding handed_questions record_questions signer_questions
@@ -88,7 +88,7 @@ strong_ok-requires c = search rules
 
 pub returns-then-not-strong_ok : goal.returns-then-not-strong_ok
 unfolding handed_questions record_questions signer_questions
-returns-then-not-strong_ok c = from_strong (goal.at.returns-then-not-strong_ok c).Else-not-masks_ok _ (stop _ _ (failed (strong (goal.at.returns-then-not-strong_ok c).After-strong_ok) c.if-not-strong_ok.true-raw))
+returns-then-not-strong_ok c = from_strong (goal.at.returns-then-not-strong_ok c).Else-not-masks_ok _ (stop _ _ (sym (strong (goal.at.returns-then-not-strong_ok c).After-strong_ok) ∙ c.if-not-strong_ok.true))
 
 pub lacks_leader-lack-requires : goal.lacks_leader-lack-requires
 unfolding handed_questions record_questions signer_questions
@@ -100,7 +100,7 @@ quorum_if-requires c = search rules
 
 pub returns-then-not-quorum_if : goal.returns-then-not-quorum_if
 unfolding handed_questions record_questions signer_questions
-returns-then-not-quorum_if c = from_timeouts (goal.at.returns-then-not-quorum_if c).Else-not-strong_ok _ (stop _ _ (failed (timeouts (goal.at.returns-then-not-quorum_if c).After-quorum_if) c.if-not-quorum_if.true-raw))
+returns-then-not-quorum_if c = from_timeouts (goal.at.returns-then-not-quorum_if c).Else-not-strong_ok _ (stop _ _ (sym (timeouts (goal.at.returns-then-not-quorum_if c).After-quorum_if) ∙ c.if-not-quorum_if.true))
 
 pub no_votes_ok-requires : goal.no_votes_ok-requires
 unfolding handed_questions record_questions signer_questions
@@ -108,7 +108,7 @@ no_votes_ok-requires c = search rules
 
 pub returns-then-not-no_votes_ok : goal.returns-then-not-no_votes_ok
 unfolding handed_questions record_questions signer_questions
-returns-then-not-no_votes_ok c = from_no_votes (goal.at.returns-then-not-no_votes_ok c).Else-not-quorum_if _ (stop _ _ (failed (no_votes (goal.at.returns-then-not-no_votes_ok c).After-no_votes_ok) c.if-not-no_votes_ok.true-raw))
+returns-then-not-no_votes_ok c = from_no_votes (goal.at.returns-then-not-no_votes_ok c).Else-not-quorum_if _ (stop _ _ (sym (no_votes (goal.at.returns-then-not-no_votes_ok c).After-no_votes_ok) ∙ c.if-not-no_votes_ok.true))
 
 pub weak_ok-requires : goal.weak_ok-requires
 unfolding handed_questions record_questions signer_questions
@@ -116,8 +116,8 @@ weak_ok-requires c = search rules
 
 pub returns-then-not-weak_ok : goal.returns-then-not-weak_ok
 unfolding handed_questions record_questions signer_questions
-returns-then-not-weak_ok c = from_weak (goal.at.returns-then-not-weak_ok c).Else-not-no_votes_ok _ (stop _ _ (failed c.weak_ok.ensures c.if-not-weak_ok.true-raw))
+returns-then-not-weak_ok c = from_weak (goal.at.returns-then-not-weak_ok c).Else-not-no_votes_ok _ (stop _ _ (sym c.weak_ok.ensures ∙ c.if-not-weak_ok.true))
 
 pub returns : goal.returns
 unfolding handed_questions record_questions signer_questions
-returns c = from_weak (goal.at.returns c).Else-not-no_votes_ok _ (next _ _ (passed c.weak_ok.ensures c.if-not-weak_ok.false-raw) done)
+returns c = from_weak (goal.at.returns c).Else-not-no_votes_ok _ (next _ _ (sym c.weak_ok.ensures ∙ c.if-not-weak_ok.false) done)

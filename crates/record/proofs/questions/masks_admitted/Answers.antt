@@ -18,7 +18,7 @@ use Rattle.record.proofs.questions.masks_admitted.Goals.{Else-lacks_leader, Else
 strong : (c : Else-not-strong_ok) → let a = (c.args) in
     (within a.terms.n (strong_of a.body.now) && handed_strong a.quorum a.round (strong_of a.body.now)) ≡ true
 unfolding strong_of
-strong c = passed c.strong_ok.ensures c.if-not-strong_ok.false-raw
+strong c = sym c.strong_ok.ensures ∙ c.if-not-strong_ok.false
 
 -- the mask has the previous leader
 full : (c : Else-lacks_leader) → let a = (c.args) in masks_admitted a.terms.n a.quorum a.round a.source a.body.now
@@ -28,7 +28,7 @@ full c = masks_full _ _ _ _ _ (strong (goal.at.Else-lacks_leader c).Else-not-str
 
 pub returns-then-not-strong_ok : goal.returns-then-not-strong_ok
 unfolding strong_of
-returns-then-not-strong_ok c = sym (masks_strong _ _ _ _ _ (failed c.strong_ok.ensures c.if-not-strong_ok.true-raw))
+returns-then-not-strong_ok c = sym (masks_strong _ _ _ _ _ (sym c.strong_ok.ensures ∙ c.if-not-strong_ok.true))
 
 -- it lacks that leader
 lacks : (c : Then-lacks_leader) → let a = (c.args) in lacks_leader a.terms.n a.round (strong_of a.body.now) ≡ true

@@ -1,5 +1,5 @@
-use mathlib.Core.Path.{◌≡◌}
-use mathlib.Core.Bool.{true}
+use mathlib.Core.Path.{ap, ◌≡◌}
+use mathlib.Core.Bool.{not, true}
 use Prim.Native.Nat.{◌≤◌, ◌-◌}
 use native.Mathlib.Omega.{arith}
 use borrow.Author.Rules.{rules}
@@ -31,13 +31,13 @@ pub returns-then-not-has_bit : goal.returns-then-not-has_bit
 unfolding weak_of
 returns-then-not-has_bit c =
     let e = weak_held_id _ _ c.requires c.loop-i.i (omega arith) _ (rw c.mask_of.ensures at c.has_bit.ensures) in
-    all_no _ (λ k. held_id c.args.state.now (weak_of c.args.body.now k)) _ _ (omega arith) e c.if-not-has_bit.true-raw
+    all_no _ (λ k. held_id c.args.state.now (weak_of c.args.body.now k)) _ _ (omega arith) e (ap not c.if-not-has_bit.true)
 
 pub loop-i-preserved : goal.loop-i-preserved
 unfolding weak_of
 loop-i-preserved c =
     let e = weak_held_id _ _ c.requires c.loop-i.i (omega arith) _ (rw c.mask_of.ensures at c.has_bit.ensures) in
-    (omega arith, c.loop-i.invariant.1, all_yes _ _ _ c.loop-i.invariant.2 e c.if-not-has_bit.false-raw)
+    (omega arith, c.loop-i.invariant.1, all_yes _ _ _ c.loop-i.invariant.2 e (ap not c.if-not-has_bit.false))
 
 pub returns : goal.returns
 returns c =

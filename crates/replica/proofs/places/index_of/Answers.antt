@@ -3,11 +3,11 @@ use Rattle.replica.proofs.Width.{width_most}
 use Rattle.replica.specs.State.{width}
 use Rattle.record.specs.Below.{any}
 use Rattle.record.proofs.Below.{any_false}
-use mathlib.Core.Bool.{true, false}
+use mathlib.Core.Bool.{not, true, false}
 use Rattle.record.specs.Members.{id_round, is_round}
 use Rattle.record.proofs.Booleans.{passed}
 use Rattle.record.proofs.Rounds.{round_range}
-use mathlib.Core.Path.{◌≡◌, sym, ◌∙◌}
+use mathlib.Core.Path.{ap, ◌≡◌, sym, ◌∙◌}
 use Prim.Native.Nat.{◌≤◌, ◌-◌}
 use native.Mathlib.Omega.{arith}
 use borrow.Author.Rules.{rules}
@@ -15,11 +15,11 @@ use Rattle.replica.proofs.places.index_of.Goals as goal
 use Rattle.replica.proofs.places.index_of.Goals.{Else-not-is_id}
 
 id : (c : Else-not-is_id) → is_round (id_round c.args.x) ≡ true
-id c = passed c.is_id.ensures c.if-not-is_id.false-raw
+id c = sym c.is_id.ensures ∙ c.if-not-is_id.false
 
 pub returns-then-not-is_id : goal.returns-then-not-is_id
 returns-then-not-is_id c =
-    index_no_id c.args.state.now _ _ _ c.is_id.ensures c.if-not-is_id.true-raw c.width_of-width.ensures
+    index_no_id c.args.state.now _ _ _ c.is_id.ensures (ap not c.if-not-is_id.true) c.width_of-width.ensures
 
 pub leader_at-requires : goal.leader_at-requires
 leader_at-requires c =

@@ -1,4 +1,5 @@
 -- The questions in turn: `next`, `stop` and `done` of `Turn`.
+use mathlib.Core.Path.{◌∙◌, sym}
 use borrow.Author.Tests.{eq-eqb, ne_eqb}
 use borrow.Author.Rules.{rules}
 use Rattle.record.proofs.Booleans.{passed, failed}
@@ -10,8 +11,8 @@ returns-then-state-ne-STATE_SIZE c = stop _ _ (ne_eqb _ _ c.if-state-ne-STATE_SI
 
 pub returns-then-not-is_well_formed : goal.returns-then-not-is_well_formed
 returns-then-not-is_well_formed c =
-    next _ _ (eq-eqb _ _ c.if-state-ne-STATE_SIZE.false) (stop _ _ (failed c.is_well_formed.ensures c.if-not-is_well_formed.true-raw))
+    next _ _ (eq-eqb _ _ c.if-state-ne-STATE_SIZE.false) (stop _ _ (sym c.is_well_formed.ensures ∙ c.if-not-is_well_formed.true))
 
 pub returns : goal.returns
 returns c =
-    next _ _ (eq-eqb _ _ c.if-state-ne-STATE_SIZE.false) (next _ _ (passed c.is_well_formed.ensures c.if-not-is_well_formed.false-raw) done)
+    next _ _ (eq-eqb _ _ c.if-state-ne-STATE_SIZE.false) (next _ _ (sym c.is_well_formed.ensures ∙ c.if-not-is_well_formed.false) done)

@@ -1,4 +1,4 @@
-use mathlib.Core.Path.{◌≡◌, sym}
+use mathlib.Core.Path.{◌∙◌, ◌≡◌, sym}
 use mathlib.Core.Bool.{true}
 use Prim.Native.Nat.{◌≤◌, ◌-◌, ◌+◌}
 use native.Mathlib.Omega.{arith}
@@ -20,11 +20,11 @@ round_cells_ok-requires c =
 pub returns-then-not-round_cells_ok : goal.returns-then-not-round_cells_ok
 returns-then-not-round_cells_ok c =
     sym (all_stop rounds (λ k. all slots (cell_ok c.args.state.now (k + 1))) c.loop-i.i (omega arith)
-    (failed c.round_cells_ok.ensures c.if-not-round_cells_ok.true-raw))
+    (sym c.round_cells_ok.ensures ∙ c.if-not-round_cells_ok.true))
 
 pub loop-i-preserved : goal.loop-i-preserved
 loop-i-preserved c =
-    (omega arith, all_more _ _ c.loop-i.invariant.1 (passed c.round_cells_ok.ensures c.if-not-round_cells_ok.false-raw))
+    (omega arith, all_more _ _ c.loop-i.invariant.1 (sym c.round_cells_ok.ensures ∙ c.if-not-round_cells_ok.false))
 
 pub returns : goal.returns
 returns c =

@@ -1,4 +1,4 @@
-use mathlib.Core.Path.{ap}
+use mathlib.Core.Path.{◌∙◌, sym, ap}
 use Prim.Native.Nat.{◌-◌, ◌≤◌}
 use borrow.Author.Rules.{rules}
 use Rattle.record.specs.Members.{id_round, rounds}
@@ -13,7 +13,7 @@ use Rattle.replica.proofs.wellformed.journal_ok.Goals.{Else-not-is_id}
 -- the entry is an id
 known : (c : Else-not-is_id)
     → let r = id_round (journal_word c.args.state.now c.loop-i.i) in (1 ≤ r) × (r ≤ rounds)
-known c = round_range _ (passed c.is_id.ensures c.if-not-is_id.false-raw)
+known c = round_range _ (sym c.is_id.ensures ∙ c.if-not-is_id.false)
 
 pub loop-i-preserved : goal.loop-i-preserved
 loop-i-preserved c =

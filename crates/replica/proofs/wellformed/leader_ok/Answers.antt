@@ -1,5 +1,5 @@
 -- The tests in turn.
-use mathlib.Core.Path.{◌≡◌, ap}
+use mathlib.Core.Path.{◌∙◌, sym, ◌≡◌, ap}
 use mathlib.Core.Bool.{true}
 use Prim.Native.Nat.{ℕ, ◌<◌}
 use native.Mathlib.Omega.{arith}
@@ -13,10 +13,10 @@ use Rattle.replica.proofs.wellformed.leader_ok.Goals.{Else-not-is_marked, Else-w
 
 pub returns-then-not-is_marked : goal.returns-then-not-is_marked
 returns-then-not-is_marked c =
-    entry_no c.args.state.now c.args.i (failed c.is_marked.ensures c.if-not-is_marked.true-raw)
+    entry_no c.args.state.now c.args.i (sym c.is_marked.ensures ∙ c.if-not-is_marked.true)
 
 there : (c : Else-not-is_marked) → held_id c.args.state.now (leader_word c.args.state.now c.args.i) ≡ true
-there c = passed c.is_marked.ensures c.if-not-is_marked.false-raw
+there c = sym c.is_marked.ensures ∙ c.if-not-is_marked.false
 
 low : (c : Else-width_of-index) → leader_index c.args.state.now (leader_word c.args.state.now c.args.i) < width
     c.args.state.now

@@ -1,4 +1,4 @@
-use mathlib.Core.Path.{◌≡◌, refl}
+use mathlib.Core.Path.{◌∙◌, sym, ◌≡◌, refl}
 use mathlib.Core.Bool.{true}
 use Prim.Native.Nat.{◌≤◌, ◌-◌}
 use native.Mathlib.Omega.{arith}
@@ -32,7 +32,7 @@ returns-then-not-leader_ok c =
     simp (
       le-leb _ _ (rw c.loop-i.invariant.2 at c.loop-i.invariant.3),
       all_stop _ (leader_ok c.args.state.now) c.loop-i.i
-          (rw c.loop-i.invariant.2 at c.loop-i-test.true) (failed c.leader_ok.ensures c.if-not-leader_ok.true-raw),
+          (rw c.loop-i.invariant.2 at c.loop-i-test.true) (sym c.leader_ok.ensures ∙ c.if-not-leader_ok.true),
     )
 
 pub loop-i-preserved : goal.loop-i-preserved
@@ -42,7 +42,7 @@ loop-i-preserved c =
       c.loop-i.invariant.1,
       c.loop-i.invariant.2,
       c.loop-i.invariant.3,
-      all_more _ _ c.loop-i.invariant.4 (passed c.leader_ok.ensures c.if-not-leader_ok.false-raw),
+      all_more _ _ c.loop-i.invariant.4 (sym c.leader_ok.ensures ∙ c.if-not-leader_ok.false),
     )
 
 pub last_ok-requires : goal.last_ok-requires

@@ -1,4 +1,4 @@
-use mathlib.Core.Path.{◌≡◌, sym}
+use mathlib.Core.Path.{◌∙◌, ◌≡◌, sym}
 use mathlib.Core.Bool.{true}
 use Prim.Native.Nat.{◌≤◌, ◌-◌, ◌+◌}
 use native.Mathlib.Omega.{arith}
@@ -16,11 +16,11 @@ loop-i-init c = (omega arith, all_none _)
 pub returns-then-not-round_within : goal.returns-then-not-round_within
 returns-then-not-round_within c =
     sym (all_stop rounds (λ k. masks_within c.args.state.now (k + 1)) c.loop-i.i (omega arith)
-    (failed c.round_within.ensures c.if-not-round_within.true-raw))
+    (sym c.round_within.ensures ∙ c.if-not-round_within.true))
 
 pub loop-i-preserved : goal.loop-i-preserved
 loop-i-preserved c =
-    (omega arith, all_more _ _ c.loop-i.invariant.1 (passed c.round_within.ensures c.if-not-round_within.false-raw))
+    (omega arith, all_more _ _ c.loop-i.invariant.1 (sym c.round_within.ensures ∙ c.if-not-round_within.false))
 
 pub returns : goal.returns
 returns c =

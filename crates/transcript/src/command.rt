@@ -8,7 +8,7 @@ use super::numeral::{LARGEST, SPACE, numeral, word_end};
 use record::layout::RECORD_SIZE;
 
 // Other is a line of another form.
-#[derive(Drop)]
+#[derive(Clone, Copy)]
 pub enum Kind {
     Other,
     Open,

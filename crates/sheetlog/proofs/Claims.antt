@@ -8,13 +8,13 @@ use Rattle.sheetlog.specs.Blocks.{kept_size, block}
 use Rattle.sheetlog.specs.Claims.{joined, put_out, BlockByBlock}
 use Rattle.sheetlog.proofs.Feeding.{cut_feed, feed_then, after, feed_after}
 
-end_cut : (line state : List ℕ) → end_text (take kept_size line) state ≡ end_text line state
+pub end_cut : (line state : List ℕ) → end_text (take kept_size line) state ≡ end_text line state
 unfolding end_text
 end_cut [] state = refl
 end_cut (b ∷ s) state = refl
 
 -- what a block prints, and what it leaves, is all that the bytes after it need
-feed_block : (bytes : List ℕ) (r : Reading)
+pub feed_block : (bytes : List ℕ) (r : Reading)
     → feed r bytes ≡ after r.printed (feed (record { printed = []; line = r.line; state = r.state }) bytes)
 feed_block bytes r =
     ap (λ (p : List ℕ). feed (record { printed = p; line = r.line; state = r.state }) bytes) (sym (append-nil r.printed))

@@ -26,8 +26,9 @@ pub outcome_put : (a : Answer) (state : List ℕ) (s : Status) (n : ℕ) {out ou
 outcome_put a state s n d g h = rw (d, g) at h
 
 -- what `reply` ensures
-abbrev Replied : Command → List ℕ → List ℕ → ℕ → List ℕ → List ℕ → ℕ → Type 0
-Replied command state out at state' out' end = Appended out at (reply_text command state) out' end × (state' ≡ (outcome_of command state).words)
+pub record Replied (command : Command) (state out : List ℕ) (at : ℕ) (state' out' : List ℕ) (end : ℕ) : Type 0 where
+  pub appended : Appended out at (reply_text command state) out' end
+  pub state_after : state' ≡ (outcome_of command state).words
 
 -- `parsed` is the command that `parse` gave, and the match found its kind
 module _ {command parsed : Command} (p : parsed ≡ command) where
@@ -36,7 +37,7 @@ module _ {command parsed : Command} (p : parsed ≡ command) where
   unfolding reply_text
   other_reply state e h =
       let k : command.kind ≡ Other = sym (ap (λ (c : Command). c.kind) p) ∙ e in
-      (rw k h, rw k)
+      record { appended = rw k h; state_after = rw k }
 
   pub call_reply : (kind : Kind) (state after : List ℕ) (a : Answer) {out out' : List ℕ} {at end : ℕ} → parsed.kind ≡ kind → is_other kind ≡ false
       → told a after ≡ call_for kind parsed.words state → Appended out at (outcome_text (told a after)) out' end
@@ -46,7 +47,10 @@ module _ {command parsed : Command} (p : parsed ≡ command) where
       let k : is_other command.kind ≡ false = ap is_other (sym (ap (λ (c : Command). c.kind) p) ∙ e) ∙ o in
       let made : told a after ≡ outcome_of command state =
       t ∙ ap (λ (x : Kind). call_for x parsed.words state) (sym e) ∙ ap (λ (c : Command). outcome_of c state) p in
-      (rw k (rw (ap outcome_text made) at h), ap (λ (x : Outcome). x.words) made)
+      record {
+        appended = rw k (rw (ap outcome_text made) at h);
+        state_after = ap (λ (x : Outcome). x.words) made;
+      }
 
 -- no reply is longer than the longest answer
 pub reply_few : (command : Command) (state : List ℕ) → length (reply_text command state) ≤ longest_answer

@@ -2,3 +2,4 @@ pub mod Reply
 pub mod Output
 pub mod Blocks
 pub mod Claims
+pub mod Streams

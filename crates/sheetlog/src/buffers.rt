@@ -23,7 +23,7 @@ pub const BLOCK: usize = 8192;
 pub const OUTPUT: usize = ANSWER_SIZE * BLOCK;
 
 // How much of the line is kept, and how much of the output buffer is filled.
-#[derive(Drop)]
+#[derive(Clone, Copy)]
 pub struct Fill {
     pub kept: usize,
     pub filled: usize,

@@ -27,6 +27,7 @@
 // A call prints a line: the operation, the numbers of the answer (of asking, the number alone; of making, the words of the record too; of a
 // vertex with the pending buffer, the checksum of the buffer too), and the checksum.
 #![tactic(auto)]
+
 mod calls;
 mod input;
 mod output;
@@ -39,6 +40,11 @@ use pending::layout::BUFFER_SIZE;
 use record::layout::{DIGEST_SIZE, RECORD_SIZE};
 use replica::layout::STATE_SIZE;
 use replica::opening::clear;
+use std::io;
+use std::io::{BufWriter, Read, Write};
+
+// How many bytes of the input are read at a time.
+const BLOCK: usize = 65536;
 
 fn least(a: usize, b: usize) -> usize
     ensures { (result ≤ a) × (result ≤ b) }
@@ -53,7 +59,7 @@ fn set(lent: &mut [u32], at: usize, word: u32) {
 }
 
 // How many words are lent, and how many the pending buffer and the record have.
-#[derive(Drop)]
+#[derive(Clone, Copy)]
 struct Sizes {
     lent: usize,
     kept: usize,
@@ -61,14 +67,15 @@ struct Sizes {
 }
 
 // Carries a command out on so many words, and answers how many there are after it.
-fn perform(
+fn perform<W: Write>(
+    out: &mut W,
     words: &mut [u32],
     buffer: &mut [u32],
     rec: &mut [u32],
     digest: &mut [u32; DIGEST_SIZE],
     sizes: Sizes,
     command: Command,
-) -> Sizes {
+) -> io::Result<Sizes> {
     let lent = least(sizes.lent, words.len());
     let kept = least(sizes.kept, buffer.len());
     let length = least(sizes.length, rec.len());
@@ -78,23 +85,24 @@ fn perform(
         1 => {
             clear(words);
             let lent = least(at, words.len());
-            return Sizes { lent, kept, length };
+            return Ok(Sizes { lent, kept, length });
         }
         2 => set(&mut words[..lent], at, command.b),
         13 => {
             clear(rec);
             let length = least(at, rec.len());
-            return Sizes { lent, kept, length };
+            return Ok(Sizes { lent, kept, length });
         }
         14 => set(&mut rec[..length], at, command.b),
         19 => {
             clear(buffer);
             let kept = least(at, buffer.len());
-            return Sizes { lent, kept, length };
+            return Ok(Sizes { lent, kept, length });
         }
         20 => set(&mut buffer[..kept], at, command.b),
         21 => set(digest, at, command.b),
         _ => call(
+            out,
             &mut words[..lent],
             &mut buffer[..kept],
             &rec[..length],
@@ -102,13 +110,20 @@ fn perform(
             op,
             command.a,
             command.b,
-        ),
+        )?,
     }
-    Sizes { lent, kept, length }
+    Ok(Sizes { lent, kept, length })
 }
 
-// A proved loop has to end, and nothing says that the input does: the loop counts its turns down, from a number that no run uses up.
-fn run(words: &mut [u32], buffer: &mut [u32], rec: &mut [u32], block: &mut [u8]) {
+// A proved loop has to end, and nothing says that the input does: the loop counts its turns, up to a number that no run reaches.
+fn run<R: Read, W: Write>(
+    reader: &mut R,
+    out: &mut W,
+    words: &mut [u32],
+    buffer: &mut [u32],
+    rec: &mut [u32],
+    block: &mut [u8],
+) -> io::Result<()> {
     let mut digest = [0u32; DIGEST_SIZE];
     let mut cursor = Cursor { at: 0, end: 0 };
     let mut sizes = Sizes {
@@ -116,23 +131,30 @@ fn run(words: &mut [u32], buffer: &mut [u32], rec: &mut [u32], block: &mut [u8])
         kept: 0,
         length: 0,
     };
-    let mut turns = u64::MAX;
-    while turns > 0 {
-        let next = next_command(block, cursor);
+    for _ in 0..u64::MAX {
+        let next = next_command(reader, block, cursor)?;
         if next.op == 0 {
-            return;
+            break;
         }
-        sizes = perform(words, buffer, rec, &mut digest, sizes, next);
-        let after = next.cursor;
-        cursor = after;
-        turns -= 1;
+        sizes = perform(out, words, buffer, rec, &mut digest, sizes, next)?;
+        cursor = next.cursor;
     }
+    Ok(())
 }
 
-fn main() {
+fn main(rt: HostRuntime) -> io::Result<()> {
     let mut words = [0u32; STATE_SIZE + 136];
     let mut buffer = [0u32; BUFFER_SIZE + 15];
     let mut rec = [0u32; RECORD_SIZE + 8];
-    let mut block = io::large_buffer();
-    run(&mut words, &mut buffer, &mut rec, &mut block);
+    let mut block = [0u8; BLOCK];
+    let mut out = BufWriter::new(rt.alloc(), rt.stdout())?;
+    run(
+        &mut rt.stdin(),
+        &mut out,
+        &mut words,
+        &mut buffer,
+        &mut rec,
+        &mut block,
+    )?;
+    out.flush()
 }

@@ -1,35 +1,30 @@
-// Lines of numbers on standard output.
-use libc::STDOUT_FILENO;
+// Lines of numbers, to a writer.
+use std::io;
+use std::io::Write;
 
 // A number and a space.
-fn put_wide(x: u64) {
-    io::print_decimal(STDOUT_FILENO, x);
-    io::write_all(STDOUT_FILENO, b" ");
-}
-
-pub fn put(x: u32) {
-    put_wide(x as u64);
+pub fn put<W: Write>(out: &mut W, x: u32) -> io::Result<()> {
+    write!(out, "{x} ")
 }
 
 // The last number of a line.
-pub fn put_last(x: u32) {
-    io::print_decimal(STDOUT_FILENO, x as u64);
-    io::write_all(STDOUT_FILENO, b"\n");
+pub fn put_last<W: Write>(out: &mut W, x: u32) -> io::Result<()> {
+    writeln!(out, "{x}")
 }
 
 // Every word.
-pub fn put_words(words: &[u32]) {
-    let mut i: usize = 0;
-    while i < words.len() {
-        put(words[i]);
-        i += 1;
+pub fn put_words<W: Write>(out: &mut W, words: &[u32]) -> io::Result<()> {
+    for word in words {
+        put(out, *word)?;
     }
+    Ok(())
 }
 
 // How many words there are, and each.
-pub fn put_list(words: &[u32]) {
-    put_wide(words.len() as u64);
-    put_words(words);
+pub fn put_list<W: Write>(out: &mut W, words: &[u32]) -> io::Result<()> {
+    let count = words.len();
+    write!(out, "{count} ")?;
+    put_words(out, words)
 }
 
 // h * 31 + word, modulo 2 to the 32.
@@ -40,10 +35,8 @@ fn mix(h: u32, word: u32) -> u32 {
 // One number that stands for every word in its place.
 pub fn checksum(words: &[u32]) -> u32 {
     let mut h: u32 = 0;
-    let mut i: usize = 0;
-    while i < words.len() {
-        h = mix(h, words[i]);
-        i += 1;
+    for word in words {
+        h = mix(h, *word);
     }
     h
 }

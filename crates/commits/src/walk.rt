@@ -59,7 +59,8 @@ pub fn taken_runs(state: &[u32], n: u32, m: u32, low: u32, q: u32) -> [u32; MASK
         if has_bit(below, leader) {
             let run = run_in(n, m, t, below);
             runs[wide(t)] = run;
-            reached = power(leader);
+            let taken = power(leader);
+            reached = taken;
         } else {
             reached = below;
         }

@@ -85,7 +85,8 @@ pub fn check_place(state: &[u32], n: u32, round: u32, source: u32, body: &[u32])
         return Refusal::Conflict;
     }
     let id = first_missing(state, n, round, body);
-    if id < NONE {
+    let lacks = id < NONE;
+    if lacks {
         return Refusal::MissingParent(id);
     }
     Refusal::None

@@ -102,7 +102,8 @@ pub fn quorum_if(quorum: u32, wanted: bool, mask: u32) -> bool
 fn no_votes_ok(terms: Terms, quorum: u32, source: u32, lack: bool, no_votes: u32) -> bool
     ensures { result ≡ handed_if quorum (lack && eqb source terms.leader) no_votes }
 {
-    if source == terms.leader {
+    let leads = source == terms.leader;
+    if leads {
         return quorum_if(quorum, lack, no_votes);
     }
     no_votes == 0

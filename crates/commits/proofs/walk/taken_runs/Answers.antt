@@ -57,7 +57,7 @@ loop-t-preserved c =
       omega arith,
       elim c.if-has_bit.branch [
         then-has_bit w ↦ k.took _ _ _ _ _ _ _ _ c.loop-t-test.true c.loop-t.invariant.2 c.parents_of-below.ensures c.leader_of-leader.ensures
-          (sym c.has_bit.ensures ∙ w.if-has_bit.true) w.run_in-run.ensures w.wide-then-has_bit.ensures w.power-reached-then-has_bit.ensures _ _ w.runs-is w.reached-is
+          (sym c.has_bit.ensures ∙ w.if-has_bit.true) w.run_in-run.ensures w.wide-then-has_bit.ensures w.power-taken.ensures _ _ w.runs-is w.reached-is
         | else-has_bit w ↦ k.passed _ _ _ _ _ c.loop-t-test.true c.loop-t.invariant.2 c.parents_of-below.ensures c.leader_of-leader.ensures
           (sym c.has_bit.ensures ∙ w.if-has_bit.false) _ _ w.runs-is w.reached-is
       ],
@@ -100,8 +100,8 @@ offset_bounds-runs-wide-then-has_bit c = let R = c.requires in search rules
 pub bounds-runs-wide-then-has_bit : goal.bounds-runs-wide-then-has_bit
 bounds-runs-wide-then-has_bit c = let z = size (goal.at.bounds-runs-wide-then-has_bit c).At-loop-t in let R = c.requires in search rules
 
-pub power-reached-requires-then-has_bit : goal.power-reached-requires-then-has_bit
-power-reached-requires-then-has_bit c = let z = small (goal.at.power-reached-requires-then-has_bit c).After-leader_of-leader in search rules
+pub power-taken-requires : goal.power-taken-requires
+power-taken-requires c = let z = small (goal.at.power-taken-requires c).After-leader_of-leader in search rules
 
 pub overflow_sub-t-in-loop-t : goal.overflow_sub-t-in-loop-t
 overflow_sub-t-in-loop-t c = let R = c.requires in search rules

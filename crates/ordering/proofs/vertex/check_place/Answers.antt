@@ -25,8 +25,8 @@ returns-then-has_bit c = (known (goal.at.returns-then-has_bit c).Start).other (c
 pub first_missing-id-requires : goal.first_missing-id-requires
 first_missing-id-requires c = record { source = c.args.source; placing = c.requires }
 
-pub returns-then-id-lt-NONE : goal.returns-then-id-lt-NONE
-returns-then-id-lt-NONE c = (known (goal.at.returns-then-id-lt-NONE c).Start).lacking _ (cc) (search) (search)
+pub returns-then-lacks : goal.returns-then-lacks
+returns-then-lacks c = (known (goal.at.returns-then-lacks c).Start).lacking _ (cc) (search) (search)
 
 pub returns : goal.returns
 returns c = (known (goal.at.returns c).Start).free (cc) (search rules)

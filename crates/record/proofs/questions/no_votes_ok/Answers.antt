@@ -4,10 +4,10 @@ use borrow.Author.Tests.{eq-eqb, ne_eqb}
 use borrow.Author.Rules.{rules}
 use Rattle.record.proofs.questions.no_votes_ok.Goals as goal
 
-pub returns-then-source-terms : goal.returns-then-source-terms
-returns-then-source-terms c =
-    c.quorum_if.ensures ∙ wanted_leading _ _ _ _ (eq-eqb _ _ c.if-source-terms.true)
+pub returns-then-leads : goal.returns-then-leads
+returns-then-leads c =
+    c.quorum_if.ensures ∙ wanted_leading _ _ _ _ (eq-eqb _ _ c.if-leads.true)
 
 pub returns : goal.returns
 returns c =
-    wanted_not c.args.quorum c.args.lack _ c.args.no_votes (ne_eqb _ _ c.if-source-terms.false)
+    wanted_not c.args.quorum c.args.lack _ c.args.no_votes (ne_eqb _ _ c.if-leads.false)

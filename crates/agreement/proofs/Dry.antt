@@ -15,7 +15,7 @@ use Rattle.record.specs.Admitted.{Admitted}
 use Rattle.record.proofs.Booleans.{which, never, and_left, and_right, and_both, and_fails_left, cond_true}
 use Rattle.record.proofs.Turn.{next, done, front_yes, numbered_law, admitted}
 use Rattle.protocol.specs.Dag.{Records, records_of, present, held}
-use Rattle.replica.specs.State.{member_count, held_mask, heard_mask, vertices, firsts}
+use Rattle.replica.specs.State.{member_count, held_mask, heard_mask, firsts}
 use Rattle.replica.specs.Parents.{is_parent, parents_held}
 use Rattle.replica.specs.Status.{state_questions}
 use Rattle.replica.proofs.Dags.{held_vertex, held_id_lem}

@@ -11,7 +11,7 @@ use lib.ListN.{length, get_or, set, drop, length-append, length-drop}
 use lib.Seq.{lt-length-set, get_or-set_same, get_or-set_other, drop-set-lt, drop-set-add, take-suc-set}
 use borrow.Author.Tests.{eqb-true, eqb-false, eq-eqb, ne_eqb, not-true}
 use Rattle.record.specs.Below.{count, select}
-use Rattle.record.specs.Members.{legal, leader, has, add, id_round, id_member, is_round, id_limit, rounds}
+use Rattle.record.specs.Members.{legal, has, add, id_round, id_member, is_round, id_limit, rounds}
 use Rattle.record.proofs.Booleans.{which, never, and_left, and_right, or_cases, or_left, or_right, bool_ext}
 use Rattle.record.proofs.Below.{count_mono, count_cong, select_cong, digit_mono}
 use Rattle.record.proofs.Masks.{has_add, add_lt}

@@ -3,7 +3,7 @@ use mathlib.Core.Path.{◌≡◌, refl, sym, ap, ◌∙◌}
 use mathlib.Core.Bool.{Bool, true, false, not, ◌&&◌}
 use mathlib.Core.Logic.{◌⊎◌, inl, inr, ⊎_elim}
 use mathlib.Core.List.{List, [], ◌∷◌, ◌++◌, append-nil}
-use Prim.Native.Nat.{ℕ, zero, suc, ◌+◌, ◌-◌, ◌^◌, ◌≤◌, ◌<◌}
+use Prim.Native.Nat.{ℕ, zero, suc, ◌+◌, ◌^◌, ◌≤◌, ◌<◌}
 use native.Mathlib.Nat.{eq-or-lt_of_le}
 use native.Mathlib.Numerals.{add-one, sub-one}
 use native.Mathlib.Omega.{arith}
@@ -18,7 +18,6 @@ use Rattle.record.specs.declared.members.Members.{Members}
 use Rattle.record.specs.Layout.{strong_of, body_size, strong_place}
 use Rattle.record.proofs.Booleans.{which, never, and_both, and_fails_left, and_fails_right, or_left, cond_true, cond_false}
 use Rattle.record.proofs.Below.{count_cong}
-use Rattle.record.proofs.Below as below
 use Rattle.record.proofs.Masks.{leaders_apart, has_zero, has_one, has_add_same, has_add_other, add_lt, mask_ext, meets_count}
 use Rattle.protocol.specs.Dag.{Dag, present, held, votes, voter, enough, backed, committed}
 use Rattle.protocol.specs.Masks.{voters}

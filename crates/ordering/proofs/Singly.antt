@@ -8,7 +8,7 @@ use native.Mathlib.Omega.{arith}
 use lib.Bits.{bit_or, bit_and, or_lt, or_zero_r, and_le_r}
 use lib.Pow.{pow_pos, pow-lt}
 use lib.Dec.{eqb, ltb}
-use lib.ListN.{length, get_or, set}
+use lib.ListN.{get_or, set}
 use borrow.Author.Tests.{eqb-true, eqb-false, eq-eqb, ne_eqb, ltb-true, lt-ltb, le-ltb, not-true, not-false}
 use Rattle.record.specs.Below.{any, select}
 use Rattle.record.specs.Members.{has, add, rounds, within, is_round}
@@ -22,9 +22,9 @@ use Rattle.record.proofs.Below.{any_elim, any_off, any_cong}
 use Rattle.record.proofs.Masks.{has_bound, has_or, has_one, has_zero, has_add_other, mask_ext, within_lt, lt_within, within_or}
 use Rattle.record.proofs.Rounds.{round_range}
 use Rattle.record.proofs.Turn.{next, stop, done, front_no, front_yes, numbered_law, placed_law, no_round_law}
-use Rattle.replica.specs.Layout.{state_size, member_count_at, timeouts_at, timeouts_kind}
+use Rattle.replica.specs.Layout.{member_count_at, timeouts_at, timeouts_kind}
 use Rattle.replica.specs.State.{member_count, timeouts_mask, add_member, add_members}
-use Rattle.replica.specs.WellFormed.{well_formed, subset}
+use Rattle.replica.specs.WellFormed.{subset}
 use Rattle.replica.specs.Outcome.{Outcome, unchanged, outcome}
 use Rattle.replica.proofs.Formed.{WellFormed, formed}
 use Rattle.replica.proofs.StatusLaws.{state_ok}

@@ -24,7 +24,7 @@ use Rattle.replica.specs.State.{member_count, current_round, own_word, made_roun
 use Rattle.replica.specs.Outcome.{Outcome, told, nothing_added, outcome}
 use Rattle.replica.specs.Status.{state_questions}
 use Rattle.replica.specs.declared.answer.Answer.{Answer}
-use Rattle.replica.proofs.Formed.{formed, well_formed_lem}
+use Rattle.replica.proofs.Formed.{well_formed_lem}
 use Rattle.ordering.proofs.Counts.{no_growth}
 use Rattle.ordering.proofs.Turns.{state_stops, state_past, state_formed, outcome_refused, outcome_admitted}
 use Rattle.ordering.proofs.Writing.{Calm}

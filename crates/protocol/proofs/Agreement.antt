@@ -1,7 +1,7 @@
 -- Growth of chains and journals from one settled place to a later one, agreement, and the safety theorem.
 use mathlib.Core.Path.{◌≡◌, refl, ap, ◌∙◌}
 use mathlib.Core.Bool.{Bool, true}
-use mathlib.Core.Logic.{◌⊎◌, inl, inr, ⊎_elim}
+use mathlib.Core.Logic.{inl, inr, ⊎_elim}
 use mathlib.Core.List.{List, [], ◌++◌}
 use Prim.Native.Nat.{ℕ, zero, ◌<◌}
 use native.Mathlib.Nat.{eq-zero-or-pos}

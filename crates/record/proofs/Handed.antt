@@ -13,7 +13,7 @@ use Rattle.record.specs.Members.{quorum, meets}
 use Rattle.record.specs.Refusals.{number_of, Question, first_no}
 use Rattle.record.specs.Layout.{body_of, strong_of, timeouts_of, no_votes_of, tagged, record_words}
 use Rattle.record.specs.Questions.{masks_ok, strong_ok, quorum_if, timeouts_ok, no_votes_ok, weak_ok, signer_questions, record_questions, body_refusal}
-use Rattle.record.specs.Handed.{QuorumOf, handed_strong, handed_if, handed_timeouts, handed_no_votes, handed_questions, handed_refusal}
+use Rattle.record.specs.Handed.{handed_strong, handed_if, handed_timeouts, handed_no_votes, handed_questions, handed_refusal}
 use Rattle.record.specs.Handed.{HandedLaw, OnlyQuorumLaw}
 use Rattle.record.specs.Admitted.{MeetsLaw, WantedLaw}
 use Rattle.record.specs.declared.refusal.Refusal.TheVariants.{Strong, Timeouts, NoVotes, Weak}

@@ -13,8 +13,8 @@ use Rattle.pending.specs.Early.{Ending, take_vertex_with}
 use Rattle.pending.proofs.Claims.{end_of}
 use Rattle.proposing.specs.Making.{propose_vertex}
 use Rattle.proposing.specs.Signing.{sign_no_vote}
-use Rattle.runs.specs.Call.{Call, opening, vertex, vertex_with, first_message, timeout, no_vote, bundle, status, ask_leader_list, ask_journal_list}
-use Rattle.runs.specs.Call.{hand_leader_list, hand_journal_list, making, signing, outcome_of}
+use Rattle.runs.specs.Call.{opening, vertex, vertex_with, first_message, timeout, no_vote, bundle, status, ask_leader_list, ask_journal_list}
+use Rattle.runs.specs.Call.{hand_leader_list, hand_journal_list, making, signing}
 use Rattle.runs.specs.Claims.{Untouched, RefusedCalls}
 
 -- the calls that only read

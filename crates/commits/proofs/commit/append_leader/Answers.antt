@@ -1,7 +1,6 @@
 use Rattle.commits.specs.Commit.{append_leader}
 use Rattle.commits.proofs.Appending.{leader_at_small}
 use native.Mathlib.Omega.{arith}
-use borrow.Author.Rules.{rules}
 use Rattle.commits.proofs.commit.append_leader.Goals as goal
 
 pub overflow_add-id : goal.overflow_add-id

@@ -1,5 +1,4 @@
-use Rattle.commits.proofs.Appending.{RunAppending, run_start, run_room, run_next, run_end}
-use Prim.Native.Nat.{◌-◌}
+use Rattle.commits.proofs.Appending.{run_start, run_room, run_next, run_end}
 use native.Mathlib.Omega.{arith}
 use borrow.Author.Rules.{rules}
 use Rattle.commits.proofs.commit.append_run.Goals as goal

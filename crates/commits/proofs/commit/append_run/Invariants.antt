@@ -1,8 +1,6 @@
 -- The loop's invariant: the leaders below i are appended. The measure is how many are left.
-use Rattle.commits.proofs.Appending.{RunAppending, run_start, run_room, run_next, run_end}
+use Rattle.commits.proofs.Appending.{RunAppending}
 use Prim.Native.Nat.{◌-◌}
-use native.Mathlib.Omega.{arith}
-use borrow.Author.Rules.{rules}
 use Rattle.commits.proofs.commit.append_run.Given as goal
 
 abbrev pub invariant-loop-i : goal.invariant-loop-i

@@ -1,5 +1,4 @@
-use Rattle.commits.proofs.Appending.{Appending, appending_start, appending_room, appending_next, appending_end}
-use Prim.Native.Nat.{◌+◌, ◌≤◌, ◌-◌}
+use Rattle.commits.proofs.Appending.{appending_start, appending_room, appending_next, appending_end}
 use native.Mathlib.Omega.{arith}
 use borrow.Author.Rules.{rules}
 use Rattle.commits.proofs.commit.append_runs.Goals as goal
@@ -15,12 +14,11 @@ append_run-requires c =
     (k.0, G.some, omega (arith, G.low), omega (arith, G.high), k.1)
 
 pub loop-r-preserved : goal.loop-r-preserved
-loop-r-preserved c =
-    (
-      omega arith,
-      omega arith,
-      appending_next _ _ _ _ _ _ c.requires _ _ _ _ _ c.loop-r.invariant.2 c.taken_of.ensures c.wide.ensures c.append_run.ensures,
-    )
+loop-r-preserved c = (
+  omega arith,
+  omega arith,
+  appending_next _ _ _ _ _ _ c.requires _ _ _ _ _ c.loop-r.invariant.2 c.taken_of.ensures c.wide.ensures c.append_run.ensures,
+)
 
 pub returns : goal.returns
 returns c =

@@ -1,8 +1,6 @@
 -- The loop's invariant: the leaders taken of the rounds below r are appended. The measure is how many rounds are left.
-use Rattle.commits.proofs.Appending.{Appending, appending_start, appending_room, appending_next, appending_end}
+use Rattle.commits.proofs.Appending.{Appending}
 use Prim.Native.Nat.{◌+◌, ◌≤◌, ◌-◌}
-use native.Mathlib.Omega.{arith}
-use borrow.Author.Rules.{rules}
 use Rattle.commits.proofs.commit.append_runs.Given as goal
 
 abbrev pub invariant-loop-r : goal.invariant-loop-r

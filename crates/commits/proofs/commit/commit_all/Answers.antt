@@ -1,8 +1,6 @@
-use Rattle.commits.proofs.Repeating.{Onward, onward_start, onward_end, onward_next, Later, reach}
-use Rattle.commits.specs.Commit.{most_commits}
-use Rattle.record.proofs.Booleans.{passed, failed, cond_true, cond_false}
+use Rattle.commits.proofs.Repeating.{onward_start, onward_end, onward_next, Later}
+use Rattle.record.proofs.Booleans.{cond_true, cond_false}
 use mathlib.Core.Path.{sym, ◌∙◌}
-use Prim.Native.Nat.{◌-◌}
 use Rattle.commits.proofs.commit.commit_all.Goals as goal
 use Rattle.commits.proofs.commit.commit_all.Goals.{Else-not-commit_once}
 

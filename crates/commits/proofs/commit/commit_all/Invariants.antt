@@ -1,8 +1,6 @@
 -- The loop's invariant: the state is on the way from the first one. Each commit brings the leader list further.
-use Rattle.commits.proofs.Repeating.{Onward, onward_start, onward_end, onward_next, Later, reach}
+use Rattle.commits.proofs.Repeating.{Onward, reach}
 use Rattle.commits.specs.Commit.{most_commits}
-use Rattle.record.proofs.Booleans.{passed, failed, cond_true, cond_false}
-use mathlib.Core.Path.{sym, ◌∙◌}
 use Prim.Native.Nat.{◌-◌}
 use Rattle.commits.proofs.commit.commit_all.Given as goal
 

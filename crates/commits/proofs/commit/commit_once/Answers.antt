@@ -1,7 +1,7 @@
 -- `commit_once` meets its contract. Assumes nothing.
 use Rattle.commits.proofs.Repeating.{further, main_next, is_growing, is_lowest, is_over, once_growing, once_lowest, told_some, told_none}
 use Rattle.commits.proofs.Ground.{width_fits}
-use Rattle.commits.specs.Commit.{grows, commit, lowest}
+use Rattle.commits.specs.Commit.{grows, commit}
 use Rattle.commits.specs.Standing.{AtPlace}
 use Rattle.replica.specs.State.{committed_round}
 use mathlib.Core.Bool.{true, false}

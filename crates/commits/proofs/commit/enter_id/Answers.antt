@@ -3,7 +3,6 @@ use mathlib.Core.Path.{ap}
 use Rattle.replica.specs.State.{add_member}
 use Rattle.commits.specs.Commit.{enter}
 use native.Mathlib.Omega.{arith}
-use borrow.Author.Rules.{rules}
 use Rattle.commits.proofs.commit.enter_id.Goals as goal
 
 pub bounds-state-4-2 : goal.bounds-state-4-2

@@ -3,7 +3,6 @@ use Rattle.commits.proofs.Steps.{held_word, not_led, by_voters}
 use Rattle.replica.specs.State.{vertices}
 use Rattle.protocol.specs.Dag.{held}
 use Rattle.record.specs.Members.{leader_at}
-use Rattle.record.proofs.Booleans.{passed, failed}
 use Rattle.record.proofs.Masks.{leader_at_lt}
 use Rattle.record.proofs.Handed.{meets_law}
 use native.Mathlib.Omega.{arith}

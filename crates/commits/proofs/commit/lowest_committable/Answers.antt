@@ -1,14 +1,9 @@
 use Rattle.commits.proofs.Steps.{committable_at, committable_low}
 use Rattle.commits.specs.Commit.{committable}
-use Rattle.replica.specs.State.{committed_round}
-use Rattle.record.specs.Below.{any}
 use Rattle.record.proofs.Below.{any_false, any_less, least_none, least_at}
 use Rattle.record.specs.Members.{rounds}
-use mathlib.Core.Bool.{false}
 use mathlib.Core.Path.{◌≡◌, sym, ◌∙◌}
-use Prim.Native.Nat.{◌≤◌, ◌<◌, ◌-◌}
 use native.Mathlib.Omega.{arith}
-use borrow.Author.Rules.{rules}
 use Rattle.commits.proofs.commit.lowest_committable.Goals as goal
 
 pub loop-q-init : goal.loop-q-init
@@ -26,14 +21,13 @@ returns-then-is_backed c =
     ∙ (sym c.is_backed.ensures ∙ c.if-is_backed.true)))
 
 pub loop-q-preserved : goal.loop-q-preserved
-loop-q-preserved c =
-    (
-      omega arith,
-      omega arith,
-      any_less _ _ c.loop-q.invariant.2
-          (sym (committable_at _ _ c.loop-q.q c.requires.1 c.loop-q.invariant.0 (omega arith))
-          ∙ (sym c.is_backed.ensures ∙ c.if-is_backed.false)),
-    )
+loop-q-preserved c = (
+  omega arith,
+  omega arith,
+  any_less _ _ c.loop-q.invariant.2
+      (sym (committable_at _ _ c.loop-q.q c.requires.1 c.loop-q.invariant.0 (omega arith))
+      ∙ (sym c.is_backed.ensures ∙ c.if-is_backed.false)),
+)
 
 pub returns : goal.returns
 returns c =

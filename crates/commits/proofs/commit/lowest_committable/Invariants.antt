@@ -1,14 +1,10 @@
-use Rattle.commits.proofs.Steps.{committable_at, committable_low}
 use Rattle.commits.specs.Commit.{committable}
 use Rattle.replica.specs.State.{committed_round}
 use Rattle.record.specs.Below.{any}
-use Rattle.record.proofs.Below.{any_false, any_less, least_none, least_at}
 use Rattle.record.specs.Members.{rounds}
 use mathlib.Core.Bool.{false}
-use mathlib.Core.Path.{◌≡◌, sym, ◌∙◌}
+use mathlib.Core.Path.{◌≡◌}
 use Prim.Native.Nat.{◌≤◌, ◌<◌, ◌-◌}
-use native.Mathlib.Omega.{arith}
-use borrow.Author.Rules.{rules}
 use Rattle.commits.proofs.commit.lowest_committable.Given as goal
 
 abbrev pub invariant-loop-q : goal.invariant-loop-q

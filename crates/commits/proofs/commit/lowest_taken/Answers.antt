@@ -1,5 +1,4 @@
 -- `lowest_taken` meets its contract. Assumes nothing.
-use borrow.Author.Rules.{rules}
 use native.Mathlib.Omega.{arith}
 use Rattle.commits.proofs.Readying.{lowest_none, lowest_full, lowest_left}
 use Rattle.commits.proofs.commit.lowest_taken.Goals as goal

@@ -1,7 +1,6 @@
 -- An id that is not ordered finds room in the journal.
 use Rattle.commits.proofs.Steps.{ordered_word, order_out, order_old, order_new}
 use Rattle.commits.proofs.Growing.{enter_fits}
-use Rattle.record.proofs.Booleans.{passed, failed}
 use Rattle.replica.specs.State.{ordered_id}
 use mathlib.Core.Path.{◌≡◌, sym, ◌∙◌}
 use mathlib.Core.Bool.{false}

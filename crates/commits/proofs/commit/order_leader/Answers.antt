@@ -1,7 +1,6 @@
-use Rattle.commits.proofs.Entering.{Roomy, so_far_in, Growth, growth}
-use Rattle.record.specs.Members.{slots, id_round}
+use Rattle.commits.proofs.Entering.{Roomy, Growth, growth}
+use Rattle.record.specs.Members.{id_round}
 use mathlib.Core.Path.{◌≡◌, refl, sym, ◌∙◌}
-use Prim.Native.Nat.{◌+◌, ◌*◌, ◌-◌, ◌≤◌}
 use native.Mathlib.Omega.{arith}
 use borrow.Author.Rules.{rules}
 use Rattle.commits.proofs.commit.order_leader.Goals as goal
@@ -14,12 +13,11 @@ roomy : (c : At-loop-r) → Roomy c.loop-r.state
 roomy c = (known (goal.at.At-loop-r c).Start).kept _ _ c.loop-r.invariant.1
 
 pub loop-r-preserved : goal.loop-r-preserved
-loop-r-preserved c =
-    (
-      omega arith,
-      (known (goal.at.loop-r-preserved c).Start).more _ _ _ _ _ _ (omega arith) c.loop-r.invariant.1 refl c.history_of-masks.ensures c.wide.ensures
-          c.order_round.ensures,
-    )
+loop-r-preserved c = (
+  omega arith,
+  (known (goal.at.loop-r-preserved c).Start).more _ _ _ _ _ _ (omega arith) c.loop-r.invariant.1 refl c.history_of-masks.ensures c.wide.ensures
+      c.order_round.ensures,
+)
 
 pub returns : goal.returns
 returns c =

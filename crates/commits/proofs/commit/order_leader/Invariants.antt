@@ -1,10 +1,8 @@
 -- The loop's invariant: the history's ids of the rounds up to r are ordered. The measure is how many rounds are left.
-use Rattle.commits.proofs.Entering.{Roomy, so_far_in, Growth, growth}
-use Rattle.record.specs.Members.{slots, id_round}
-use mathlib.Core.Path.{◌≡◌, refl, sym, ◌∙◌}
+use Rattle.commits.proofs.Entering.{so_far_in}
+use Rattle.record.specs.Members.{slots}
+use mathlib.Core.Path.{◌≡◌}
 use Prim.Native.Nat.{◌+◌, ◌*◌, ◌-◌, ◌≤◌}
-use native.Mathlib.Omega.{arith}
-use borrow.Author.Rules.{rules}
 use Rattle.commits.proofs.commit.order_leader.Given as goal
 
 abbrev pub invariant-loop-r : goal.invariant-loop-r

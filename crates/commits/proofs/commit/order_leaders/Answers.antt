@@ -1,9 +1,9 @@
-use Rattle.commits.proofs.Committing.{Ordering, ordering_start, ordering_ready, ordering_next, ordering_end}
+use Rattle.commits.proofs.Committing.{ordering_start, ordering_ready, ordering_next, ordering_end}
 use Rattle.replica.specs.Layout.{leaders_size}
 use Rattle.replica.specs.State.{leader_count, leader_word}
 use Rattle.commits.specs.Standing.{LeaderReady}
 use mathlib.Core.Path.{◌≡◌}
-use Prim.Native.Nat.{◌-◌, ◌<◌}
+use Prim.Native.Nat.{◌<◌}
 use native.Mathlib.Omega.{arith}
 use borrow.Author.Rules.{rules}
 use Rattle.commits.proofs.commit.order_leaders.Goals as goal
@@ -11,12 +11,11 @@ use Rattle.commits.proofs.commit.order_leaders.Goals.{In-loop-i}
 
 known : (c : In-loop-i) → (c.wide-count.result ≡ leader_count c.args.state.now) × (c.loop-i.i < leaders_size)
     × LeaderReady c.loop-i.state c.args.n (leader_word c.loop-i.state c.loop-i.i)
-known c =
-    (
-      c.wide-count.ensures,
-      omega (arith, c.requires.few, c.wide-count.ensures, c.loop-i-test.true),
-      ordering_ready _ _ _ c.requires _ _ _ c.loop-i.invariant c.wide-count.ensures c.loop-i-test.true,
-    )
+known c = (
+  c.wide-count.ensures,
+  omega (arith, c.requires.few, c.wide-count.ensures, c.loop-i-test.true),
+  ordering_ready _ _ _ c.requires _ _ _ c.loop-i.invariant c.wide-count.ensures c.loop-i-test.true,
+)
 
 pub loop-i-preserved : goal.loop-i-preserved
 loop-i-preserved c =

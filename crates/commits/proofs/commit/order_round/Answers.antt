@@ -1,8 +1,6 @@
-use Rattle.commits.specs.Standing.{order_round}
 use Rattle.commits.proofs.Steps.{round_none, round_more, round_old}
 use Rattle.commits.proofs.Entering.{Roomy, round_kept}
 use mathlib.Core.Path.{◌≡◌, sym, ◌∙◌}
-use Prim.Native.Nat.{◌-◌, ◌≤◌}
 use native.Mathlib.Omega.{arith}
 use borrow.Author.Rules.{rules}
 use borrow.Author.Tests.{eq-eqb}

@@ -1,12 +1,7 @@
 -- The loop's invariant: the ids of the members below p are ordered. The measure is how many slots are left.
 use Rattle.commits.specs.Standing.{order_round}
-use Rattle.commits.proofs.Steps.{round_none, round_more, round_old}
-use Rattle.commits.proofs.Entering.{Roomy, round_kept}
-use mathlib.Core.Path.{◌≡◌, sym, ◌∙◌}
+use mathlib.Core.Path.{◌≡◌}
 use Prim.Native.Nat.{◌-◌, ◌≤◌}
-use native.Mathlib.Omega.{arith}
-use borrow.Author.Rules.{rules}
-use borrow.Author.Tests.{eq-eqb}
 use Rattle.record.specs.Members.{slots}
 use Rattle.commits.proofs.commit.order_round.Given as goal
 

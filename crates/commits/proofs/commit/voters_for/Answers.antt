@@ -1,9 +1,8 @@
-use Rattle.commits.proofs.Steps.{Voters, voters_first, voters_all, voter_in, voter_out}
+use Rattle.commits.proofs.Steps.{voters_first, voters_all, voter_in, voter_out}
 use Rattle.commits.proofs.Laws.{Cell, cell_known}
 use Rattle.record.proofs.Masks.{leader_at_lt}
 use mathlib.Core.Path.{◌≡◌, sym, ◌∙◌}
-use mathlib.Core.Logic.{⊎_elim}
-use Prim.Native.Nat.{◌+◌, ◌≤◌, ◌<◌, ◌-◌}
+use Prim.Native.Nat.{◌+◌, ◌<◌}
 use native.Mathlib.Omega.{arith}
 use borrow.Author.Rules.{rules}
 use Rattle.commits.proofs.commit.voters_for.Goals as goal
@@ -32,7 +31,7 @@ loop-p-preserved c =
     let e = sym (rw c.requires.1 at c.has_bit.ensures) in (
       omega arith,
       elim c.if-has_bit.branch [
-        then-has_bit w ↦ voter_in _ _ _ _ _ _ k i _ _ c.loop-p.invariant.1 (e ∙ w.if-has_bit.true) (w.voters-is ∙ w.with-voters.ensures)
+        | then-has_bit w ↦ voter_in _ _ _ _ _ _ k i _ _ c.loop-p.invariant.1 (e ∙ w.if-has_bit.true) (w.voters-is ∙ w.with-voters.ensures)
         | else-has_bit w ↦ voter_out _ _ _ _ _ _ k i _ _ c.loop-p.invariant.1 (e ∙ w.if-has_bit.false) w.voters-is
       ],
     )

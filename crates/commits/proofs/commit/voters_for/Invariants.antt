@@ -1,13 +1,7 @@
 -- The loop's invariant: of the members below p the mask has the voters, and of the others those by first messages. The measure is how many members are
 -- left.
-use Rattle.commits.proofs.Steps.{Voters, voters_first, voters_all, voter_in, voter_out}
-use Rattle.commits.proofs.Laws.{Cell, cell_known}
-use Rattle.record.proofs.Masks.{leader_at_lt}
-use mathlib.Core.Path.{◌≡◌, sym, ◌∙◌}
-use mathlib.Core.Logic.{⊎_elim}
-use Prim.Native.Nat.{◌+◌, ◌≤◌, ◌<◌, ◌-◌}
-use native.Mathlib.Omega.{arith}
-use borrow.Author.Rules.{rules}
+use Rattle.commits.proofs.Steps.{Voters}
+use Prim.Native.Nat.{◌≤◌, ◌-◌}
 use Rattle.commits.proofs.commit.voters_for.Given as goal
 
 abbrev pub invariant-loop-p : goal.invariant-loop-p

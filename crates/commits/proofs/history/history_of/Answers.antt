@@ -1,6 +1,5 @@
 use mathlib.Core.Path.{◌∙◌, ap}
 use Prim.Native.Nat.{ℕ}
-use borrow.Author.Rules.{rules}
 use Rattle.protocol.specs.Masks.{reach_masks}
 use Rattle.replica.specs.State.{vertices}
 use Rattle.commits.proofs.history.history_of.Goals as goal

@@ -1,5 +1,4 @@
 use Rattle.protocol.specs.Masks.{join}
-use borrow.Author.Rules.{rules}
 use Rattle.commits.proofs.history.join_id.Goals as goal
 
 pub returns : goal.returns

@@ -2,7 +2,6 @@
 use Rattle.commits.proofs.Laws.{cell_known, join_strong}
 use mathlib.Core.Path.{◌∙◌}
 use native.Mathlib.Omega.{arith}
-use borrow.Author.Rules.{rules}
 use Rattle.commits.proofs.history.join_parents.Goals as goal
 
 pub returns : goal.returns

@@ -1,23 +1,18 @@
 use Rattle.commits.proofs.Laws.{join_round_none, join_round_in, join_round_out}
-use Rattle.protocol.specs.Masks.{join_round}
-use Rattle.replica.specs.State.{vertices}
 use mathlib.Core.Path.{◌≡◌, sym, ◌∙◌}
-use mathlib.Core.Logic.{⊎_elim}
-use Prim.Native.Nat.{◌≤◌, ◌-◌}
 use native.Mathlib.Omega.{arith}
 use borrow.Author.Rules.{rules}
 use Rattle.commits.proofs.history.join_round.Goals as goal
 use Rattle.commits.proofs.history.join_round.Goals.{then-has_bit, else-has_bit}
 
 pub loop-p-preserved : goal.loop-p-preserved
-loop-p-preserved c =
-    (
-      omega arith,
-      elim c.if-has_bit.branch [
-        then-has_bit w ↦ join_round_in _ _ _ _ _ _ _ c.loop-p.invariant.1 (sym c.has_bit.ensures ∙ w.if-has_bit.true) (w.masks-is ∙ w.join_parents.ensures)
-        | else-has_bit w ↦ join_round_out _ _ _ _ _ _ _ c.loop-p.invariant.1 (sym c.has_bit.ensures ∙ w.if-has_bit.false) w.masks-is
-      ],
-    )
+loop-p-preserved c = (
+  omega arith,
+  elim c.if-has_bit.branch [
+    | then-has_bit w ↦ join_round_in _ _ _ _ _ _ _ c.loop-p.invariant.1 (sym c.has_bit.ensures ∙ w.if-has_bit.true) (w.masks-is ∙ w.join_parents.ensures)
+    | else-has_bit w ↦ join_round_out _ _ _ _ _ _ _ c.loop-p.invariant.1 (sym c.has_bit.ensures ∙ w.if-has_bit.false) w.masks-is
+  ],
+)
 
 pub returns : goal.returns
 returns c =

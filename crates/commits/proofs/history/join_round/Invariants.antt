@@ -1,12 +1,8 @@
 -- The loop's invariant: the parents of the mask's members below p are joined. The measure is how many members are left.
-use Rattle.commits.proofs.Laws.{join_round_none, join_round_in, join_round_out}
 use Rattle.protocol.specs.Masks.{join_round}
 use Rattle.replica.specs.State.{vertices}
-use mathlib.Core.Path.{◌≡◌, sym, ◌∙◌}
-use mathlib.Core.Logic.{⊎_elim}
+use mathlib.Core.Path.{◌≡◌}
 use Prim.Native.Nat.{◌≤◌, ◌-◌}
-use native.Mathlib.Omega.{arith}
-use borrow.Author.Rules.{rules}
 use Rattle.commits.proofs.history.join_round.Given as goal
 
 abbrev pub invariant-loop-p : goal.invariant-loop-p

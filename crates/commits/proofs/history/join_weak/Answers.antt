@@ -1,8 +1,5 @@
 use Rattle.commits.proofs.Laws.{WeakWord, Cell, cell_known, join_weak_none, join_weak_more}
-use Rattle.protocol.specs.Masks.{join_weak}
-use Rattle.replica.specs.State.{vertices}
 use mathlib.Core.Path.{◌≡◌}
-use Prim.Native.Nat.{◌≤◌, ◌-◌}
 use native.Mathlib.Omega.{arith}
 use borrow.Author.Rules.{rules}
 use Rattle.commits.proofs.history.join_weak.Goals as goal

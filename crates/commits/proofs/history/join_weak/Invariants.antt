@@ -1,11 +1,8 @@
 -- The loop's invariant: the first i weak parents are joined. The measure is how many are left.
-use Rattle.commits.proofs.Laws.{WeakWord, Cell, cell_known, join_weak_none, join_weak_more}
 use Rattle.protocol.specs.Masks.{join_weak}
 use Rattle.replica.specs.State.{vertices}
 use mathlib.Core.Path.{◌≡◌}
 use Prim.Native.Nat.{◌≤◌, ◌-◌}
-use native.Mathlib.Omega.{arith}
-use borrow.Author.Rules.{rules}
 use Rattle.commits.proofs.history.join_weak.Given as goal
 
 abbrev pub invariant-loop-i : goal.invariant-loop-i

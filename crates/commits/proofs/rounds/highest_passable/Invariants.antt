@@ -1,9 +1,6 @@
-use Rattle.commits.proofs.Laws.{highest_none, highest_here, highest_below}
 use Rattle.commits.specs.Commit.{highest_passable}
-use mathlib.Core.Path.{◌≡◌, refl, ◌∙◌, sym, ap}
-use native.Mathlib.Omega.{arith}
+use mathlib.Core.Path.{◌≡◌}
 use Prim.Native.Nat.{◌≤◌}
-use borrow.Author.Rules.{rules}
 use Rattle.record.specs.Members.{rounds}
 use Rattle.commits.proofs.rounds.highest_passable.Given as goal
 

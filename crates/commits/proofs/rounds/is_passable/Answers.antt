@@ -2,7 +2,6 @@
 use Rattle.commits.proofs.Laws.{passable_few, passable_led, passable_late}
 use Rattle.replica.specs.State.{held_mask}
 use Rattle.record.specs.Members.{leader, has, meets}
-use Rattle.record.proofs.Booleans.{passed, failed}
 use Rattle.record.proofs.Masks.{leader_small}
 use Rattle.record.proofs.Handed.{meets_law}
 use mathlib.Core.Path.{◌≡◌, sym, ◌∙◌}

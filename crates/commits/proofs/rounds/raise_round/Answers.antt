@@ -1,5 +1,4 @@
 use Rattle.commits.proofs.Laws.{raised, not_raised}
-use borrow.Author.Rules.{rules}
 use Rattle.commits.proofs.rounds.raise_round.Goals as goal
 
 pub returns-then-state-next : goal.returns-then-state-next

@@ -1,12 +1,8 @@
 -- The loop's invariant: the strong masks of the members below p that the mask has are joined. The measure is how many members are left.
-use Rattle.commits.proofs.Laws.{cell_known, parents_none, parents_in_lem, parents_out}
 use Rattle.protocol.specs.Masks.{parents}
 use Rattle.replica.specs.State.{vertices}
-use mathlib.Core.Path.{◌≡◌, sym, ◌∙◌}
-use mathlib.Core.Logic.{⊎_elim}
+use mathlib.Core.Path.{◌≡◌}
 use Prim.Native.Nat.{◌≤◌, ◌-◌}
-use native.Mathlib.Omega.{arith}
-use borrow.Author.Rules.{rules}
 use Rattle.commits.proofs.walk.parents_of.Given as goal
 
 abbrev pub invariant-loop-p : goal.invariant-loop-p

@@ -1,10 +1,10 @@
 use mathlib.Core.Bool.{not}
 use mathlib.Core.Path.{ap}
-use Prim.Native.Nat.{◌≤◌, ◌<◌, ◌-◌}
+use Prim.Native.Nat.{◌<◌}
 use native.Mathlib.Omega.{arith}
 use borrow.Author.Rules.{rules}
 use Rattle.record.proofs.Masks.{leader_at_lt}
-use Rattle.commits.proofs.Running.{Running, running_one, running_more, running_stop, running_all}
+use Rattle.commits.proofs.Running.{running_one, running_more, running_stop, running_all}
 use Rattle.commits.proofs.walk.run_in.Goals as goal
 use Rattle.commits.proofs.walk.run_in.Goals.{After-leader_at}
 

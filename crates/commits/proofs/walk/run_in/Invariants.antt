@@ -1,9 +1,6 @@
 -- The loop's invariant: the mask has the leaders below i. The measure is how many are left.
-use Prim.Native.Nat.{◌≤◌, ◌<◌, ◌-◌}
-use native.Mathlib.Omega.{arith}
-use borrow.Author.Rules.{rules}
-use Rattle.record.proofs.Masks.{leader_at_lt}
-use Rattle.commits.proofs.Running.{Running, running_one, running_more, running_stop, running_all}
+use Prim.Native.Nat.{◌≤◌, ◌-◌}
+use Rattle.commits.proofs.Running.{Running}
 use Rattle.commits.proofs.walk.run_in.Given as goal
 
 abbrev pub invariant-loop-i : goal.invariant-loop-i

@@ -1,9 +1,7 @@
-use Rattle.commits.proofs.Running.{Walked, Walk, walk_runs}
-use Rattle.replica.specs.State.{vertices}
+use Rattle.commits.proofs.Running.{Walk, walk_runs}
 use Rattle.record.proofs.Masks.{leader_small}
 use mathlib.Core.Path.{◌≡◌, sym, ◌∙◌}
-use mathlib.Core.Logic.{⊎_elim}
-use Prim.Native.Nat.{◌+◌, ◌≤◌, ◌<◌}
+use Prim.Native.Nat.{◌<◌}
 use lib.ListN.{length}
 use Rattle.record.specs.Members.{rounds}
 use native.Mathlib.Omega.{arith}
@@ -56,10 +54,10 @@ loop-t-preserved c =
       omega arith,
       omega arith,
       elim c.if-has_bit.branch [
-        then-has_bit w ↦ k.took _ _ _ _ _ _ _ _ c.loop-t-test.true c.loop-t.invariant.2 c.parents_of-below.ensures c.leader_of-leader.ensures
-          (sym c.has_bit.ensures ∙ w.if-has_bit.true) w.run_in-run.ensures w.wide-then-has_bit.ensures w.power-taken.ensures _ _ w.runs-is w.reached-is
+        | then-has_bit w ↦ k.took _ _ _ _ _ _ _ _ c.loop-t-test.true c.loop-t.invariant.2 c.parents_of-below.ensures c.leader_of-leader.ensures
+            (sym c.has_bit.ensures ∙ w.if-has_bit.true) w.run_in-run.ensures w.wide-then-has_bit.ensures w.power-taken.ensures _ _ w.runs-is w.reached-is
         | else-has_bit w ↦ k.passed _ _ _ _ _ c.loop-t-test.true c.loop-t.invariant.2 c.parents_of-below.ensures c.leader_of-leader.ensures
-          (sym c.has_bit.ensures ∙ w.if-has_bit.false) _ _ w.runs-is w.reached-is
+            (sym c.has_bit.ensures ∙ w.if-has_bit.false) _ _ w.runs-is w.reached-is
       ],
     )
 

@@ -4,7 +4,6 @@ use Prim.Native.Nat.{◌≤◌}
 use lib.ListN.{length}
 use borrow.Author.Rules.{rules}
 use Rattle.record.specs.Members.{rounds}
-use Rattle.record.proofs.Booleans.{passed}
 use Rattle.record.proofs.Rounds.{round_range}
 use Rattle.replica.specs.Layout.{state_size}
 use Rattle.ordering.proofs.Bundled.{bundle_state, bundle_size, bundle_off, bundle_wide, bundle_again, bundle_new}

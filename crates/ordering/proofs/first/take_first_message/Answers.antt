@@ -9,7 +9,6 @@ use Rattle.replica.specs.State.{member_count}
 use Rattle.replica.proofs.Formed.{WellFormed}
 use mathlib.Core.Path.{◌≡◌}
 use mathlib.Core.List.{List}
-use Prim.Native.Nat.{ℕ}
 use borrow.Author.Rules.{rules}
 use Rattle.ordering.proofs.first.take_first_message.Goals as goal
 use Rattle.ordering.proofs.first.take_first_message.Goals.{After-check_first-refused, Else-number-ne0, Else-number-ne0-2, Start}

@@ -1,7 +1,6 @@
 -- `check_note` meets its contract. Assumes nothing.
 use Rattle.ordering.proofs.Turns.{note_state, NoteKnown, note_known, SignerKnown, signer_known}
 use Rattle.replica.specs.State.{mask_of}
-use mathlib.Core.List.{List}
 use Prim.Native.Nat.{ℕ}
 use borrow.Author.Rules.{rules}
 use Rattle.ordering.proofs.notes.check_note.Goals as goal

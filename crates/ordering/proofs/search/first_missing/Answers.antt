@@ -1,8 +1,6 @@
 use mathlib.Core.Path.{◌∙◌, sym}
-use Rattle.ordering.proofs.Missing.{WeakHeld, StrongHeld, Search, searched}
-use Rattle.record.proofs.Booleans.{passed}
+use Rattle.ordering.proofs.Missing.{Search, searched}
 use mathlib.Core.Logic.{inl, inr}
-use Prim.Native.Nat.{◌-◌}
 use borrow.Author.Rules.{rules}
 use Rattle.ordering.proofs.search.first_missing.Goals as goal
 use Rattle.ordering.proofs.search.first_missing.Goals.{Start, then-has_bit+else-not-is_marked-2, else-has_bit}
@@ -15,7 +13,7 @@ pub loop-p-preserved : goal.loop-p-preserved
 loop-p-preserved c =
     (known (goal.at.loop-p-preserved c).Start).strong_more _ (search) _ c.has_bit.ensures
     (elim c.if-has_bit.branch [
-      then-has_bit+else-not-is_marked-2 v ↦ inr (sym v.is_marked-then-has_bit.ensures ∙ v.if-not-is_marked-2.false)
+      | then-has_bit+else-not-is_marked-2 v ↦ inr (sym v.is_marked-then-has_bit.ensures ∙ v.if-not-is_marked-2.false)
       | else-has_bit v ↦ inl v.if-has_bit.false
     ])
 

@@ -1,10 +1,7 @@
 -- `first_missing` meets its contract. The first inner loop's invariant: the first `i` weak ids are held. The second's: all weak ids are held, and the
 -- strong parents below `p`. The outer loop's: what each step may use; it is left in its first turn. Assumes nothing.
-use Rattle.ordering.proofs.Missing.{WeakHeld, StrongHeld, Search, searched}
-use Rattle.record.proofs.Booleans.{passed}
-use mathlib.Core.Logic.{inl, inr, ⊎_elim}
+use Rattle.ordering.proofs.Missing.{WeakHeld, StrongHeld, Search}
 use Prim.Native.Nat.{◌-◌}
-use borrow.Author.Rules.{rules}
 use Rattle.ordering.proofs.search.first_missing.Given as goal
 
 abbrev pub invariant-loop-i : goal.invariant-loop-i

@@ -1,8 +1,6 @@
 -- `admit_vertex` meets its contract. Assumes nothing.
 use Rattle.ordering.proofs.Taking.{VertexTaken, vertex_taken_lem}
 use mathlib.Core.Path.{refl}
-use mathlib.Core.List.{List}
-use Prim.Native.Nat.{ℕ}
 use borrow.Author.Rules.{rules}
 use Rattle.ordering.proofs.vertex.admit_vertex.Goals as goal
 use Rattle.ordering.proofs.vertex.admit_vertex.Goals.{Start}

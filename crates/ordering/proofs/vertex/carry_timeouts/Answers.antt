@@ -1,6 +1,5 @@
 -- `carry_timeouts` meets its contract. Assumes nothing.
 use Rattle.ordering.proofs.Carried.{carried_none, carried_before}
-use borrow.Author.Rules.{rules}
 use Rattle.ordering.proofs.vertex.carry_timeouts.Goals as goal
 
 pub returns-then-round-lt2 : goal.returns-then-round-lt2

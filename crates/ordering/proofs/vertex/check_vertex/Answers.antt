@@ -4,7 +4,6 @@ use Rattle.ordering.specs.Calls.{place_questions}
 use Rattle.record.specs.Layout.{round_of, source_of, body_of}
 use Rattle.record.specs.Refusals.{Question}
 use mathlib.Core.List.{List}
-use Prim.Native.Nat.{ℕ}
 use borrow.Author.Rules.{rules}
 use Rattle.ordering.proofs.vertex.check_vertex.Goals as goal
 use Rattle.ordering.proofs.vertex.check_vertex.Goals.{Else-number-ne0, Start}

@@ -1,6 +1,5 @@
 -- `put_vertex` meets its contract. Assumes nothing.
 use Rattle.ordering.proofs.Copying.{vertex_put}
-use borrow.Author.Rules.{rules}
 use Rattle.ordering.proofs.vertex.put_vertex.Goals as goal
 
 pub returns : goal.returns

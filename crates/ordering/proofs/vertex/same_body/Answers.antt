@@ -1,17 +1,14 @@
 use mathlib.Core.Bool.{Bool}
 use Rattle.ordering.specs.Calls.{same_body}
-use Rattle.record.specs.Below.{all}
 use Rattle.record.proofs.Below.{all_none, all_more, all_stop}
 use Rattle.record.specs.Layout.{body_size}
 use Rattle.replica.specs.Layout.{cell_at}
 use borrow.Author.Tests.{eq-eqb, ne_eqb}
 use mathlib.Core.Path.{◌≡◌, sym}
-use mathlib.Core.Bool.{true}
-use Prim.Native.Nat.{ℕ, ◌+◌, ◌≤◌, ◌-◌}
+use Prim.Native.Nat.{ℕ, ◌+◌}
 use native.Mathlib.Omega.{arith}
 use lib.Dec.{eqb}
 use lib.ListN.{get_or}
-use borrow.Author.Rules.{rules}
 use Rattle.ordering.proofs.vertex.same_body.Goals as goal
 
 pub loop-i-init : goal.loop-i-init

@@ -1,17 +1,11 @@
-use mathlib.Core.Bool.{Bool}
-use Rattle.ordering.specs.Calls.{same_body}
 use Rattle.record.specs.Below.{all}
-use Rattle.record.proofs.Below.{all_none, all_more, all_stop}
 use Rattle.record.specs.Layout.{body_size}
 use Rattle.replica.specs.Layout.{cell_at}
-use borrow.Author.Tests.{eq-eqb, ne_eqb}
-use mathlib.Core.Path.{◌≡◌, sym}
+use mathlib.Core.Path.{◌≡◌}
 use mathlib.Core.Bool.{true}
-use Prim.Native.Nat.{ℕ, ◌+◌, ◌≤◌, ◌-◌}
-use native.Mathlib.Omega.{arith}
+use Prim.Native.Nat.{◌+◌, ◌≤◌, ◌-◌}
 use lib.Dec.{eqb}
 use lib.ListN.{get_or}
-use borrow.Author.Rules.{rules}
 use Rattle.ordering.proofs.vertex.same_body.Given as goal
 
 abbrev pub invariant-loop-i : goal.invariant-loop-i

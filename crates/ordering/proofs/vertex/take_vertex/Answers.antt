@@ -8,7 +8,6 @@ use Rattle.replica.specs.State.{member_count}
 use Rattle.replica.proofs.Formed.{WellFormed}
 use mathlib.Core.Path.{◌≡◌, refl, sym, ap, ◌∙◌}
 use mathlib.Core.List.{List}
-use Prim.Native.Nat.{ℕ}
 use borrow.Author.Rules.{rules}
 use Rattle.ordering.proofs.vertex.take_vertex.Goals as goal
 use Rattle.ordering.proofs.vertex.take_vertex.Goals.{After-check_vertex-refused, Else-number-ne0, Start}

@@ -1,11 +1,9 @@
 use mathlib.Core.Path.{◌≡◌, refl, sym, ap, ◌∙◌}
-use mathlib.Core.List.{List}
-use Prim.Native.Nat.{ℕ, ◌+◌, ◌≤◌, ◌-◌}
+use Prim.Native.Nat.{ℕ, ◌+◌, ◌-◌}
 use native.Mathlib.Omega.{arith}
-use borrow.Author.Rules.{rules}
 use Rattle.record.specs.Refusals.{number_of}
 use Rattle.record.specs.Questions.{record_refusal}
-use Rattle.pending.specs.Buffer.{record_id, count_of, record_at, records_from, records_in, records_ok}
+use Rattle.pending.specs.Buffer.{record_id, count_of, record_at, records_from, records_ok}
 use Rattle.pending.proofs.Slots.{slot_part, records_all}
 use Rattle.pending.proofs.Order.{bounded, ok_refused, ok_low, ok_next, ok_end}
 use Rattle.pending.proofs.buffer.records_ok.Goals as goal

@@ -1,14 +1,7 @@
 -- Invariant: the records from slot j on decide, with ids above the last one.
-use mathlib.Core.Path.{◌≡◌, refl, sym, ap, ◌∙◌}
-use mathlib.Core.List.{List}
-use Prim.Native.Nat.{ℕ, ◌+◌, ◌≤◌, ◌-◌}
-use native.Mathlib.Omega.{arith}
-use borrow.Author.Rules.{rules}
-use Rattle.record.specs.Refusals.{number_of}
-use Rattle.record.specs.Questions.{record_refusal}
-use Rattle.pending.specs.Buffer.{record_id, count_of, record_at, records_from, records_in, records_ok}
-use Rattle.pending.proofs.Slots.{slot_part, records_all}
-use Rattle.pending.proofs.Order.{bounded, ok_refused, ok_low, ok_next, ok_end}
+use mathlib.Core.Path.{◌≡◌}
+use Prim.Native.Nat.{◌≤◌, ◌-◌}
+use Rattle.pending.specs.Buffer.{count_of, records_from, records_in, records_ok}
 use Rattle.pending.proofs.buffer.records_ok.Given as goal
 
 abbrev pub invariant-loop-j : goal.invariant-loop-j

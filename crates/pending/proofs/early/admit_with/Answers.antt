@@ -1,6 +1,4 @@
 -- `admit_with` meets its contract. Assumes nothing.
-use mathlib.Core.List.{List}
-use Prim.Native.Nat.{ℕ}
 use borrow.Author.Rules.{rules}
 use Rattle.replica.proofs.Formed.{WellFormed}
 use Rattle.ordering.proofs.Carried.{vertex_written}

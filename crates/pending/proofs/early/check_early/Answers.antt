@@ -1,5 +1,4 @@
 -- `check_early` meets its contract. Assumes nothing.
-use borrow.Author.Rules.{rules}
 use Rattle.record.proofs.Booleans.{passed, failed}
 use Rattle.record.proofs.Turn.{next, stop}
 use Rattle.pending.proofs.early.check_early.Goals as goal

@@ -1,7 +1,6 @@
 -- `take_vertex_with` meets its contract. Assumes nothing.
 use mathlib.Core.Path.{◌≡◌, refl, ap, ◌∙◌}
 use mathlib.Core.List.{List}
-use Prim.Native.Nat.{ℕ}
 use borrow.Author.Rules.{rules}
 use Rattle.record.specs.Refusals.{is_missing, Question, first_no}
 use Rattle.replica.specs.State.{member_count}

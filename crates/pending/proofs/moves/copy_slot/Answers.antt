@@ -1,11 +1,9 @@
 use mathlib.Core.Path.{◌≡◌}
-use Prim.Native.Nat.{◌≤◌, ◌-◌}
 use native.Mathlib.Omega.{arith}
-use lib.ListN.{length}
-use lib.Seq.{paste, paste-zero}
+use lib.Seq.{paste-zero}
 use borrow.Author.Rules.{rules}
 use Rattle.record.specs.Layout.{record_size}
-use Rattle.pending.specs.Layout.{buffer_size, slot_at}
+use Rattle.pending.specs.Layout.{slot_at}
 use Rattle.pending.specs.Buffer.{record_at}
 use Rattle.pending.proofs.Slots.{slot_size}
 use Rattle.pending.proofs.Writing.{written_more, unwritten}
@@ -16,16 +14,15 @@ loop-i-init c =
     (omega arith, c.requires.0, paste-zero c.args.buffer.now (slot_at c.args.to) (record_at c.args.buffer.now c.args.from))
 
 pub loop-i-preserved : goal.loop-i-preserved
-loop-i-preserved c =
-    (
-      omega arith,
-      search rules,
-      written_more c.args.buffer.now c.loop-i.buffer _ (slot_at c.args.to) _ (record_at c.args.buffer.now c.args.from) c.loop-i.i
-          c.slot_at-place.ensures c.loop-i.invariant.2
-          (unwritten c.args.buffer.now c.loop-i.buffer c.args.from c.args.to _ c.loop-i.i c.slot_at-at.ensures c.loop-i.invariant.2
-          c.requires.0 c.requires.1 c.requires.2 (omega arith))
-          (omega (arith, c.requires.0, c.requires.2)) (omega (arith, slot_size c.args.buffer.now c.args.from c.requires.0 c.requires.1)),
-    )
+loop-i-preserved c = (
+  omega arith,
+  search rules,
+  written_more c.args.buffer.now c.loop-i.buffer _ (slot_at c.args.to) _ (record_at c.args.buffer.now c.args.from) c.loop-i.i
+      c.slot_at-place.ensures c.loop-i.invariant.2
+      (unwritten c.args.buffer.now c.loop-i.buffer c.args.from c.args.to _ c.loop-i.i c.slot_at-at.ensures c.loop-i.invariant.2
+      c.requires.0 c.requires.1 c.requires.2 (omega arith))
+      (omega (arith, c.requires.0, c.requires.2)) (omega (arith, slot_size c.args.buffer.now c.args.from c.requires.0 c.requires.1)),
+)
 
 pub returns : goal.returns
 returns c =

@@ -1,15 +1,11 @@
 -- Invariant: the first i words of the record are written.
 use mathlib.Core.Path.{◌≡◌}
 use Prim.Native.Nat.{◌≤◌, ◌-◌}
-use native.Mathlib.Omega.{arith}
 use lib.ListN.{length}
-use lib.Seq.{paste, paste-zero}
-use borrow.Author.Rules.{rules}
+use lib.Seq.{paste}
 use Rattle.record.specs.Layout.{record_size}
 use Rattle.pending.specs.Layout.{buffer_size, slot_at}
 use Rattle.pending.specs.Buffer.{record_at}
-use Rattle.pending.proofs.Slots.{slot_size}
-use Rattle.pending.proofs.Writing.{written_more, unwritten}
 use Rattle.pending.proofs.moves.copy_slot.Given as goal
 
 abbrev pub invariant-loop-i : goal.invariant-loop-i

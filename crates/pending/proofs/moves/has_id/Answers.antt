@@ -1,7 +1,5 @@
 -- `has_id` meets its contract. Assumes nothing.
 use mathlib.Core.Path.{ap₂, ap, ◌∙◌}
-use mathlib.Core.List.{List}
-use Prim.Native.Nat.{ℕ}
 use native.Mathlib.Omega.{arith}
 use lib.Dec.{eqb}
 use borrow.Author.Rules.{rules}

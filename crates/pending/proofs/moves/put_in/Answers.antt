@@ -1,6 +1,5 @@
 use mathlib.Core.Path.{◌≡◌, refl, sym, ◌∙◌}
-use mathlib.Core.List.{List}
-use Prim.Native.Nat.{ℕ, ◌+◌, ◌≤◌, ◌-◌}
+use Prim.Native.Nat.{◌+◌, ◌≤◌, ◌-◌}
 use native.Mathlib.Omega.{arith}
 use lib.ListN.{length-set}
 use borrow.Author.Rules.{rules}
@@ -8,7 +7,7 @@ use Rattle.pending.specs.Layout.{count_place}
 use Rattle.pending.specs.Buffer.{record_id, count_of, records_in}
 use Rattle.pending.proofs.Slots.{records_length}
 use Rattle.pending.proofs.Order.{Formed, formed, rank_le}
-use Rattle.pending.proofs.Upward.{Moved, moved_none, moved_more, put_done}
+use Rattle.pending.proofs.Upward.{moved_none, moved_more, put_done}
 use Rattle.pending.proofs.moves.put_in.Goals as goal
 use Rattle.pending.proofs.moves.put_in.Goals.{Start}
 

@@ -1,15 +1,8 @@
 -- Invariant: the records from slot i on have moved up.
-use mathlib.Core.Path.{◌≡◌, refl, sym, ◌∙◌}
-use mathlib.Core.List.{List}
-use Prim.Native.Nat.{ℕ, ◌+◌, ◌≤◌, ◌-◌}
-use native.Mathlib.Omega.{arith}
-use lib.ListN.{length-set}
-use borrow.Author.Rules.{rules}
-use Rattle.pending.specs.Layout.{count_place}
-use Rattle.pending.specs.Buffer.{record_id, count_of, records_in}
-use Rattle.pending.proofs.Slots.{records_length}
-use Rattle.pending.proofs.Order.{Formed, formed, rank_le}
-use Rattle.pending.proofs.Upward.{Moved, moved_none, moved_more, put_done}
+use mathlib.Core.Path.{◌≡◌}
+use Prim.Native.Nat.{◌≤◌}
+use Rattle.pending.specs.Buffer.{count_of}
+use Rattle.pending.proofs.Upward.{Moved}
 use Rattle.pending.proofs.moves.put_in.Given as goal
 
 abbrev pub invariant-loop-i : goal.invariant-loop-i

@@ -1,12 +1,10 @@
 use mathlib.Core.Path.{◌≡◌, sym}
-use mathlib.Core.Bool.{Bool, true}
-use Prim.Native.Nat.{ℕ, ◌≤◌, ◌-◌}
+use mathlib.Core.Bool.{Bool}
+use Prim.Native.Nat.{ℕ}
 use native.Mathlib.Omega.{arith}
 use lib.Dec.{eqb}
 use lib.ListN.{get_or}
-use borrow.Author.Rules.{rules}
 use borrow.Author.Tests.{eq-eqb, ne_eqb}
-use Rattle.record.specs.Below.{all}
 use Rattle.record.specs.Layout.{record_size}
 use Rattle.record.proofs.Below.{all_none, all_more, all_stop}
 use Rattle.pending.specs.Buffer.{same_record}

@@ -1,5 +1,4 @@
 -- `slot_written` of `Writing`.
-use borrow.Author.Rules.{rules}
 use Rattle.pending.proofs.Writing.{slot_written}
 use Rattle.pending.proofs.moves.write_slot.Goals as goal
 

@@ -1,5 +1,4 @@
 use mathlib.Core.Path.{◌≡◌, refl, sym, ◌∙◌}
-use mathlib.Core.List.{List}
 use Prim.Native.Nat.{ℕ, ◌≤◌, ◌-◌}
 use native.Mathlib.Omega.{arith}
 use lib.ListN.{length, length-set}
@@ -12,7 +11,7 @@ use Rattle.pending.proofs.Order as order
 use Rattle.pending.proofs.Order.{Formed}
 use Rattle.pending.proofs.Passing.{Good}
 use Rattle.pending.proofs.Writing.{cleared}
-use Rattle.pending.proofs.Swept.{Going, going_start, going_trying, step, sweep_done}
+use Rattle.pending.proofs.Swept.{going_start, going_trying, step, sweep_done}
 use Rattle.pending.proofs.sweep.release.Goals as goal
 use Rattle.pending.proofs.sweep.release.Goals.{After-slot_at-end, Start}
 

@@ -1,5 +1,4 @@
 -- `sweep_one` meets its contract. Assumes nothing.
-use borrow.Author.Rules.{rules}
 use Rattle.pending.proofs.Slots.{slot_part}
 use Rattle.pending.proofs.Swept.{sweep_stays, sweep_goes}
 use Rattle.pending.proofs.sweep.sweep_one.Goals as goal

@@ -1,6 +1,4 @@
 -- All questions in turn: laws of `Asking`.
-use mathlib.Core.List.{List}
-use Prim.Native.Nat.{ℕ}
 use Rattle.proposing.specs.Inner.{Current}
 use Rattle.replica.specs.State.{member_count, current_round}
 use Rattle.proposing.proofs.Kept.{MemberKnown}

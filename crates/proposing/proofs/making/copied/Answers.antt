@@ -2,7 +2,6 @@ use mathlib.Core.Path.{◌≡◌, sym, ◌∙◌}
 use mathlib.Core.Bool.{true, false}
 use Prim.Native.Nat.{◌≤◌}
 use Rattle.record.proofs.Booleans.{cond_true, cond_false}
-use borrow.Author.Tests.{not-true, not-false}
 use borrow.Author.Rules.{rules}
 use Rattle.proposing.proofs.making.copied.Goals as goal
 use Rattle.proposing.proofs.making.copied.Goals.{Else-not-wanted}

@@ -1,8 +1,6 @@
 use mathlib.Core.Path.{◌≡◌, sym}
 use mathlib.Core.Bool.{true, false}
 use Rattle.record.proofs.Booleans.{and_fails_left}
-use borrow.Author.Tests.{not-true, not-false}
-use borrow.Author.Rules.{rules}
 use Rattle.proposing.proofs.making.leads.Goals as goal
 
 pub returns-then-not-wants_timeouts : goal.returns-then-not-wants_timeouts

@@ -1,5 +1,4 @@
 -- The digest stands between words that are known: the equation computes.
-use borrow.Author.Rules.{rules}
 use Rattle.proposing.proofs.making.plain_record.Goals as goal
 
 pub returns : goal.returns

@@ -1,6 +1,4 @@
 -- `propose_refused`, `propose_current` and `propose_done` of `Asking`.
-use mathlib.Core.List.{List}
-use Prim.Native.Nat.{ℕ}
 use Rattle.proposing.specs.Inner.{Current}
 use Rattle.replica.specs.State.{member_count, current_round}
 use Rattle.proposing.proofs.Asking.{propose_refused, propose_current, propose_done}

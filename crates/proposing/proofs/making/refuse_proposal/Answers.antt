@@ -1,4 +1,3 @@
-use borrow.Author.Rules.{rules}
 use Rattle.proposing.proofs.making.refuse_proposal.Goals as goal
 
 pub returns : goal.returns

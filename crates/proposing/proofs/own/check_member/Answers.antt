@@ -1,8 +1,6 @@
 -- Questions 1, 3 and 16 in turn: laws of `Asking`.
 use Rattle.proposing.proofs.Asking.{member_state, member_size, member_watcher, member_own}
 use mathlib.Core.Path.{◌≡◌}
-use mathlib.Core.List.{List}
-use Prim.Native.Nat.{ℕ}
 use lib.ListN.{length}
 use Rattle.replica.specs.Layout.{state_size}
 use borrow.Author.Rules.{rules}

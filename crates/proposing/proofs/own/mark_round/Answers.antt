@@ -1,5 +1,4 @@
 use Rattle.proposing.specs.Own.{mark_round}
-use borrow.Author.Rules.{rules}
 use Rattle.proposing.proofs.own.mark_round.Goals as goal
 
 pub returns : goal.returns

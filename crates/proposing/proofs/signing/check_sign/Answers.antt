@@ -1,8 +1,7 @@
 -- All questions in turn: laws of `Asking`.
 use mathlib.Core.Bool.{not}
 use mathlib.Core.Path.{ap}
-use mathlib.Core.List.{List}
-use Prim.Native.Nat.{ℕ, ◌≤◌}
+use Prim.Native.Nat.{◌≤◌}
 use Rattle.replica.specs.State.{current_round}
 use Rattle.proposing.proofs.Kept.{MemberKnown}
 use Rattle.proposing.proofs.Asking.{member_known, opened, sign_stopped, sign_not, sign_later, sign_again, sign_new}

@@ -1,8 +1,6 @@
 -- The laws of offering an id, of `Laws`.
 use mathlib.Core.Path.{sym, ◌∙◌}
-use Rattle.record.proofs.Booleans.{passed, failed}
 use Rattle.proposing.proofs.Laws.{offer_out, offer_reached, offer_full, offer_new}
-use borrow.Author.Rules.{rules}
 use Rattle.proposing.proofs.weak.offer_id.Goals as goal
 
 pub returns : goal.returns

@@ -1,10 +1,7 @@
 use mathlib.Core.Path.{◌≡◌}
-use Prim.Native.Nat.{◌-◌, ◌≤◌}
 use native.Mathlib.Omega.{arith}
 use Rattle.record.specs.Members.{slots}
-use Rattle.proposing.specs.Inner.{offer_round}
 use Rattle.proposing.proofs.Laws.{round_none, round_more, round_all}
-use borrow.Author.Rules.{rules}
 use Rattle.proposing.proofs.weak.offer_round.Goals as goal
 
 pub loop-p-preserved : goal.loop-p-preserved

@@ -1,11 +1,8 @@
 -- The loop's invariant: the ids of the members below p have been offered. The measure is how many slots are left.
 use mathlib.Core.Path.{◌≡◌}
 use Prim.Native.Nat.{◌-◌, ◌≤◌}
-use native.Mathlib.Omega.{arith}
 use Rattle.record.specs.Members.{slots}
 use Rattle.proposing.specs.Inner.{offer_round}
-use Rattle.proposing.proofs.Laws.{round_none, round_more, round_all}
-use borrow.Author.Rules.{rules}
 use Rattle.proposing.proofs.weak.offer_round.Given as goal
 
 abbrev pub invariant-loop-p : goal.invariant-loop-p

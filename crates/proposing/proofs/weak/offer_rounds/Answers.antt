@@ -1,9 +1,7 @@
 use mathlib.Core.Path.{◌≡◌}
-use Prim.Native.Nat.{◌+◌, ◌-◌, ◌≤◌}
+use Prim.Native.Nat.{◌-◌}
 use native.Mathlib.Omega.{arith}
-use Rattle.proposing.specs.Inner.{offer_rounds}
 use Rattle.proposing.proofs.Laws.{rounds_none, rounds_more}
-use borrow.Author.Rules.{rules}
 use Rattle.proposing.proofs.weak.offer_rounds.Goals as goal
 
 pub loop-t-preserved : goal.loop-t-preserved

@@ -1,10 +1,7 @@
 -- The loop's invariant: the rounds up to t have been offered. The measure is how many are left.
 use mathlib.Core.Path.{◌≡◌}
 use Prim.Native.Nat.{◌+◌, ◌-◌, ◌≤◌}
-use native.Mathlib.Omega.{arith}
 use Rattle.proposing.specs.Inner.{offer_rounds}
-use Rattle.proposing.proofs.Laws.{rounds_none, rounds_more}
-use borrow.Author.Rules.{rules}
 use Rattle.proposing.proofs.weak.offer_rounds.Given as goal
 
 abbrev pub invariant-loop-t : goal.invariant-loop-t

@@ -1,5 +1,4 @@
 use Rattle.record.proofs.Masks.{has_test}
-use borrow.Author.Rules.{rules}
 use Rattle.record.proofs.members.has_bit.Goals as goal
 
 pub returns : goal.returns

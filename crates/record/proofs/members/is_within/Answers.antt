@@ -2,7 +2,6 @@ use Rattle.record.proofs.Masks.{within_largest}
 use mathlib.Core.Path.{ap, ◌∙◌}
 use lib.Dec.{leb}
 use native.Mathlib.Omega.{arith}
-use borrow.Author.Rules.{rules}
 use Rattle.record.proofs.members.is_within.Goals as goal
 
 pub returns : goal.returns

@@ -1,4 +1,3 @@
-use borrow.Author.Rules.{rules}
 use Rattle.record.proofs.Masks.{leader_main}
 use Rattle.record.proofs.members.leader_of.Goals as goal
 

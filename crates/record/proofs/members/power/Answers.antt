@@ -1,5 +1,4 @@
 use Rattle.record.proofs.Masks.{shl_one}
-use borrow.Author.Rules.{rules}
 use Rattle.record.proofs.members.power.Goals as goal
 
 pub returns : goal.returns

@@ -1,4 +1,3 @@
-use borrow.Author.Rules.{rules}
 use Rattle.record.proofs.members.with_bit.Goals as goal
 
 pub returns : goal.returns

@@ -5,7 +5,6 @@ use borrow.Author.Tests.{ne_eqb}
 use lib.ListN.{length-drop, drop}
 use lib.Seq.{take_all}
 use native.Mathlib.Omega.{arith}
-use borrow.Author.Rules.{rules}
 use Rattle.record.specs.Layout.{body_size, body_place}
 use Rattle.record.proofs.questions.check.Goals as goal
 

@@ -5,11 +5,9 @@ use Rattle.record.specs.Layout.{strong_of, timeouts_of, no_votes_of}
 use Rattle.record.specs.Refusals.{first_no}
 use Rattle.record.specs.declared.questions.Terms.{Terms}
 use Rattle.record.specs.declared.refusal.Refusal.{Refusal}
-use Rattle.record.proofs.Booleans.{passed, failed}
 use Rattle.record.proofs.Parts.{strong_asked}
 use Rattle.record.proofs.Turn.{next, stop, done, known}
 use mathlib.Core.Path.{◌∙◌, sym, ◌≡◌, ap}
-use mathlib.Core.List.{List}
 use Prim.Native.Nat.{ℕ}
 use lib.ListN.{drop}
 use borrow.Author.Rules.{rules}

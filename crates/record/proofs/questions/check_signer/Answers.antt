@@ -1,10 +1,8 @@
 use mathlib.Core.Path.{◌∙◌, sym}
 use Rattle.record.specs.Questions.{signer_questions}
-use Rattle.record.proofs.Booleans.{passed, failed}
 use Rattle.record.proofs.Turn.{next, stop, done}
 use native.Mathlib.Omega.{arith}
 use borrow.Author.Tests.{le-ltb, lt-ltb}
-use borrow.Author.Rules.{rules}
 use Rattle.record.proofs.questions.check_signer.Goals as goal
 
 pub returns-then-not-is_round : goal.returns-then-not-is_round

@@ -1,5 +1,4 @@
 -- The masks and then the weak ids decide: `masks_no` and `weak_decides` of `Parts`.
-use borrow.Author.Rules.{rules}
 use Rattle.record.proofs.Parts.{masks_no, weak_decides}
 use Rattle.record.proofs.questions.is_admitted.Goals as goal
 

@@ -2,16 +2,14 @@
 use Rattle.record.specs.Questions.{lacks_leader}
 use Rattle.record.specs.Handed.{handed_strong}
 use Rattle.record.specs.Layout.{strong_of, timeouts_of, no_votes_of}
-use Rattle.record.specs.Members.{leader, within}
+use Rattle.record.specs.Members.{within}
 use Rattle.record.specs.Inner.{masks_admitted}
 use Rattle.record.specs.declared.questions.Terms.{Terms}
-use Rattle.record.proofs.Booleans.{passed, failed}
 use Rattle.record.proofs.Parts.{lacks_largest, masks_strong, masks_lacking, masks_full}
 use mathlib.Core.Path.{◌≡◌, sym, ap, ◌∙◌}
 use mathlib.Core.Bool.{true, ◌&&◌}
 use lib.Bits.{bit_or}
 use lib.Dec.{eqb}
-use borrow.Author.Rules.{rules}
 use Rattle.record.proofs.questions.masks_admitted.Goals as goal
 use Rattle.record.proofs.questions.masks_admitted.Goals.{Else-lacks_leader, Else-not-strong_ok, Then-lacks_leader}
 

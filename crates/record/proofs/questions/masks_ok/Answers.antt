@@ -1,6 +1,5 @@
 -- `within_three`: joined masks are within the group exactly if each is.
 use mathlib.Core.Path.{◌∙◌}
-use borrow.Author.Rules.{rules}
 use Rattle.record.proofs.Masks.{within_three}
 use Rattle.record.proofs.questions.masks_ok.Goals as goal
 

@@ -1,7 +1,6 @@
 use Rattle.record.proofs.Turn.{wanted_leading, wanted_not}
 use mathlib.Core.Path.{◌∙◌}
 use borrow.Author.Tests.{eq-eqb, ne_eqb}
-use borrow.Author.Rules.{rules}
 use Rattle.record.proofs.questions.no_votes_ok.Goals as goal
 
 pub returns-then-leads : goal.returns-then-leads

@@ -1,5 +1,4 @@
 use Rattle.record.specs.Handed.{handed_if}
-use borrow.Author.Rules.{rules}
 use Rattle.record.proofs.questions.quorum_if.Goals as goal
 
 pub returns-then-wanted : goal.returns-then-wanted

@@ -1,7 +1,6 @@
 -- `none_used` of `Weak`.
 use Rattle.record.specs.Layout.{weak_of}
 use Rattle.record.proofs.Weak.{none_used}
-use borrow.Author.Rules.{rules}
 use Rattle.record.proofs.questions.slots_blank.Goals as goal
 
 pub returns : goal.returns

@@ -1,10 +1,5 @@
-use borrow.Author.Rules.{rules}
 use mathlib.Core.Path.{◌≡◌, sym}
-use mathlib.Core.Bool.{◌||◌}
-use Prim.Native.Nat.{◌-◌, ◌≤◌}
 use native.Mathlib.Omega.{arith}
-use lib.Dec.{eqb, ltb}
-use Rattle.record.specs.Below.{all}
 use Rattle.record.specs.Layout.{weak_slots, weak_of}
 use Rattle.record.proofs.Below.{all_none}
 use Rattle.record.proofs.Weak.{joined_more, joined_same}

@@ -1,15 +1,10 @@
 -- Invariant: the joined words of the slots below i that are not used are 0 exactly if each of them is.
-use borrow.Author.Rules.{rules}
-use mathlib.Core.Path.{◌≡◌, sym}
+use mathlib.Core.Path.{◌≡◌}
 use mathlib.Core.Bool.{◌||◌}
-use mathlib.Core.Logic.{⊎_elim}
 use Prim.Native.Nat.{◌-◌, ◌≤◌}
-use native.Mathlib.Omega.{arith}
 use lib.Dec.{eqb, ltb}
 use Rattle.record.specs.Below.{all}
 use Rattle.record.specs.Layout.{weak_slots, weak_of}
-use Rattle.record.proofs.Below.{all_none}
-use Rattle.record.proofs.Weak.{joined_more, joined_same}
 use Rattle.record.proofs.questions.slots_zero.Given as goal
 
 abbrev pub invariant-loop-i : goal.invariant-loop-i

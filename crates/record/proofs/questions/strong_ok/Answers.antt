@@ -3,7 +3,6 @@ use Rattle.record.specs.declared.questions.Terms.{Terms}
 use Rattle.record.proofs.Parts.{strong_above, strong_first, strong_later}
 use mathlib.Core.Path.{ap, ◌∙◌}
 use native.Mathlib.Omega.{arith}
-use borrow.Author.Rules.{rules}
 use Rattle.record.proofs.questions.strong_ok.Goals as goal
 
 pub returns-then-terms-strong : goal.returns-then-terms-strong

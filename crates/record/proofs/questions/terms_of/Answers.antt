@@ -1,6 +1,5 @@
 use Rattle.record.proofs.Masks.{leader_none}
 use borrow.Author.Tests.{eq-eqb, ne_eqb}
-use borrow.Author.Rules.{rules}
 use Rattle.record.proofs.questions.terms_of.Goals as goal
 
 pub returns-then-round-eq1 : goal.returns-then-round-eq1

@@ -1,5 +1,4 @@
 use borrow.Author.Tests.{le-leb, lt-leb}
-use borrow.Author.Rules.{rules}
 use Rattle.record.specs.Layout.{weak_count_of}
 use Rattle.record.specs.Inner.{used_slots}
 use Rattle.record.proofs.questions.used_slots.Goals as goal

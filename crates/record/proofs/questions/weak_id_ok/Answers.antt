@@ -2,7 +2,6 @@ use mathlib.Core.Path.{sym}
 use native.Mathlib.Omega.{arith}
 use lib.Dec.{ltb}
 use borrow.Author.Tests.{le-leb, le-ltb, lt-ltb}
-use borrow.Author.Rules.{rules}
 use Rattle.record.specs.Members.{id_round}
 use Rattle.record.specs.Questions.{weak_id_ok}
 use Rattle.record.proofs.Booleans.{and_fails_left, and_fails_right}

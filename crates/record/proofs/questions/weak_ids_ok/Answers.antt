@@ -1,7 +1,6 @@
-use Prim.Native.Nat.{◌-◌}
 use borrow.Author.Rules.{rules}
 use Rattle.record.specs.Layout.{weak_of}
-use Rattle.record.proofs.Weak.{Risen, risen_start, risen_stop, risen_more, risen_end}
+use Rattle.record.proofs.Weak.{risen_start, risen_stop, risen_more, risen_end}
 use Rattle.record.proofs.questions.weak_ids_ok.Goals as goal
 
 pub loop-i-init : goal.loop-i-init

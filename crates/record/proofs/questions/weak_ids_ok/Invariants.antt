@@ -1,8 +1,6 @@
 -- Invariant: the first i weak ids pass, and the last one is that of the slot before, 15 at first (`Risen` of `Weak`).
 use Prim.Native.Nat.{◌-◌}
-use borrow.Author.Rules.{rules}
-use Rattle.record.specs.Layout.{weak_of}
-use Rattle.record.proofs.Weak.{Risen, risen_start, risen_stop, risen_more, risen_end}
+use Rattle.record.proofs.Weak.{Risen}
 use Rattle.record.proofs.questions.weak_ids_ok.Given as goal
 
 abbrev pub invariant-loop-i : goal.invariant-loop-i

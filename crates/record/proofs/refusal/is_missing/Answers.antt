@@ -1,5 +1,4 @@
 -- `is_missing` meets its contract. Assumes nothing.
-use borrow.Author.Rules.{rules}
 use Rattle.record.proofs.refusal.is_missing.Goals as goal
 
 pub returns : goal.returns

@@ -1,6 +1,5 @@
 -- The id of each variant is the definition's.
 use mathlib.Core.Path.{sym, ap}
-use borrow.Author.Rules.{rules}
 use Rattle.record.specs.Refusals.{id_in}
 use Rattle.record.proofs.refusal.missing_id.Goals as goal
 

@@ -1,6 +1,5 @@
 -- The number of each variant is the definition's.
 use mathlib.Core.Path.{sym, ap}
-use borrow.Author.Rules.{rules}
 use Rattle.record.specs.Refusals.{number_of}
 use Rattle.record.proofs.refusal.number.Goals as goal
 

@@ -1,7 +1,6 @@
 use mathlib.Core.Path.{refl}
 use mathlib.Core.Logic.{inr}
 use native.Mathlib.Omega.{arith}
-use borrow.Author.Rules.{rules}
 use Rattle.replica.proofs.lists.hand_journal.Goals as goal
 
 pub hand_list-requires : goal.hand_list-requires

@@ -1,6 +1,5 @@
 -- The word that is written is the mask with the member added.
 use Rattle.replica.proofs.Words.{member_added}
-use borrow.Author.Rules.{rules}
 use Rattle.replica.proofs.masks.add_member.Goals as goal
 
 pub returns : goal.returns

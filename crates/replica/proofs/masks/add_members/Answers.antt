@@ -1,7 +1,6 @@
 -- The word that is written is the mask with the members added.
 use mathlib.Core.Path.{refl}
 use Rattle.replica.specs.State.{add_members}
-use borrow.Author.Rules.{rules}
 use Rattle.replica.proofs.masks.add_members.Goals as goal
 
 pub returns : goal.returns

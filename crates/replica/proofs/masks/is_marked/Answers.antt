@@ -3,7 +3,6 @@ use mathlib.Core.Path.{◌∙◌, sym}
 use Prim.Native.Nat.{◌≤◌}
 use borrow.Author.Rules.{rules}
 use Rattle.record.specs.Members.{id_round, rounds}
-use Rattle.record.proofs.Booleans.{passed, failed}
 use Rattle.record.proofs.Rounds.{round_range}
 use Rattle.replica.proofs.masks.is_marked.Goals as goal
 use Rattle.replica.proofs.masks.is_marked.Goals.{Else-not-is_id}

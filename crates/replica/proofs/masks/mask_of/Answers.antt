@@ -1,5 +1,4 @@
 -- The word at the place that `masks_at` ensures.
-use borrow.Author.Rules.{rules}
 use Rattle.replica.proofs.masks.mask_of.Goals as goal
 
 pub returns : goal.returns

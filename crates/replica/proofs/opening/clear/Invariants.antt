@@ -1,12 +1,8 @@
 -- Invariant: the first i words are 0, and the others as at entry.
-use mathlib.Core.List.{List, append-nil, ◌++◌}
-use mathlib.Core.Path.{◌≡◌, ap, ◌∙◌}
-use Prim.Native.Nat.{ℕ, ◌≤◌, ◌-◌}
-use native.Mathlib.Omega.{arith}
-use lib.ListN.{set, length, drop, replicate}
-use lib.Seq.{drop-length}
-use borrow.Author.Fill.{fill_none, fill_more}
-use borrow.Author.Rules.{rules}
+use mathlib.Core.List.{◌++◌}
+use mathlib.Core.Path.{◌≡◌}
+use Prim.Native.Nat.{◌≤◌, ◌-◌}
+use lib.ListN.{length, drop, replicate}
 use Rattle.replica.proofs.opening.clear.Given as goal
 
 abbrev pub invariant-loop-i : goal.invariant-loop-i

@@ -1,5 +1,4 @@
 -- The questions in turn, and the words of an opened state: `open_size`, `open_group`, `open_own` and `open_all` of `OpeningLaws`.
-use borrow.Author.Rules.{rules}
 use Rattle.replica.proofs.OpeningLaws.{open_size, open_group, open_own, own_fits, open_all}
 use Rattle.replica.proofs.opening.open.Goals as goal
 

@@ -1,4 +1,3 @@
-use borrow.Author.Rules.{rules}
 use Rattle.replica.proofs.parents.strong_held.Goals as goal
 
 pub returns : goal.returns

@@ -1,9 +1,7 @@
-use mathlib.Core.Path.{ap, ◌≡◌}
-use mathlib.Core.Bool.{not, true}
-use Prim.Native.Nat.{◌≤◌, ◌-◌}
+use mathlib.Core.Path.{ap}
+use mathlib.Core.Bool.{not}
 use native.Mathlib.Omega.{arith}
 use borrow.Author.Rules.{rules}
-use Rattle.record.specs.Below.{all}
 use Rattle.record.specs.Layout.{weak_count_of, weak_of}
 use Rattle.record.proofs.Below.{all_none}
 use Rattle.replica.specs.State.{held_id}

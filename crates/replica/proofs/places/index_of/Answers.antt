@@ -1,14 +1,11 @@
-use Rattle.replica.proofs.Seats.{is_leader, index_no_id, index_at, index_more, index_none}
+use Rattle.replica.proofs.Seats.{index_no_id, index_at, index_more, index_none}
 use Rattle.replica.proofs.Width.{width_most}
 use Rattle.replica.specs.State.{width}
-use Rattle.record.specs.Below.{any}
 use Rattle.record.proofs.Below.{any_false}
-use mathlib.Core.Bool.{not, true, false}
+use mathlib.Core.Bool.{not, true}
 use Rattle.record.specs.Members.{id_round, is_round}
-use Rattle.record.proofs.Booleans.{passed}
 use Rattle.record.proofs.Rounds.{round_range}
 use mathlib.Core.Path.{ap, ◌≡◌, sym, ◌∙◌}
-use Prim.Native.Nat.{◌≤◌, ◌-◌}
 use native.Mathlib.Omega.{arith}
 use borrow.Author.Rules.{rules}
 use Rattle.replica.proofs.places.index_of.Goals as goal
@@ -34,11 +31,10 @@ returns-then-leader_at-x c =
     c.leader_at.ensures c.if-leader_at-x.true
 
 pub loop-i-preserved : goal.loop-i-preserved
-loop-i-preserved c =
-    (
-      omega (arith, c.width_of-width.ensures, c.loop-i-test.true),
-      index_more c.args.state.now _ _ _ _ c.requires.1 c.loop-i.invariant.1 c.leader_at.ensures c.if-leader_at-x.false,
-    )
+loop-i-preserved c = (
+  omega (arith, c.width_of-width.ensures, c.loop-i-test.true),
+  index_more c.args.state.now _ _ _ _ c.requires.1 c.loop-i.invariant.1 c.leader_at.ensures c.if-leader_at-x.false,
+)
 
 pub returns : goal.returns
 returns c =

@@ -1,8 +1,6 @@
 -- The questions in turn: `next`, `stop` and `done` of `Turn`.
 use mathlib.Core.Path.{◌∙◌, sym}
 use borrow.Author.Tests.{eq-eqb, ne_eqb}
-use borrow.Author.Rules.{rules}
-use Rattle.record.proofs.Booleans.{passed, failed}
 use Rattle.record.proofs.Turn.{next, stop, done}
 use Rattle.replica.proofs.status.check_state.Goals as goal
 

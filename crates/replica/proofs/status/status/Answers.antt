@@ -1,7 +1,5 @@
 -- The contract of `check_state`; the number 0 says that the state has all its words.
 use mathlib.Core.Path.{◌≡◌}
-use mathlib.Core.List.{List}
-use Prim.Native.Nat.{ℕ}
 use lib.ListN.{length}
 use borrow.Author.Rules.{rules}
 use Rattle.replica.proofs.StatusLaws.{state_ok, head_refused, head_done}

@@ -1,12 +1,9 @@
 use mathlib.Core.Path.{◌≡◌, sym}
-use mathlib.Core.Bool.{true}
-use Prim.Native.Nat.{◌≤◌, ◌-◌, ◌+◌}
+use Prim.Native.Nat.{◌+◌}
 use native.Mathlib.Omega.{arith}
 use lib.Dec.{eqb}
 use lib.ListN.{get_or}
 use borrow.Author.Tests.{eq-eqb, ne_eqb}
-use borrow.Author.Rules.{rules}
-use Rattle.record.specs.Below.{all}
 use Rattle.record.proofs.Below.{all_none, all_more, all_stop}
 use Rattle.record.specs.Members.{rounds}
 use Rattle.replica.specs.State.{ordered_mask}
@@ -21,12 +18,11 @@ returns-then-marks-wide c =
     (ne_eqb _ _ (rw (c.mask_of.ensures, c.wide.ensures) at c.if-marks-wide.true)))
 
 pub loop-i-preserved : goal.loop-i-preserved
-loop-i-preserved c =
-    (
-      omega arith,
-      all_more _ _ c.loop-i.invariant.1
-          (eq-eqb _ _ (rw (c.mask_of.ensures, c.wide.ensures) at c.if-marks-wide.false)),
-    )
+loop-i-preserved c = (
+  omega arith,
+  all_more _ _ c.loop-i.invariant.1
+      (eq-eqb _ _ (rw (c.mask_of.ensures, c.wide.ensures) at c.if-marks-wide.false)),
+)
 
 pub returns : goal.returns
 returns c =

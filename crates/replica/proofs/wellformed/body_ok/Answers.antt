@@ -1,7 +1,4 @@
 -- The tests in turn; the lemmas are of `Clauses`.
-use mathlib.Core.List.{List}
-use Prim.Native.Nat.{ℕ}
-use borrow.Author.Rules.{rules}
 use Rattle.record.proofs.Booleans.{passed}
 use Rattle.replica.proofs.Clauses.{within_no, votes_no, first_no_lem, cells_no, ordered_decides}
 use Rattle.replica.proofs.wellformed.body_ok.Goals as goal

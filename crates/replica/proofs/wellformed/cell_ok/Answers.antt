@@ -1,5 +1,4 @@
 -- A cell that nobody holds is blank; the record of a held one decides: the lemmas are of `Cells`.
-use borrow.Author.Rules.{rules}
 use Rattle.replica.proofs.Cells.{cell_blank, cell_known, cell_decides}
 use Rattle.replica.proofs.wellformed.cell_ok.Goals as goal
 

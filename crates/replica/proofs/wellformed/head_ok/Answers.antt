@@ -1,7 +1,4 @@
 -- The tests in turn; the lemmas are of `Clauses`.
-use mathlib.Core.List.{List}
-use Prim.Native.Nat.{ℕ}
-use borrow.Author.Rules.{rules}
 use Rattle.replica.proofs.Clauses.{group_no, round_low, round_high, committed_high, own_decides}
 use Rattle.replica.proofs.wellformed.head_ok.Goals as goal
 

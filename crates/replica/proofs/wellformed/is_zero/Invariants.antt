@@ -1,12 +1,9 @@
 -- Invariant: the joined words are 0 exactly if each of the first i is: `zero_more` of `Laws`.
 use mathlib.Core.Path.{◌≡◌}
 use Prim.Native.Nat.{◌≤◌, ◌-◌}
-use native.Mathlib.Omega.{arith}
 use lib.Dec.{eqb}
 use lib.ListN.{length, get_or}
-use borrow.Author.Rules.{rules}
 use Rattle.record.specs.Below.{all}
-use Rattle.replica.proofs.Laws.{zero_more}
 use Rattle.replica.proofs.wellformed.is_zero.Given as goal
 
 abbrev pub invariant-loop-i : goal.invariant-loop-i

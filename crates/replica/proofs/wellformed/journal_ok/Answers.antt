@@ -1,12 +1,11 @@
 use mathlib.Core.Path.{◌∙◌, sym, ap}
-use Prim.Native.Nat.{◌-◌, ◌≤◌}
+use Prim.Native.Nat.{◌≤◌}
 use borrow.Author.Rules.{rules}
 use Rattle.record.specs.Members.{id_round, rounds}
 use Rattle.record.specs.declared.members.Members.{Members}
-use Rattle.record.proofs.Booleans.{passed}
 use Rattle.record.proofs.Rounds.{round_range}
 use Rattle.replica.specs.State.{journal_word}
-use Rattle.replica.proofs.Marks.{Reading, reading_start, reading_strange, reading_twice, reading_more, reading_decides, journal_long}
+use Rattle.replica.proofs.Marks.{reading_start, reading_strange, reading_twice, reading_more, reading_decides, journal_long}
 use Rattle.replica.proofs.wellformed.journal_ok.Goals as goal
 use Rattle.replica.proofs.wellformed.journal_ok.Goals.{Else-not-is_id}
 

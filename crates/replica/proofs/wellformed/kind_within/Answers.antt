@@ -1,11 +1,9 @@
 use mathlib.Core.Path.{◌≡◌, sym}
-use mathlib.Core.Bool.{Bool, true}
+use mathlib.Core.Bool.{Bool}
 use mathlib.Core.List.{List}
-use Prim.Native.Nat.{ℕ, ◌≤◌, ◌-◌, ◌+◌}
+use Prim.Native.Nat.{ℕ, ◌+◌}
 use native.Mathlib.Omega.{arith}
 use borrow.Author.Tests.{eq-eqb, ne_eqb}
-use borrow.Author.Rules.{rules}
-use Rattle.record.specs.Below.{all}
 use Rattle.record.proofs.Below.{all_none, all_more, all_stop}
 use Rattle.record.specs.Members.{rounds}
 use Rattle.replica.specs.State.{mask_of}
@@ -25,12 +23,11 @@ returns-then-mask-mask_of c =
     (omega arith) (ne_eqb _ _ (rw (c.mask_of-mask.ensures, c.mask_of.ensures) at c.if-mask-mask_of.true)))
 
 pub loop-i-preserved : goal.loop-i-preserved
-loop-i-preserved c =
-    (
-      omega arith,
-      all_more _ _ c.loop-i.invariant.1
-          (eq-eqb _ _ (rw (c.mask_of-mask.ensures, c.mask_of.ensures) at c.if-mask-mask_of.false)),
-    )
+loop-i-preserved c = (
+  omega arith,
+  all_more _ _ c.loop-i.invariant.1
+      (eq-eqb _ _ (rw (c.mask_of-mask.ensures, c.mask_of.ensures) at c.if-mask-mask_of.false)),
+)
 
 pub returns : goal.returns
 returns c =

@@ -1,13 +1,8 @@
 -- Invariant: the first i rounds pass.
-use mathlib.Core.Path.{◌≡◌, sym}
-use mathlib.Core.Bool.{Bool, true}
-use mathlib.Core.List.{List}
-use Prim.Native.Nat.{ℕ, ◌≤◌, ◌-◌, ◌+◌}
-use native.Mathlib.Omega.{arith}
-use borrow.Author.Tests.{eq-eqb, ne_eqb}
-use borrow.Author.Rules.{rules}
+use mathlib.Core.Path.{◌≡◌}
+use mathlib.Core.Bool.{true}
+use Prim.Native.Nat.{◌≤◌, ◌-◌, ◌+◌}
 use Rattle.record.specs.Below.{all}
-use Rattle.record.proofs.Below.{all_none, all_more, all_stop}
 use Rattle.record.specs.Members.{rounds}
 use Rattle.replica.specs.State.{mask_of}
 use Rattle.replica.specs.WellFormed.{subset}

@@ -1,6 +1,5 @@
 -- The two cases of the last leader round.
 use borrow.Author.Tests.{eq-eqb, ne_eqb}
-use borrow.Author.Rules.{rules}
 use Rattle.replica.specs.WellFormed.{last_leader_round}
 use Rattle.replica.proofs.wellformed.last_ok.Goals as goal
 

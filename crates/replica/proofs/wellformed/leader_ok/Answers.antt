@@ -4,8 +4,6 @@ use mathlib.Core.Bool.{true}
 use Prim.Native.Nat.{ℕ, ◌<◌}
 use native.Mathlib.Omega.{arith}
 use lib.Dec.{eqb}
-use borrow.Author.Rules.{rules}
-use Rattle.record.proofs.Booleans.{passed, failed}
 use Rattle.replica.specs.State.{width, leader_index, leader_word, held_id}
 use Rattle.replica.proofs.Seats.{entry_no, entry_none, entry_first, entry_later}
 use Rattle.replica.proofs.wellformed.leader_ok.Goals as goal

@@ -1,15 +1,9 @@
 use mathlib.Core.Path.{◌∙◌, sym, ◌≡◌, refl}
-use mathlib.Core.Bool.{true}
-use Prim.Native.Nat.{◌≤◌, ◌-◌}
 use native.Mathlib.Omega.{arith}
 use borrow.Author.Tests.{le-leb, lt-leb}
-use borrow.Author.Rules.{rules}
-use Rattle.record.specs.Below.{all}
-use Rattle.record.proofs.Booleans.{passed, failed}
 use Rattle.record.proofs.Below.{all_none, all_more, all_stop}
 use Rattle.record.proofs.Masks.{legal_range}
-use Rattle.replica.specs.Layout.{leaders_size}
-use Rattle.replica.specs.State.{member_count, leader_count}
+use Rattle.replica.specs.State.{leader_count}
 use Rattle.replica.specs.WellFormed.{leader_ok, leaders_ok}
 use Rattle.replica.proofs.wellformed.leaders_ok.Goals as goal
 
@@ -36,14 +30,13 @@ returns-then-not-leader_ok c =
     )
 
 pub loop-i-preserved : goal.loop-i-preserved
-loop-i-preserved c =
-    (
-      omega arith,
-      c.loop-i.invariant.1,
-      c.loop-i.invariant.2,
-      c.loop-i.invariant.3,
-      all_more _ _ c.loop-i.invariant.4 (sym c.leader_ok.ensures ∙ c.if-not-leader_ok.false),
-    )
+loop-i-preserved c = (
+  omega arith,
+  c.loop-i.invariant.1,
+  c.loop-i.invariant.2,
+  c.loop-i.invariant.3,
+  all_more _ _ c.loop-i.invariant.4 (sym c.leader_ok.ensures ∙ c.if-not-leader_ok.false),
+)
 
 pub last_ok-requires : goal.last_ok-requires
 last_ok-requires c =

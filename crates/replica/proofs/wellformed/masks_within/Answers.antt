@@ -1,10 +1,6 @@
 use mathlib.Core.Path.{◌∙◌, ◌≡◌, sym}
-use mathlib.Core.Bool.{true}
-use Prim.Native.Nat.{◌≤◌, ◌-◌, ◌+◌}
+use Prim.Native.Nat.{◌+◌}
 use native.Mathlib.Omega.{arith}
-use borrow.Author.Rules.{rules}
-use Rattle.record.specs.Below.{all}
-use Rattle.record.proofs.Booleans.{passed, failed}
 use Rattle.record.proofs.Below.{all_none, all_more, all_stop}
 use Rattle.record.specs.Members.{rounds}
 use Rattle.replica.specs.WellFormed.{masks_within}

@@ -1,16 +1,9 @@
 use borrow.Author.Rules.{rules}
-use mathlib.Core.Path.{◌≡◌}
-use mathlib.Core.Bool.{true}
-use Prim.Native.Nat.{◌≤◌, ◌<◌, ◌-◌}
+use Prim.Native.Nat.{◌≤◌, ◌<◌}
 use native.Mathlib.Omega.{arith}
-use Rattle.record.specs.Below.{all}
-use Rattle.record.specs.Inner.{terms_of}
 use Rattle.record.proofs.Below.{all_none}
 use Rattle.record.proofs.Masks.{legal_range}
 use Rattle.record.specs.Members.{slots}
-use Rattle.replica.specs.Layout.{cell_at}
-use Rattle.replica.specs.State.{member_count}
-use Rattle.replica.specs.WellFormed.{cell_ok}
 use Rattle.replica.proofs.Laws.{all_no, all_yes, all_end}
 use Rattle.replica.proofs.wellformed.members_ok.Goals as goal
 use Rattle.replica.proofs.wellformed.members_ok.Goals.{Start}

@@ -1,7 +1,4 @@
 -- The tests in turn; the lemmas are of `Clauses`.
-use mathlib.Core.List.{List}
-use Prim.Native.Nat.{ℕ}
-use borrow.Author.Rules.{rules}
 use Rattle.replica.proofs.Clauses.{own_high, own_member_lem, own_watcher}
 use Rattle.replica.proofs.wellformed.own_ok.Goals as goal
 

@@ -1,5 +1,4 @@
 -- `record_no`, `record_in` and `parents_decide` of `ParentLaws`.
-use borrow.Author.Rules.{rules}
 use Rattle.replica.proofs.ParentLaws.{record_no, record_in, parents_decide}
 use Rattle.replica.proofs.wellformed.record_ok.Goals as goal
 

@@ -1,6 +1,5 @@
 -- A group of each size in turn; `RestCells` of `Cells`.
 use native.Mathlib.Omega.{arith}
-use borrow.Author.Rules.{rules}
 use Rattle.replica.proofs.Cells.{RestCells, rest_cells}
 use Rattle.replica.proofs.wellformed.rest_cells_zero.Goals as goal
 use Rattle.replica.proofs.wellformed.rest_cells_zero.Goals.{Start}

@@ -1,5 +1,4 @@
 -- The part of each list from its count on is zero: `rest_no` and `rest_journal` of `Clauses`.
-use borrow.Author.Rules.{rules}
 use Rattle.replica.proofs.Clauses.{rest_no, rest_journal}
 use Rattle.replica.proofs.wellformed.rest_zero.Goals as goal
 

@@ -1,5 +1,4 @@
 -- The cells of a round that holds nothing, or those of the members and then the others, decide: the lemmas are of `Cells`.
-use borrow.Author.Rules.{rules}
 use Rattle.replica.proofs.Cells.{round_blank, members_no, others_decide}
 use Rattle.replica.proofs.wellformed.round_cells_ok.Goals as goal
 

@@ -1,6 +1,5 @@
 -- `join_within` of `Laws`: joined masks are within the group exactly if each is.
 use mathlib.Core.Path.{◌∙◌}
-use borrow.Author.Rules.{rules}
 use Rattle.replica.specs.WellFormed.{masks_within}
 use Rattle.replica.proofs.Laws.{join_within}
 use Rattle.replica.proofs.wellformed.round_within.Goals as goal

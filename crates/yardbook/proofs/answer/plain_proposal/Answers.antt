@@ -1,4 +1,3 @@
-use borrow.Author.Rules.{rules}
 use Rattle.yardbook.proofs.answer.plain_proposal.Goals as goal
 
 pub returns : goal.returns

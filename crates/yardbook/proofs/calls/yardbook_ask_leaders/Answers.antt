@@ -1,5 +1,4 @@
 use Rattle.yardbook.proofs.Laws.{answered}
-use borrow.Author.Rules.{rules}
 use Rattle.yardbook.proofs.calls.yardbook_ask_leaders.Goals as goal
 
 pub returns : goal.returns

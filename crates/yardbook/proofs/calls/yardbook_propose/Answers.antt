@@ -1,5 +1,4 @@
 use Rattle.yardbook.proofs.Laws.{answered_proposal}
-use borrow.Author.Rules.{rules}
 use Rattle.yardbook.proofs.calls.yardbook_propose.Goals as goal
 
 pub returns : goal.returns

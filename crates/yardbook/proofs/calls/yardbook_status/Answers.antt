@@ -1,6 +1,5 @@
 use mathlib.Core.Path.{◌∙◌, ap}
 use Rattle.yardbook.specs.Plain.{status_plain}
-use borrow.Author.Rules.{rules}
 use Rattle.yardbook.proofs.calls.yardbook_status.Goals as goal
 
 pub returns : goal.returns

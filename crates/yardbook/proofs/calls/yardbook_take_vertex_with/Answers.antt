@@ -1,6 +1,5 @@
 -- `yardbook_take_vertex_with` meets its contract. Assumes nothing.
 use Rattle.yardbook.proofs.Laws.{answered_with}
-use borrow.Author.Rules.{rules}
 use Rattle.yardbook.proofs.calls.yardbook_take_vertex_with.Goals as goal
 
 pub returns : goal.returns

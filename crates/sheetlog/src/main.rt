@@ -8,7 +8,7 @@ ghost use Rattle.std.specs.Prelude.{◌≤◌, ◌<◌, length, take, IfOk, OnOk
 ghost use Rattle.std.specs.Io.KnownBytes.{Appends};
 ghost use Rattle.sheetlog.specs.Output.{output};
 ghost use Rattle.sheetlog.specs.Blocks.{Room};
-ghost use Rattle.sheetlog.specs.Streams.{Answered};
+ghost use Rattle.sheetlog.specs.Streams.{IsShort, Answered};
 
 use buffers::{BLOCK, KEPT, OUTPUT, answer_block, answer_end};
 use replica::layout::STATE_SIZE;
@@ -25,7 +25,7 @@ fn flush<W: Write>(writer: &mut W, out: &[u8], filled: usize) -> io::Result<()>
 
 // Reads and answers to the end of the input, and gives the length of what follows the last line feed. Each block is answered before
 // the next is read. A read or a write that fails ends it with that error.
-// Nothing says that an input ends, so the loop counts its blocks, up to a number that no run reaches.
+// Nothing says that an input ends, so the loop counts its blocks, up to a number that no run reaches, and takes the input as ended there.
 fn answer_all<R: Read, W: Write>(
     reader: &mut R,
     writer: &mut W,
@@ -36,11 +36,11 @@ fn answer_all<R: Read, W: Write>(
 ) -> io::Result<usize>
     requires { Room (length input.old) line.old (record { kept = 0; filled = 0 }) out.old }
     ensures kept { IfOk result (λ kept. kept ≤ length line.new) }
-    ensures answered { 0 < length input.old → IfOk result (λ kept. IfSome (R.remaining reader.old)
-        (λ bytes. Answered bytes state.old (W.contents writer.old) (W.contents writer.new) line.new kept state.new)) }
+    ensures answered { 0 < length input.old → IfOk result (λ kept. IfSome (R.remaining reader.old) (λ bytes. IsShort bytes
+        → Answered bytes state.old (W.contents writer.old) (W.contents writer.new) line.new kept state.new)) }
 {
     let mut kept: usize = 0;
-    for _ in 0..u64::MAX {
+    for turn in 0..u64::MAX {
         let n = reader.read(input)?;
         if n == 0 {
             return Ok(kept);
@@ -49,13 +49,13 @@ fn answer_all<R: Read, W: Write>(
         flush(writer, out, fill.filled)?;
         kept = fill.kept;
     }
-    Err(io::Error::other("an input without an end"))
+    Ok(kept)
 }
 
 // Answers what the reader has left, and writes the whole output to the writer.
 fn run<R: Read, W: Write>(reader: &mut R, writer: &mut W) -> io::Result<()>
     ensures { OnOk result (IfSome (R.remaining reader.old)
-        (λ bytes. Appends (W.contents writer.old) (W.contents writer.new) (output bytes))) }
+        (λ bytes. IsShort bytes → Appends (W.contents writer.old) (W.contents writer.new) (output bytes))) }
 {
     let mut state = [0u32; STATE_SIZE];
     let mut line = [0u8; KEPT];

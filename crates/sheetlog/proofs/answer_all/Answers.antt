@@ -1,20 +1,20 @@
-use Rattle.std.proofs.Common.{refl, rules, arith, [], ◌++◌, take, ◌<◌, length}
+use Rattle.std.proofs.Common.{refl, rules, arith, [], ◌++◌, take, ◌<◌, length, length-append}
 use Rattle.std.proofs.KnownBytes.{Consumes-nil, Consumes-trans}
-use Rattle.sheetlog.proofs.Streams.{answered_none, answered_more, answered_all}
+use Rattle.sheetlog.proofs.Streams.{answered_none, answered_more, answered_all, answered_few}
 use Rattle.sheetlog.proofs.answer_all.Goals as goal
 
-pub loop-init : goal.loop-init
-loop-init g c = record {
+pub loop-turn-init : goal.loop-turn-init
+loop-turn-init g c = record {
   kept = omega arith;
   input_size = refl;
   line_size = refl;
   out_size = refl;
-  answered = ([], Consumes-nil _, answered_none _ _ _);
+  answered = ([], Consumes-nil _, answered_none _ _ _, omega arith);
 }
 
-pub loop-preserved : goal.loop-preserved
-loop-preserved g c =
-    let so_far = c.loop.invariant.answered in
+pub loop-turn-preserved : goal.loop-turn-preserved
+loop-turn-preserved g c =
+    let so_far = c.loop-turn.invariant.answered in
     let more = take c.in_ok-n.n c.read.new.buf in
     record {
       kept = c.answer_block-fill.ensures.kept;
@@ -23,16 +23,22 @@ loop-preserved g c =
       out_size = search rules;
       answered = (
         so_far.0 ++ more,
-        Consumes-trans (g.R.Read.remaining c.args.reader.now) (g.R.Read.remaining c.loop.reader) (g.R.Read.remaining c.read.new.self) so_far.0 more
+        Consumes-trans (g.R.Read.remaining c.args.reader.now) (g.R.Read.remaining c.loop-turn.reader) (g.R.Read.remaining c.read.new.self) so_far.0 more
             so_far.1 c.in_ok-n.ensures.bytes.0,
         answered_more so_far.0 more c.args.state.now so_far.2 c.answer_block-fill.ensures c.in_ok-flush.ensures,
+        omega (arith, so_far.3, length-append so_far.0 more, c.in_ok-n.ensures.bound.1),
       );
     }
 
 pub returns-then-n-eq0-clause-answered : goal.returns-then-n-eq0-clause-answered
 returns-then-n-eq0-clause-answered g c = λ few.
-    let so_far = c.loop.invariant.answered in
+    let so_far = c.loop-turn.invariant.answered in
     let room : 0 < length c.read.new.buf = omega arith in
-    answered_all (g.R.Read.remaining c.args.reader.now) (g.R.Read.remaining c.loop.reader) (g.R.Read.remaining c.read.new.self)
+    answered_all (g.R.Read.remaining c.args.reader.now) (g.R.Read.remaining c.loop-turn.reader) (g.R.Read.remaining c.read.new.self)
     so_far.0 c.args.state.now c.read.new.buf c.in_ok-n.n c.if-n-eq0.true so_far.1 c.in_ok-n.ensures.bytes.0
     (c.in_ok-n.ensures.bytes.1 c.if-n-eq0.true room) so_far.2
+
+pub returns-clause-answered : goal.returns-clause-answered
+returns-clause-answered g c = λ few.
+    let so_far = c.loop-turn.invariant.answered in
+    answered_few (g.R.Read.remaining c.args.reader.now) (g.R.Read.remaining c.loop-turn.reader) so_far.0 _ _ so_far.1 so_far.3 (omega arith)

@@ -41,7 +41,7 @@ use record::layout::{DIGEST_SIZE, RECORD_SIZE};
 use replica::layout::STATE_SIZE;
 use replica::opening::clear;
 use std::io;
-use std::io::{BufWriter, Read, Write};
+use std::io::{Read, Write};
 
 // How many bytes of the input are read at a time.
 const BLOCK: usize = 65536;
@@ -147,14 +147,12 @@ fn main(rt: HostRuntime) -> io::Result<()> {
     let mut buffer = [0u32; BUFFER_SIZE + 15];
     let mut rec = [0u32; RECORD_SIZE + 8];
     let mut block = [0u8; BLOCK];
-    let mut out = BufWriter::new(rt.alloc(), rt.stdout())?;
     run(
         &mut rt.stdin(),
-        &mut out,
+        &mut rt.stdout(),
         &mut words,
         &mut buffer,
         &mut rec,
         &mut block,
-    )?;
-    out.flush()
+    )
 }

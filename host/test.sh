@@ -1,7 +1,7 @@
 #!/usr/bin/env bash
 # Builds the example programs with warnings as errors, runs them, and compares what they print with host/cases and, on the same calls,
 # with sheetlog, the proved one and the second implementation's. Tests host/install, and builds against what it has installed.
-# `rt staticlib yardbook` must have written target/staticlib/libyardbook.a.
+# tools/archive must have written target/staticlib/libyardbook.a.
 set -euo pipefail
 cd "$(dirname "${BASH_SOURCE[0]}")/.."
 unset DESTDIR
@@ -12,7 +12,7 @@ fail() {
 }
 
 library=target/staticlib/libyardbook.a
-[ -f "$library" ] || fail "$library is missing: run rt staticlib yardbook"
+[ -f "$library" ] || fail "$library is missing: run tools/archive"
 out=target/host
 mkdir -p "$out"
 warnings=(-Wall -Wextra -Wpedantic -Wconversion -Wshadow -Werror)
@@ -52,7 +52,7 @@ refused 2 "usage: host/install PREFIX" "$install" a b
 refused 2 "usage: host/install PREFIX" "$install" ""
 refused 2 "usage: host/install PREFIX" "$install" --help
 cp host/install host/yardbook.h host/yardbook.hpp "$place/bare/host"
-refused 1 "run rt staticlib yardbook" "$place/bare/host/install" a
+refused 1 "run tools/archive" "$place/bare/host/install" a
 
 # An installation from another folder into a relative prefix, whatever the umask.
 (cd "$place" && umask 077 && "$install" "the first" >/dev/null)
@@ -105,7 +105,7 @@ for way in "${ways[@]}"; do
 done
 
 # The proved program: nothing is proved again that has not changed.
-rt check sheetlog >"$out/rt" 2>&1 || { cat "$out/rt" >&2; exit 1; }
+tools/program sheetlog >"$out/rt" 2>&1 || { cat "$out/rt" >&2; exit 1; }
 
 # The groups that a watcher follows.
 for case in sample two_leaders sightings carried digests; do

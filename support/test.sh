@@ -1,6 +1,6 @@
 #!/usr/bin/env bash
 # Builds sidebyside with warnings as errors, runs its tests, and runs it on the cases: what it prints, its exit status, and its page.
-# `rt staticlib yardbook` must have written target/staticlib/libyardbook.a.
+# tools/archive must have written target/staticlib/libyardbook.a.
 #   support/test.sh            compare
 #   support/test.sh --store    write the stored states and what is expected of the cases anew
 set -euo pipefail
@@ -12,7 +12,7 @@ fail() {
 }
 
 library=target/staticlib/libyardbook.a
-[ -f "$library" ] || fail "$library is missing: run rt staticlib yardbook"
+[ -f "$library" ] || fail "$library is missing: run tools/archive"
 export CARGO_TARGET_DIR=$PWD/support/target
 export YARDBOOK_LIB=$PWD/target/staticlib
 cargo=(--manifest-path support/Cargo.toml --release --offline --locked --quiet)

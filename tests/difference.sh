@@ -8,7 +8,9 @@ cd "$(dirname "${BASH_SOURCE[0]}")/.."
 export YARDBOOK_LIBRARY=$PWD/target/staticlib
 export CARGO_TARGET_DIR=$PWD/difference/target
 
-rt staticlib yardbook >/dev/null
+log=$(mktemp)
+trap 'rm -f "$log"' EXIT
+tools/archive >"$log" 2>&1 || { cat "$log" >&2; exit 1; }
 cargo build --manifest-path difference/Cargo.toml --release --offline --locked --quiet
 if [ $# -eq 0 ]; then
     cargo test --manifest-path difference/Cargo.toml --release --offline --locked --quiet

@@ -23,7 +23,7 @@ if [ "${1:-}" = --store ]; then
 fi
 
 # The proved program: nothing is proved again that has not changed.
-(cd "$root" && rt check sheetlog) >"$work/rt" 2>&1 || { cat "$work/rt"; exit 1; }
+"$root/tools/program" sheetlog >"$work/rt" 2>&1 || { cat "$work/rt"; exit 1; }
 
 # compare NAME INPUT [EXPECTED]
 compare() {

@@ -1,4 +1,4 @@
-//! Links libyardbook.a from YARDBOOK_LIB, or from where `rt staticlib yardbook` writes it in this repository.
+//! Links libyardbook.a from YARDBOOK_LIB, or from where `tools/archive` writes it in this repository.
 use std::env;
 use std::path::PathBuf;
 

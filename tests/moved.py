@@ -12,8 +12,8 @@ TOOL = pathlib.Path(__file__).resolve().parent.parent / "tools" / "moved"
 
 # The files of the old commit, the same in the new one unless CHANGES says otherwise.
 FILES = {
-    "crates.txt": "# A line for each crate: its name\ngone: base\nbase:\nsame: base\n",
-    "times": "base 2\ngone 1\nsame 4\n",
+    "crates.txt": "# A line for each crate: its name\ngone: base\nbase:\nsame: base\nforms staticlib: base\n",
+    "times": "base 0\ngone 2\nsame 0\n",
     "crates/base/specs/Lib.antt": "pub mod Words\npub mod Still\npub mod Odd\n",
     "crates/base/specs/Words.antt": """-- Words.
 use Prim.Native.Nat.{ℕ, zero, suc}
@@ -161,6 +161,65 @@ stays = "-- no comment"
     "crates/gone/src/lib.rt": "",
     "crates/gone/specs/Lib.antt": "pub carried : ℕ\ncarried = 1\n\npub lost : ℕ\nlost = 1\n",
     "crates/gone/proofs/calls/carry/Proof.antt": "use Gone.{x}\n\nreturns : x\nreturns = x\n",
+    "crates/forms/src/lib.rt": """#![tactic(auto)]
+// Forms of clauses, ghost members and blocks.
+ghost use Rattle.std.specs.Prelude.{◌≡◌, ◌+◌};
+ghost use Rattle.forms.specs.Lib.{sum_of};
+
+pub trait Shape<T> {
+    ghost use Rattle.forms.specs.Lib.{area_of};
+
+    ghost area: { Self → ℕ };
+    ghost laws: { AreaLaws area };
+
+    fn area(&self) -> u32
+        ensures { result ≡ area self.now };
+}
+
+impl<T: Copy> Shape<Vec<T>> for Square<T> {
+    ghost area = { λ s. s.side + s.side };
+    ghost laws = { area_laws };
+
+    fn area(&self) -> u32
+        ensures { result ≡ area self.now }
+    {
+        self.side + self.side
+    }
+}
+
+#[derive(Drop)]
+pub struct Stack<T> {
+    items: Vec<T>,
+    pub ghost small: { length items < 9 },
+}
+
+#[tactic(auto, using(sum_laws))]
+pub fn sum_two(a: u32, b: u32) -> u32
+    requires low { a < 10 }
+    requires high { b < 10 }
+    ensures* { λ r. ⌜ r ≡ sum_of a b ⌝ }
+{
+    a + b
+}
+
+impl<T> Stack<T> {
+    pub fn first_mut(&mut self) -> &mut T
+        ensures* lent { sem 𝓛 (Lends self.entry result) }
+    {
+        &mut self.items[0]
+    }
+}
+""",
+    "crates/forms/src/quiet.rt": "#[tactic(auto, using(one_law))]\npub fn quiet() {}\n",
+    "crates/forms/src/only.rt": "#![tactic(auto)]\n",
+    "crates/forms/specs/Lib.antt": "pub sum_of : ℕ → ℕ → ℕ\nsum_of x y = x + y\n",
+    "crates/forms/proofs/sum_two/Invariants.antt": "use forms.sum_two.Given as goal\n\n"
+        "abbrev pub invariant-loop-i : goal.invariant-loop-i\ninvariant-loop-i l = l.i ≤ 3\n",
+    "crates/forms/proofs/sum_two/Answers.antt": "use forms.sum_two.Goals as goal\n\n"
+        "pub returns : goal.returns\nunfolding sum_of\nreturns c = search rules\n",
+    "crates/forms/proofs/Stack/first_mut/Answers.antt": "pub returns : goal.returns\nreturns c = refl\n",
+    "crates/forms/proofs/quiet/Proof.antt": "pub returns : goal.returns\nreturns c = refl\n",
+    "crates/forms/proofs/+ring/Answers.antt": "pub returns : goal.returns\nreturns c = refl\n",
     "crates/same/src/lib.rt": "pub fn same() {}\n",
     "crates/same/specs/Lib.antt": "pub same : ℕ\nsame = 1\n",
 }
@@ -168,7 +227,24 @@ stays = "-- no comment"
 # For each file of the new commit that is not as it was: a new text, None, or pairs of a text and what takes its place.
 CHANGES = {
     "crates.txt": [("gone: base\nbase:", "base:\nfresh: base")],
-    "times": "base 3\nfresh 5\nsame 4\n",
+    "crates/forms/src/lib.rt": [
+        ("◌≡◌, ◌+◌", "◌≡◌"),
+        ("λ s. s.side + s.side", "λ s. 2 * s.side"),
+        ("{ area_laws }", "{\n        -- all of them }\n        area_laws\n    }"),
+        ("length items < 9", "length items < 8"),
+        ("using(sum_laws)", "using(sum_laws, more_laws)"),
+        ("λ r. ⌜ r ≡ sum_of a b ⌝", "λ r. ⌜ r ≡ sum_of b a ⌝"),
+        ("ensures* lent", "ensures* is_lent"),
+        ("{\n        self.side + self.side", "{\n        2 * self.side"),
+    ],
+    "crates/forms/src/quiet.rt": [("one_law", "two_laws")],
+    "crates/forms/proofs/sum_two/Invariants.antt": [("l.i ≤ 3", "l.i ≤ 4")],
+    "crates/forms/proofs/sum_two/Answers.antt": [("pub returns", "-- the sum\npub returns")],
+    "crates/forms/proofs/Stack/first_mut/Answers.antt": [("returns c = refl", "returns c =\n    refl -- at once")],
+    "crates/forms/proofs/quiet/Proof.antt": None,
+    "crates/forms/proofs/quiet/Answers.antt": "pub returns : goal.returns\nreturns c = refl\n",
+    "crates/forms/proofs/+ring/Invariants.antt": "abbrev pub decreases : goal.decreases\ndecreases a = a.n\n",
+    "times": "base 2\nfresh 0\nsame 0\n",
     "crates/base/specs/Lib.antt": "pub mod Words\npub mod Still\npub mod Odd\npub mod Moved\n",
     "crates/base/specs/Words.antt": [
         ("-- the first", "{- the {- very -} first -}"),
@@ -264,7 +340,7 @@ base
     removed: dropped
   other files: 1 new, 0 unchanged
     new: stdout
-  only use lines, mod lines or the order of items changed: proofs/code, specs/Lib.antt
+  only use lines, mod lines, tactics or the order of items changed: proofs/code, specs/Lib.antt
   specs and lemma files wholly unchanged: proofs/Lib.antt, specs/Still.antt
 
 fresh (new crate)
@@ -277,6 +353,21 @@ fresh (new crate)
 
 same: nothing moved; definitions 1, contracts 1
 
+forms
+  definitions: 1 unchanged
+  contracts: 3 changed, 6 unchanged
+    src/lib.rt
+      changed: Square as Shape::ghost area, sum_two, Stack::first_mut
+  code changed, contract as it was: 1
+    src/lib.rt: Square as Shape::area
+  types and constants: 1 changed, 0 unchanged
+    src/lib.rt
+      changed: Stack
+  function proofs: 3 changed, 1 unchanged
+    changed: +ring, quiet, sum_two
+  only use lines, mod lines, tactics or the order of items changed: src/quiet.rt
+  specs and lemma files wholly unchanged: specs/Lib.antt
+
 gone (crate removed)
   definitions: 1 removed, 1 moved away, 0 unchanged
     specs/Lib.antt (file removed)
@@ -286,14 +377,14 @@ gone (crate removed)
     moved away to fresh: 1
 
 all crates
-  definitions: 3 new, 12 changed, 3 removed, 2 moved, 5 unchanged
-  contracts: 1 new, 2 changed, 1 removed, 5 unchanged
-  types and constants: 1 changed, 1 unchanged
-  function proofs: 1 new, 1 changed, 1 moved, 2 unchanged
+  definitions: 3 new, 12 changed, 3 removed, 2 moved, 6 unchanged
+  contracts: 1 new, 5 changed, 1 removed, 11 unchanged
+  types and constants: 2 changed, 1 unchanged
+  function proofs: 1 new, 4 changed, 1 moved, 3 unchanged
   lemmas: 1 new, 3 changed, 1 unchanged
   must-fail edits: 1 new, 1 changed, 1 removed, 1 unchanged
   other files: 1 new, 0 unchanged
-  code changed, contract as it was: 2
+  code changed, contract as it was: 3
 """
 
 NOTHING = """
@@ -303,11 +394,13 @@ fresh: nothing moved; definitions 2, function proofs 1
 
 same: nothing moved; definitions 1, contracts 1
 
+forms: nothing moved; definitions 1, contracts 9, types and constants 1, function proofs 4
+
 all crates
-  definitions: 22 unchanged
-  contracts: 8 unchanged
-  types and constants: 2 unchanged
-  function proofs: 5 unchanged
+  definitions: 23 unchanged
+  contracts: 17 unchanged
+  types and constants: 3 unchanged
+  function proofs: 9 unchanged
   lemmas: 5 unchanged
   must-fail edits: 3 unchanged
   other files: 1 unchanged
@@ -317,11 +410,12 @@ all crates
 # The stand-in takes a commit's times from its file `times`, and refuses one with a file `unproved`. It notes where it runs.
 STAND_IN = """#!/bin/sh
 echo "begin $PWD" >>"$NOTES"
-[ "$*" = prove ] && [ ! -e target ] && [ -z "$(git status --porcelain)" ] || exit 2
+[ "$*" = "all verdict --jobs 1" ] && [ ! -e target ] && [ -z "$(git status --porcelain)" ] || exit 2
 mkdir target
 sleep 0.2
-while read -r crate seconds; do echo "rt: $crate proved ($seconds s)"; done <times
-[ ! -e unproved ] || echo "rt: FAILED: base"
+while read -r crate seconds; do sleep "$seconds"; echo "== $crate"; echo "fn $crate::main: proved"; done <times
+echo "== summary"
+[ ! -e unproved ] || echo "base: failed (1)"
 echo end >>"$NOTES"
 [ ! -e unproved ]
 """
@@ -429,18 +523,19 @@ def test_refusals(repository):
 def test_time(repository):
     run = repository.moved("--time", "first", "second")
     ends("time", run, 0)
-    lists, table = run.stdout.split("\nseconds of rt prove from nothing, old and new\n")
+    lists, table = run.stdout.split("\nseconds of rt all verdict --jobs 1 from nothing, old and new\n")
     same("lists with time", lists, repository.head("first", "second") + LISTS)
     rows = [line.split() for line in table.splitlines()]
-    same("crates' times", rows[:-1], [["base", "2", "3"], ["fresh", "-", "5"], ["same", "4", "4"], ["gone", "1", "-"]])
-    same("times in all", [rows[-1][0], *(field.isdigit() for field in rows[-1][1:])], ["all", True, True])
+    near = {"1": "0", "3": "2"}  # on a busy machine a run may take a second more than the stand-in sleeps
+    wanted = [["base", "0", "2"], ["fresh", "-", "0"], ["same", "0", "0"], ["gone", "2", "-"], ["all", "2", "2"]]
+    same("times", [[near.get(field, field) for field in row] for row in rows], wanted)
     notes = repository.notes.read_text().split()
     same("one run after the other", notes[0::3] + notes[2::3], ["begin", "begin", "end", "end"])
     same("a clone for each", len({*notes[1::3], str(repository.root)}), 3)
     same("clones that are left", list(repository.temporary.iterdir()), [])
     for words in (("third", "first"), ("first", "third")):
         run = repository.moved("--time", *words)
-        ends("a commit that does not prove", run, 1, "third does not prove: rt prove ended with status 1", "FAILED: base")
+        ends("a commit that does not prove", run, 1, "third does not prove: rt all verdict --jobs 1 ended with status 1", "base: failed (1)")
         same("no times", "seconds" in run.stdout, False)
         same("clones that are left", list(repository.temporary.iterdir()), [])
     repository.environment["RT"] = str(repository.root / "missing")

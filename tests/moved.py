@@ -12,7 +12,7 @@ TOOL = pathlib.Path(__file__).resolve().parent.parent / "tools" / "moved"
 
 # The files of the old commit, the same in the new one unless CHANGES says otherwise.
 FILES = {
-    "crates.txt": "# A line for each crate: its name\ngone: base\nbase:\nsame: base\nforms staticlib: base\n",
+    "crates.txt": "# A line for each crate: its name\ngone: base\nbase:\nforms staticlib: base\nsame: base\n",
     "times": "base 0\ngone 2\nsame 0\n",
     "crates/base/specs/Lib.antt": "pub mod Words\npub mod Still\npub mod Odd\n",
     "crates/base/specs/Words.antt": """-- Words.
@@ -351,8 +351,6 @@ fresh (new crate)
   function proofs: 1 moved, 0 unchanged
     moved from gone: calls/carry
 
-same: nothing moved; definitions 1, contracts 1
-
 forms
   definitions: 1 unchanged
   contracts: 3 changed, 6 unchanged
@@ -367,6 +365,8 @@ forms
     changed: +ring, quiet, sum_two
   only use lines, mod lines, tactics or the order of items changed: src/quiet.rt
   specs and lemma files wholly unchanged: specs/Lib.antt
+
+same: nothing moved; definitions 1, contracts 1
 
 gone (crate removed)
   definitions: 1 removed, 1 moved away, 0 unchanged
@@ -392,9 +392,9 @@ base: nothing moved; definitions 19, contracts 7, types and constants 2, functio
 
 fresh: nothing moved; definitions 2, function proofs 1
 
-same: nothing moved; definitions 1, contracts 1
-
 forms: nothing moved; definitions 1, contracts 9, types and constants 1, function proofs 4
+
+same: nothing moved; definitions 1, contracts 1
 
 all crates
   definitions: 23 unchanged

@@ -3,8 +3,12 @@ use std::io;
 use std::io::Write;
 
 // A number and a space.
-pub fn put<W: Write>(out: &mut W, x: u32) -> io::Result<()> {
+fn put_wide<W: Write>(out: &mut W, x: u64) -> io::Result<()> {
     write!(out, "{x} ")
+}
+
+pub fn put<W: Write>(out: &mut W, x: u32) -> io::Result<()> {
+    put_wide(out, x as u64)
 }
 
 // The last number of a line.
@@ -22,8 +26,7 @@ pub fn put_words<W: Write>(out: &mut W, words: &[u32]) -> io::Result<()> {
 
 // How many words there are, and each.
 pub fn put_list<W: Write>(out: &mut W, words: &[u32]) -> io::Result<()> {
-    let count = words.len();
-    write!(out, "{count} ")?;
+    put_wide(out, words.len() as u64)?;
     put_words(out, words)
 }
 

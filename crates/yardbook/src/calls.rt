@@ -1,4 +1,4 @@
-// The exported calls.
+// The calls that `yardbook_c` exports.
 ghost use Rattle.std.specs.Prelude.{◌≡◌, ◌≤◌, get_or};
 ghost use Rattle.replica.specs.Layout.{leader_count_at, journal_count_at, state_size};
 ghost use Rattle.replica.specs.Opening.{open_state};
@@ -24,90 +24,74 @@ use replica::lists::{ask_journal, ask_leaders};
 use replica::opening::open;
 use replica::status::status;
 
-#[unsafe(no_mangle)]
-pub extern "C" fn yardbook_open(state: &mut [u32], n: u32, own: u32) -> Answer
+pub fn yardbook_open(state: &mut [u32], n: u32, own: u32) -> Answer
     ensures { plain result state.new ≡ open_state state.old n own }
 {
     plain_answer(open(state, n, own))
 }
 
-#[unsafe(no_mangle)]
-pub extern "C" fn yardbook_take_vertex(state: &mut [u32], rec: &[u32]) -> Answer
+pub fn yardbook_take_vertex(state: &mut [u32], rec: &[u32]) -> Answer
     ensures { plain result state.new ≡ take_vertex state.old rec.now }
 {
     plain_answer(take_vertex(state, rec))
 }
 
-#[unsafe(no_mangle)]
-pub extern "C" fn yardbook_take_vertex_with(
-    state: &mut [u32],
-    buffer: &mut [u32],
-    rec: &[u32],
-) -> Answer
+pub fn yardbook_take_vertex_with(state: &mut [u32], buffer: &mut [u32], rec: &[u32]) -> Answer
     ensures { plain_with result state.new buffer.new
         ≡ take_vertex_with state.old buffer.old rec.now }
 {
     plain_answer(take_vertex_with(state, buffer, rec))
 }
 
-#[unsafe(no_mangle)]
-pub extern "C" fn yardbook_take_first_message(state: &mut [u32], rec: &[u32]) -> Answer
+pub fn yardbook_take_first_message(state: &mut [u32], rec: &[u32]) -> Answer
     ensures { plain result state.new ≡ take_first_message state.old rec.now }
 {
     plain_answer(take_first_message(state, rec))
 }
 
-#[unsafe(no_mangle)]
-pub extern "C" fn yardbook_take_timeout(state: &mut [u32], round: u32, signer: u32) -> Answer
+pub fn yardbook_take_timeout(state: &mut [u32], round: u32, signer: u32) -> Answer
     ensures { plain result state.new ≡ take_timeout state.old round signer }
 {
     plain_answer(take_timeout(state, round, signer))
 }
 
-#[unsafe(no_mangle)]
-pub extern "C" fn yardbook_take_no_vote(state: &mut [u32], round: u32, signer: u32) -> Answer
+pub fn yardbook_take_no_vote(state: &mut [u32], round: u32, signer: u32) -> Answer
     ensures { plain result state.new ≡ take_no_vote state.old round signer }
 {
     plain_answer(take_no_vote(state, round, signer))
 }
 
-#[unsafe(no_mangle)]
-pub extern "C" fn yardbook_take_timeouts(state: &mut [u32], round: u32, mask: u32) -> Answer
+pub fn yardbook_take_timeouts(state: &mut [u32], round: u32, mask: u32) -> Answer
     ensures { plain result state.new ≡ take_timeouts state.old round mask }
 {
     plain_answer(take_timeouts(state, round, mask))
 }
 
-#[unsafe(no_mangle)]
-pub extern "C" fn yardbook_propose(state: &mut [u32], digest: &[u32; DIGEST_SIZE]) -> Proposal
+pub fn yardbook_propose(state: &mut [u32], digest: &[u32; DIGEST_SIZE]) -> Proposal
     ensures { proposed result state.new ≡ propose_vertex state.old digest.now }
 {
     plain_proposal(propose(state, digest))
 }
 
-#[unsafe(no_mangle)]
-pub extern "C" fn yardbook_sign_no_vote(state: &mut [u32]) -> Answer
+pub fn yardbook_sign_no_vote(state: &mut [u32]) -> Answer
     ensures { plain result state.new ≡ sign_no_vote state.old }
 {
     plain_answer(sign_no_vote(state))
 }
 
-#[unsafe(no_mangle)]
-pub extern "C" fn yardbook_status(state: &[u32]) -> Status
+pub fn yardbook_status(state: &[u32]) -> Status
     ensures { result ≡ status_plain (status_of state.now) }
 {
     plain_status(status(state))
 }
 
-#[unsafe(no_mangle)]
-pub extern "C" fn yardbook_ask_leaders(state: &[u32], k: u32) -> Answer
+pub fn yardbook_ask_leaders(state: &[u32], k: u32) -> Answer
     ensures { plain result state.now ≡ ask_leaders state.now k }
 {
     plain_answer(ask_leaders(state, k))
 }
 
-#[unsafe(no_mangle)]
-pub extern "C" fn yardbook_ask_journal(state: &[u32], k: u32) -> Answer
+pub fn yardbook_ask_journal(state: &[u32], k: u32) -> Answer
     ensures { plain result state.now ≡ ask_journal state.now k }
 {
     plain_answer(ask_journal(state, k))
@@ -134,16 +118,14 @@ fn hand_part(state: &[u32], k: u32, number: u32, first: u32, count: usize) -> Pa
     }
 }
 
-#[unsafe(no_mangle)]
-pub extern "C" fn yardbook_hand_leaders(state: &[u32], k: u32) -> Part
+pub fn yardbook_hand_leaders(state: &[u32], k: u32) -> Part
     ensures { span_of result ≡ hand_leaders state.now k }
 {
     let asked = plain_answer(ask_leaders(state, k));
     hand_part(state, k, asked.number, LEADERS as u32, LEADER_COUNT)
 }
 
-#[unsafe(no_mangle)]
-pub extern "C" fn yardbook_hand_journal(state: &[u32], k: u32) -> Part
+pub fn yardbook_hand_journal(state: &[u32], k: u32) -> Part
     ensures { span_of result ≡ hand_journal state.now k }
 {
     let asked = plain_answer(ask_journal(state, k));

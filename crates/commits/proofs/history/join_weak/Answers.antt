@@ -10,18 +10,18 @@ known : (c : After-cell_at-at) → let a = (c.args) in
 known c =
     cell_known _ c.requires.0 _ _ _ c.requires.1 c.requires.2 c.requires.3 c.cell_at-at.ensures
 
+pub returns : goal.returns
+returns c =
+    let e : c.loop-i.i ≡ c.wide-count.result = omega arith in
+    let k = known (goal.at.returns c).After-cell_at-at in
+    cc
+
 weak : (c : In-loop-i) → WeakWord c.args.state.now c.args.round c.args.member c.cell_at-at.result c.loop-i.i
 weak c = (known (goal.at.In-loop-i c).After-cell_at-at).weak _ (omega arith)
 
 pub loop-i-preserved : goal.loop-i-preserved
 loop-i-preserved c =
     (omega arith, join_weak_more _ _ _ _ _ _ c.loop-i.invariant.1 (weak (goal.at.loop-i-preserved c).In-loop-i).is c.join_id.ensures)
-
-pub returns : goal.returns
-returns c =
-    let e : c.loop-i.i ≡ c.wide-count.result = omega arith in
-    let k = known (goal.at.returns c).After-cell_at-at in
-    cc
 
 pub loop-i-init : goal.loop-i-init
 loop-i-init c = (omega arith, join_weak_none _ _)

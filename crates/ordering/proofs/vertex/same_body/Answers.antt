@@ -11,6 +11,11 @@ use lib.Dec.{eqb}
 use lib.ListN.{get_or}
 use Rattle.ordering.proofs.vertex.same_body.Goals as goal
 
+pub returns : goal.returns
+unfolding same_body
+returns c =
+    let e : c.loop-i.i ≡ body_size = omega arith in sym (rw e at c.loop-i.invariant.1)
+
 pub loop-i-init : goal.loop-i-init
 loop-i-init c = (omega arith, all_none _)
 
@@ -25,8 +30,3 @@ returns-then-state-at c =
 pub loop-i-preserved : goal.loop-i-preserved
 loop-i-preserved c =
     (omega arith, all_more _ _ c.loop-i.invariant.1 (eq-eqb _ _ (rw c.cell_at-at.ensures at c.if-state-at.false)))
-
-pub returns : goal.returns
-unfolding same_body
-returns c =
-    let e : c.loop-i.i ≡ body_size = omega arith in sym (rw e at c.loop-i.invariant.1)

@@ -4,6 +4,14 @@ use Rattle.record.specs.Layout.{weak_count_of}
 use Rattle.record.proofs.Weak.{used_few, none_decide, weak_over, ids_no, slots_decide}
 use Rattle.record.proofs.questions.weak_ok.Goals as goal
 
+pub returns : goal.returns
+unfolding weak_count_of
+returns c = search slots_decide
+
+pub returns-then-not-weak_ids_ok : goal.returns-then-not-weak_ids_ok
+unfolding weak_count_of
+returns-then-not-weak_ids_ok c = search ids_no
+
 pub bounds-body-11 : goal.bounds-body-11
 unfolding weak_count_of
 bounds-body-11 c = search rules
@@ -36,14 +44,6 @@ pub weak_ids_ok-requires : goal.weak_ids_ok-requires
 unfolding weak_count_of
 weak_ids_ok-requires c = let u = used_few c.args.body.now in search rules
 
-pub returns-then-not-weak_ids_ok : goal.returns-then-not-weak_ids_ok
-unfolding weak_count_of
-returns-then-not-weak_ids_ok c = search ids_no
-
 pub slots_zero-requires : goal.slots_zero-requires
 unfolding weak_count_of
 slots_zero-requires c = let u = used_few c.args.body.now in search rules
-
-pub returns : goal.returns
-unfolding weak_count_of
-returns c = search slots_decide

@@ -3,6 +3,9 @@ use Rattle.record.proofs.Booleans.{passed}
 use Rattle.replica.proofs.Clauses.{within_no, votes_no, first_no_lem, cells_no, ordered_decides}
 use Rattle.replica.proofs.wellformed.body_ok.Goals as goal
 
+pub returns : goal.returns
+returns c = search (ordered_decides (c.args.state.now))
+
 pub returns-then-not-masks_within : goal.returns-then-not-masks_within
 returns-then-not-masks_within c = search (within_no (c.args.state.now))
 
@@ -17,6 +20,3 @@ cells_ok-requires c = search passed
 
 pub returns-then-not-cells_ok : goal.returns-then-not-cells_ok
 returns-then-not-cells_ok c = search (cells_no (c.args.state.now))
-
-pub returns : goal.returns
-returns c = search (ordered_decides (c.args.state.now))

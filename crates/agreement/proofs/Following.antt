@@ -179,7 +179,8 @@ module _ (n : ℕ) (a b : Model) (honest : ℕ → Bool) (g : legal n ≡ true) 
       next = one_once l h.formed
 
       go : (ltb (lowest l) rounds ≡ true) ⊎ (ltb (lowest l) rounds ≡ false)
-          → (Holds n (commit l (lowest l) 0) m → voted_rounds ≤ k + committed_round (commit l (lowest l) 0) → Follows n (commit_up_to (commit l (lowest l) 0) k) m)
+          → (Holds n (commit l (lowest l) 0) m → voted_rounds ≤ k + committed_round (commit l (lowest l) 0)
+          → Follows n (commit_up_to (commit l (lowest l) 0) k) m)
           → Follows n (commit_up_to l (suc k)) m
       go (inl d) ih =
           let c = least_sat rounds (committable l) (ltb-true _ _ d) in

@@ -63,8 +63,10 @@ in_find x [] h b = absurd (Memᴰ.not-nil h)
 in_find x (y ∷ l) h b = go (which (eqb (round_of y) (round_of x) && eqb (source_of y) (source_of x))) (Memᴰ.cases_cons h)
     (λ m. in_find x l m (λ z k. b z (Memᴰ.tail k)))
   where
-    go : ((eqb (round_of y) (round_of x) && eqb (source_of y) (source_of x)) ≡ true) ⊎ ((eqb (round_of y) (round_of x) && eqb (source_of y) (source_of x)) ≡ false)
-        → (x ≡ y) ⊎ In x l → (In x l → present (records_of l (round_of x) (source_of x)) ≡ true) → present (records_of (y ∷ l) (round_of x) (source_of x)) ≡ true
+    go : ((eqb (round_of y) (round_of x) && eqb (source_of y) (source_of x)) ≡ true)
+        ⊎ ((eqb (round_of y) (round_of x) && eqb (source_of y) (source_of x)) ≡ false)
+        → (x ≡ y) ⊎ In x l → (In x l → present (records_of l (round_of x) (source_of x)) ≡ true)
+        → present (records_of (y ∷ l) (round_of x) (source_of x)) ≡ true
     go (inl e) m ih = rw e (b y (Memᴰ.head refl))
     go (inr e) (inl s) ih = never (and_both (eq-eqb _ _ (ap round_of (sym s))) (eq-eqb _ _ (ap source_of (sym s)))) e
     go (inr e) (inr m) ih = rw e (ih m)

@@ -119,7 +119,8 @@ pass_more : (recs v : List (List ℕ)) (x : List ℕ) → In x v → In x (pass 
 unfolding pass
 pass_more [] v x h = h
 pass_more (rec ∷ recs) v x h =
-    rw (after_ahead rec (try_record v rec).fate (pass try_record (try_record v rec).after recs)) (pass_more recs (try_record v rec).after x (try_more v rec x h))
+    rw (after_ahead rec (try_record v rec).fate (pass try_record (try_record v rec).after recs))
+    (pass_more recs (try_record v rec).after x (try_more v rec x h))
 
 -- by the passes after the first
 passes_more : (k : ℕ) (recs v : List (List ℕ)) (x : List ℕ) → In x (pass try_record v recs).after → In x (passes try_record (suc k) v recs).after

@@ -92,7 +92,8 @@ same_records l m e d = records_ext (records_of l) (records_of m) (λ r p. go r p
 
 -- every call is taken
 all_taken_lem : (i : Bool) → all_taken 4 (empty 4) (calls_of i) ≡ true
-unfolding calls_of vertex_calls vertex_of first_of early late all_taken taken vertex_taken parents_there is_parent pass passes records_of legal leader_at has within meets
+unfolding calls_of vertex_calls vertex_of first_of early late all_taken taken vertex_taken parents_there is_parent pass passes records_of legal
+    leader_at has within meets
     strong_of timeouts_of no_votes_of weak_count_of weak_of signer_questions record_questions buffer_of words_of records_from records_ok rest_zero buffer_ok
     first_no is_round masks_ok strong_ok lacks_leader quorum_if timeouts_ok no_votes_ok weak_id_ok rises slot_ok weak_ok all any ones
 all_taken_lem true = refl

@@ -33,7 +33,8 @@ use Rattle.replica.specs.Opening.{opened, open_state}
 use Rattle.replica.specs.Lists.{span_if}
 use Rattle.replica.proofs.Formed.{WellFormed, well_formed_lem}
 use Rattle.replica.proofs.Opened.{opened_formed}
-use Rattle.commits.specs.Commit.{passable, highest_passable, raise_round, append_leader, append_leaders, enter, enter_all, order_leader, order_leaders, grows, is_ready}
+use Rattle.commits.specs.Commit.{passable, highest_passable, raise_round, append_leader, append_leaders, enter, enter_all, order_leader}
+use Rattle.commits.specs.Commit.{order_leaders, grows, is_ready}
 use Rattle.commits.specs.Commit.{committable}
 use Rattle.ordering.specs.Calls.{same_body, put_vertex, carry_timeouts, hear, is_new}
 use Rattle.runs.specs.Call.{Call, opening, outcome_of, Given, nothing, given_of, run}
@@ -146,7 +147,8 @@ computed : Row → Bool × Seen
 computed x = (short_admitted (opened 4 watcher) (drop 1 x.calls), short_end x)
 
 ends : map computed later ≡ map (λ (x : Row). (true, x.end)) later
-unfolding later rows computed short_admitted short_end short_seen short_of short_given short_span span_if short_vertex short_first short_note short_bundle short_list
+unfolding later rows computed short_admitted short_end short_seen short_of short_given short_span span_if short_vertex short_first short_note
+    short_bundle short_list
     short_take short_with short_try short_ending in_place pass passes buffer_of words_of records_from same_record some put_in records_ok rest_zero buffer_ok
     short_run opened outcome legal leader_at
     has within meets

@@ -179,7 +179,8 @@ module _ (n c a q : ℕ) (runs l₀ : List ℕ) (G : RunsReady l₀ n c a q runs
         G.few r,
       )
 
-  pub appending_next : (r x j : ℕ) (l m : List ℕ) → Appending n c a runs l₀ r l → x ≡ taken_of r c a → j ≡ r → m ≡ append_leaders l (seats n r x (get_or runs j 0))
+  pub appending_next : (r x j : ℕ) (l m : List ℕ) → Appending n c a runs l₀ r l → x ≡ taken_of r c a → j ≡ r
+      → m ≡ append_leaders l (seats n r x (get_or runs j 0))
       → Appending n c a runs l₀ (r + 1) m
   appending_next r x j l m A ex ey d =
       let new = seats n r (taken_of r c a) (get_or runs r 0) in

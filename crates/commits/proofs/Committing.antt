@@ -18,7 +18,8 @@ use Rattle.protocol.specs.Dag.{Records, held}
 use Rattle.protocol.specs.Journal.{among}
 use Rattle.protocol.specs.Chain.{leader_id}
 use Rattle.protocol.proofs.Laws.{chain_length}
-use Rattle.replica.specs.Layout.{ordered_at, state_size, leaders_at, journal_at, leaders_size, leader_count_at, journal_count_at, committed_round_at, leaders_end}
+use Rattle.replica.specs.Layout.{ordered_at, state_size, leaders_at, journal_at, leaders_size, leader_count_at, journal_count_at, committed_round_at}
+use Rattle.replica.specs.Layout.{leaders_end}
 use Rattle.replica.specs.State.{member_count, committed_round, leader_count, journal_count, leader_word, ordered_mask, vertices, ordered_id, add_member}
 use Rattle.replica.specs.State.{width, last_place}
 use Rattle.replica.proofs.Width.{width_some, width_most}
@@ -206,7 +207,8 @@ quiet_room {l} {m} q R = omega (
 
 module _ (l : List ℕ) (G : Going l) (q seat : ℕ) (r : Ready l q seat) where
   -- those taken are held, and not of round 0
-  pub going_held : (y : ℕ) → among (taken l q seat) y ≡ true → (held (vertices l) (id_round y) (id_member y) ≡ true) × (1 ≤ id_round y) × (id_round y ≤ voted_rounds)
+  pub going_held : (y : ℕ) → among (taken l q seat) y ≡ true → (held (vertices l) (id_round y) (id_member y) ≡ true) × (1 ≤ id_round y)
+      × (id_round y ≤ voted_rounds)
   going_held = taken_held l G.standing.members G.standing.valid q seat r
 
   -- they find room

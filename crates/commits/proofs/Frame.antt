@@ -14,7 +14,8 @@ use Rattle.record.proofs.Booleans.{which, and_cong, cond_cong, and_left}
 use Rattle.record.proofs.Rounds.{round_range}
 use Rattle.protocol.proofs.Laws.{records_ext}
 use Rattle.record.specs.Layout.{body_size}
-use Rattle.replica.specs.Layout.{head_size, journal_count_at, held_kind, heard_kind, votes_kind, timeouts_kind, member_count_at, leaders_end, journal_end, cells_end}
+use Rattle.replica.specs.Layout.{head_size, journal_count_at, held_kind, heard_kind, votes_kind, timeouts_kind, member_count_at, leaders_end}
+use Rattle.replica.specs.Layout.{journal_end, cells_end}
 use Rattle.replica.specs.Layout.{masks_at, cell_at, ordered_at, leaders_at, journal_at, journal_size, cells_at}
 use Rattle.replica.specs.State.{member_count, journal_count, held_mask, heard_mask, votes_mask, ordered_mask, vertices, add_member, cell}
 use Rattle.replica.specs.State.{firsts}
@@ -124,6 +125,7 @@ unfolding enter add_member
 alike_enter l y low high h =
     let a = set l (ordered_at (id_round y)) (add (ordered_mask l (id_round y)) (id_member y)) in
     let b = set a (journal_at + journal_count l) y in
-    alike_then (alike_set l (ordered_at (id_round y)) (add (ordered_mask l (id_round y)) (id_member y)) (loose_ordered (id_round y) (omega arith) (omega arith)))
+    alike_then (alike_set l (ordered_at (id_round y)) (add (ordered_mask l (id_round y)) (id_member y))
+    (loose_ordered (id_round y) (omega arith) (omega arith)))
     (alike_then (alike_set a (journal_at + journal_count l) y (loose_entry _ (omega arith) (omega arith)))
     (alike_set b journal_count_at (journal_count l + 1) (loose_head journal_count_at (omega arith) (omega arith))))

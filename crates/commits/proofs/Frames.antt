@@ -65,7 +65,8 @@ off_cells j a b = record {
 -- ---- a state with the same vertices stands as well
 
 -- what Standing says rests on word 0, the held, heard and votes masks, and the cells
-pub standing_kept : (K : ℕ → Type 0) (l l' : List ℕ) → Keeps K l l' → K member_count_at → ((r i : ℕ) → 1 ≤ r → r ≤ rounds → i < timeouts_kind → K (masks_at r + i))
+pub standing_kept : (K : ℕ → Type 0) (l l' : List ℕ) → Keeps K l l' → K member_count_at
+    → ((r i : ℕ) → 1 ≤ r → r ≤ rounds → i < timeouts_kind → K (masks_at r + i))
     → ((j : ℕ) → cells_at ≤ j → j < cells_end → K j) → Standing l → Standing l'
 standing_kept K l l' p k f g S =
     let n = p.same member_count_at k in

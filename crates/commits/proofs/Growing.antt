@@ -189,7 +189,8 @@ module _ (l : List ℕ) (y : ℕ) (size : length l ≡ state_size) (low : 1 ≤ 
           (journal_at + journal_count l) y) journal_count_at
           (journal_count l + 1) (omega arith)
           ∙ drop-set-add journal_at (set l (ordered_at (id_round y)) (add (ordered_mask l (id_round y)) (id_member y))) (journal_count l) y
-          ∙ ap (λ (xs : List ℕ). set xs (journal_count l) y) (drop-set-lt journal_at l (ordered_at (id_round y)) (add (ordered_mask l (id_round y)) (id_member y))
+          ∙ ap (λ (xs : List ℕ). set xs (journal_count l) y)
+          (drop-set-lt journal_at l (ordered_at (id_round y)) (add (ordered_mask l (id_round y)) (id_member y))
           (omega arith))
 
   enter_rest : (i : ℕ) → journal_count l + 1 ≤ i → journal_word (enter l y) i ≡ journal_word l i
@@ -348,7 +349,8 @@ module _ (n : ℕ) (v : Records) (g : legal n ≡ true) (W : ValidVertices n v) 
       }
 
 -- where a round has one leader, a commit takes what the walk over one leader a round does
-pub taken_one : (l : List ℕ) → WellFormed l → (q : ℕ) → taken l q 0 ≡ chain (member_count l) 1 (vertices l) (committed_round l) (one_taken (committed_round l)) q 1
+pub taken_one : (l : List ℕ) → WellFormed l → (q : ℕ)
+    → taken l q 0 ≡ chain (member_count l) 1 (vertices l) (committed_round l) (one_taken (committed_round l)) q 1
 taken_one l S q = ap₂ (λ (m a : ℕ). chain (member_count l) m (vertices l) (committed_round l) a q 1) (width_one l) (one_place l S)
 
 -- ---- a commit

@@ -102,7 +102,8 @@ pub parents_none : (v : Records) (r m : ℕ) → 0 ≡ parents v r m 0
 unfolding parents
 parents_none v r m = refl
 
-pub parents_in_lem : (l : List ℕ) (r m p at j o : ℕ) → Cell l r p at → j ≡ parents (vertices l) r m p → has m p ≡ true → o ≡ bit_or j (get_or l (at + strong_place) 0)
+pub parents_in_lem : (l : List ℕ) (r m p at j o : ℕ) → Cell l r p at → j ≡ parents (vertices l) r m p → has m p ≡ true
+    → o ≡ bit_or j (get_or l (at + strong_place) 0)
     → o ≡ parents (vertices l) r m (p + 1)
 unfolding parents
 parents_in_lem l r m p at j o C e h d = rw (add-one p, h) (rw (e, C.strong) at d)

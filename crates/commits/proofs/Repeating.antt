@@ -83,7 +83,8 @@ once l high e = go (which (grows l))
 
 module _ (l : List ℕ) (G : Going l) (q seat : ℕ) (r : Ready l q seat) where
   -- what stays alike over the whole commit, and the words of the leader list that the journal's growth leaves
-  kept : Alike l (commit l q seat) × Room (commit l q seat) × ((j : ℕ) → j < leaders_size → leader_word (commit l q seat) j ≡ leader_word (second l G q seat r) j)
+  kept : Alike l (commit l q seat) × Room (commit l q seat)
+      × ((j : ℕ) → j < leaders_size → leader_word (commit l q seat) j ≡ leader_word (second l G q seat r) j)
   unfolding commit
   kept =
       let Q = (quiet_led l G q seat r).0 in

@@ -13,7 +13,8 @@ use lib.ListN.{get_or, set, take, drop, length, length-set, length-drop}
 use lib.Seq.{get_or-set_same, get_or-set_other}
 use borrow.Author.Tests.{lt-ltb, le-ltb, le-leb, eq-eqb, ne_eqb}
 use Rattle.record.specs.Below.{select}
-use Rattle.record.specs.Members.{quorum, leader_at, leader, most_leaders, has, with, meets, id_of, id_round, id_member, id_limit, is_round, rounds, slots, voted_rounds}
+use Rattle.record.specs.Members.{quorum, leader_at, leader, most_leaders, has, with, meets, id_of, id_round, id_member, id_limit, is_round, rounds}
+use Rattle.record.specs.Members.{slots, voted_rounds}
 use Rattle.record.specs.declared.members.Members.{Members}
 use Rattle.record.specs.Layout.{strong_of, body_size, strong_place}
 use Rattle.record.proofs.Booleans.{which, never, and_both, and_fails_left, and_fails_right, or_left, cond_true, cond_false}

@@ -111,7 +111,8 @@ module _ (n : ℕ) where
       (marked_made calls (outcome_of c l).words (after_ready n c calls l R ok) (after_allowed n c calls l R ok) r)
     where
       go : Did c l → of_round r (made_records (outcome_of c l).words calls) ≤ 1
-          → (was_made (outcome_of c l).words r ≡ true → of_round r (made_records (outcome_of c l).words calls) ≡ 0) → of_round r (made_records l (c ∷ calls)) ≤ 1
+          → (was_made (outcome_of c l).words r ≡ true → of_round r (made_records (outcome_of c l).words calls) ≡ 0)
+          → of_round r (made_records l (c ∷ calls)) ≤ 1
       go (neither e d) ih none = rw (made_records_lem c calls l e) ih
       go (signed s) ih none = rw (made_records_lem c calls l s.makes) ih
       go (made m) ih none = rw (made_records_lem c calls l m.makes) (⊎_elim here there (which (eqb (round_of m.words) r)))

@@ -24,7 +24,8 @@ use Rattle.replica.specs.Outcome.{Outcome, outcome}
 use Rattle.replica.specs.Opening.{opened, open_state}
 use Rattle.replica.proofs.Formed.{WellFormed}
 use Rattle.replica.proofs.Opened.{opened_size, opened_formed}
-use Rattle.commits.specs.Commit.{passable, highest_passable, raise_round, append_leader, append_leaders, enter, enter_all, order_leader, order_leaders, grows, is_ready}
+use Rattle.commits.specs.Commit.{passable, highest_passable, raise_round, append_leader, append_leaders, enter, enter_all, order_leader}
+use Rattle.commits.specs.Commit.{order_leaders, grows, is_ready}
 use Rattle.commits.specs.Commit.{committable}
 use Rattle.ordering.specs.Calls.{same_body, put_vertex, carry_timeouts, is_new}
 use Rattle.proposing.specs.Own.{marks_round, mark_round}
@@ -33,7 +34,8 @@ use Rattle.proposing.specs.Signing.{signing_round, may_sign, put_own_no_vote}
 use Rattle.runs.specs.Call.{Call, opening, vertex, vertex_with, first_message, timeout, no_vote, bundle, status, ask_leader_list, ask_journal_list}
 use Rattle.runs.specs.Call.{hand_leader_list, hand_journal_list, making, signing, outcome_of, all_allowed}
 use Rattle.runs.proofs.Asked.{four, open_yes, open_taken}
-use Rattle.runs.proofs.Short.{line, listed, by_list, commit_by, once_by, short_commits, short_vertex, short_note, short_making, short_made, short_signing, short_of}
+use Rattle.runs.proofs.Short.{line, listed, by_list, commit_by, once_by, short_commits, short_vertex, short_note, short_making, short_made}
+use Rattle.runs.proofs.Short.{short_signing, short_of}
 use Rattle.runs.proofs.Short.{short_take, short_bundle, short_is, made_is, formed_after}
 use Rattle.conduct.specs.Made.{Made, made_by, signed_by, all_made, rounds_signed, made_records}
 use Rattle.conduct.specs.Witness.{own, start, first, voting, against, calls, Witness}

@@ -19,7 +19,8 @@ put_pasted a k d ys s e =
     ∙ sym (append_assoc (take a d) (take k s) (drop (a + k) d))
 
 -- a vertex marked held at the masks of its round, and its body in the cell that was lent
-pub vertex_put : (l : List ℕ) (r p : ℕ) (body : List ℕ) → length body ≡ body_size → (at : ℕ) → at ≡ masks_at r → (m : List ℕ) → m ≡ add_member l (at + held_kind) p
+pub vertex_put : (l : List ℕ) (r p : ℕ) (body : List ℕ) → length body ≡ body_size → (at : ℕ) → at ≡ masks_at r → (m : List ℕ)
+    → m ≡ add_member l (at + held_kind) p
     → (a : ℕ) → a ≡ cell_at r p → (ys : List ℕ) → ys ≡ body → take a m ++ (ys ++ drop ((a + body_size) - a) (drop a m)) ≡ put_vertex l r p body
 unfolding put_vertex
 vertex_put l r p body size at e m d a f ys g = put_pasted a body_size m ys body (g ∙ sym (take_all body_size body (omega arith))) ∙ rw (d, e, f)

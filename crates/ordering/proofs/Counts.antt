@@ -28,7 +28,8 @@ one l S h =
     )
 
 -- over all of them
-pub commits_grow : (k : ℕ) (l : List ℕ) → WellFormed l → (leader_count l ≤ leader_count (commit_up_to l k)) × (journal_count l ≤ journal_count (commit_up_to l k))
+pub commits_grow : (k : ℕ) (l : List ℕ) → WellFormed l → (leader_count l ≤ leader_count (commit_up_to l k))
+    × (journal_count l ≤ journal_count (commit_up_to l k))
 unfolding commit_up_to
 commits_grow zero l S = (omega arith, omega arith)
 commits_grow (suc k) l S = go (which (is_ready l)) (commits_grow k (commit_once l))

@@ -157,7 +157,8 @@ module _ (l : List ℕ) (S : WellFormed l) (q seat : ℕ) (ready : Ready l q sea
               ⊎_elim
               (λ d. S.journal.ordered_held r p a b (rw (id_round_lem r p k, id_member_lem r p k) at
               (and_right (is_round (id_round (id_of r p))) (has (ordered_mask l (id_round (id_of r p))) (id_member (id_of r p))) d)))
-              (λ d. rw (id_round_lem r p k, id_member_lem r p k) at (in_mask l S.size (id_round (id_of r p)) (id_member (id_of r p)) (C.named (id_of r p) d).there).2)
+              (λ d. rw (id_round_lem r p k, id_member_lem r p k) at
+              (in_mask l S.size (id_round (id_of r p)) (id_member (id_of r p)) (C.named (id_of r p) d).there).2)
               (or_cases (ordered_id l (id_of r p)) (among C.ids (id_of r p)) (sym (C.ordered (id_of r p)) ∙ t))
 
   -- A commit of a round whose leader's vertex is held keeps the state formed.
@@ -191,7 +192,8 @@ unfolding commit_up_to
 formed_commits zero l S = S
 formed_commits (suc k) l S = go (which (is_ready l)) (formed_commits k (commit_once l))
   where
-    go : (is_ready l ≡ true) ⊎ (is_ready l ≡ false) → (WellFormed (commit_once l) → WellFormed (commit_up_to (commit_once l) k)) → WellFormed (commit_up_to l (suc k))
+    go : (is_ready l ≡ true) ⊎ (is_ready l ≡ false) → (WellFormed (commit_once l) → WellFormed (commit_up_to (commit_once l) k))
+        → WellFormed (commit_up_to l (suc k))
     go (inl e) ih = rw e (ih (formed_once l S e))
     go (inr e) ih = rw e S
 

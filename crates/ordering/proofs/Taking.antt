@@ -124,7 +124,8 @@ pub record FirstTaken (l rec : List ℕ) : Type 0 where
   pub long : length rec ≡ record_size
   pub hearing : Hearing l (member_count l) (round_of rec) (source_of rec) (get_or rec (body_place + strong_place) 0)
   pub heard : (m : List ℕ) → m ≡ hear l (round_of rec) (source_of rec) (get_or rec (body_place + strong_place) 0 ∷ []) → Ready (member_count l) m
-  pub done : (m : List ℕ) (o : Outcome) → m ≡ hear l (round_of rec) (source_of rec) (get_or rec (body_place + strong_place) 0 ∷ []) → o ≡ admitted m (commit_all m)
+  pub done : (m : List ℕ) (o : Outcome) → m ≡ hear l (round_of rec) (source_of rec) (get_or rec (body_place + strong_place) 0 ∷ [])
+      → o ≡ admitted m (commit_all m)
       → o ≡ take_first_message l rec
 
 module _ (l rec : List ℕ) (why : Refusal) (e : why ≡ first_no (first_questions l (round_of rec) (source_of rec) (body_of rec))) where

@@ -243,7 +243,8 @@ early_known l s rec e =
     record { first = b.0; passes = b.1; new = a.1; room = a.2 }
 
 -- the buffer with a record put in
-put_formed : (l s rec : List ℕ) → Early l s rec → buffer_ok (member_count l) s ≡ true → buffer_ok (member_count l) (buffer_of (put_in rec (records_in s))) ≡ true
+put_formed : (l s rec : List ℕ) → Early l s rec → buffer_ok (member_count l) s ≡ true
+    → buffer_ok (member_count l) (buffer_of (put_in rec (records_in s))) ≡ true
 put_formed l s rec E b =
     let F = order.formed (member_count l) s b in
     let A = admit (member_count l) rec E.passes in

@@ -260,7 +260,8 @@ module _ (l rec : List ℕ) (S : WellFormed l) (e : number_of (record_refusal (m
 
 -- ---- parents have lower ids
 
-pub parent_lower : (l rec : List ℕ) → WellFormed l → number_of (record_refusal (member_count l) rec) ≡ 0 → (y : ℕ) → is_parent (round_of rec) (body_of rec) y ≡ true
+pub parent_lower : (l rec : List ℕ) → WellFormed l → number_of (record_refusal (member_count l) rec) ≡ 0 → (y : ℕ)
+    → is_parent (round_of rec) (body_of rec) y ≡ true
     → y < record_id rec
 parent_lower l rec S e y d =
     let A = admit (member_count l) rec e in
@@ -272,7 +273,8 @@ parent_lower l rec S e y d =
     omega (arith, ap id_round z)) (parent_cases (round_of rec) (body_of rec) y d)
 
 -- so a record that waits does so still after one of a higher id is tried
-pub waits_on : (l rec other : List ℕ) → WellFormed l → number_of (record_refusal (member_count l) rec) ≡ 0 → number_of (record_refusal (member_count l) other) ≡ 0
+pub waits_on : (l rec other : List ℕ) → WellFormed l → number_of (record_refusal (member_count l) rec) ≡ 0
+    → number_of (record_refusal (member_count l) other) ≡ 0
     → record_id rec < record_id other → Waiting l rec → Waiting (take_vertex l other).words rec
 waits_on l rec other S e d h w = go (ends l other S d)
   where

@@ -188,7 +188,8 @@ put_split rec (other ∷ recs) = go (which (ltb (record_id other) (record_id rec
   where
     go : (ltb (record_id other) (record_id rec) ≡ true) ⊎ (ltb (record_id other) (record_id rec) ≡ false)
         → put_in rec recs ≡ take (rank recs (record_id rec)) recs ++ rec ∷ drop (rank recs (record_id rec)) recs
-        → put_in rec (other ∷ recs) ≡ take (rank (other ∷ recs) (record_id rec)) (other ∷ recs) ++ rec ∷ drop (rank (other ∷ recs) (record_id rec)) (other ∷ recs)
+        → put_in rec (other ∷ recs) ≡ take (rank (other ∷ recs) (record_id rec)) (other ∷ recs) ++ rec ∷ drop (rank (other ∷ recs) (record_id rec))
+        (other ∷ recs)
     go (inl t) ih = rw t (ap (λ (x : List (List ℕ)). other ∷ x) ih)
     go (inr t) ih = rw t
 

@@ -213,7 +213,8 @@ none_added l =
     ap₂ (λ (i j : ℕ). record { number = 0; id = 0; leaders = i; journal = j; words = l }) x y
 
 -- first one that admits, then the others
-pub turn_first : (l rec : List ℕ) (recs : List (List ℕ)) (m : List ℕ) → number_of (first_no (vertex_questions l (round_of rec) (source_of rec) (body_of rec))) ≡ 0
+pub turn_first : (l rec : List ℕ) (recs : List (List ℕ)) (m : List ℕ)
+    → number_of (first_no (vertex_questions l (round_of rec) (source_of rec) (body_of rec))) ≡ 0
     → Later (take_vertex l rec).words m
     → take_in_turn (take_vertex l rec).words recs ≡ admitted (take_vertex l rec).words m → take_in_turn l (rec ∷ recs) ≡ admitted l m
 unfolding take_in_turn

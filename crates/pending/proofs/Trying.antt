@@ -20,7 +20,8 @@ use Rattle.pending.specs.Inner.{Trying}
 
 -- the questions of its place decide
 pub place_decides : (l rec : List ℕ) → WellFormed l → number_of (record_refusal (member_count l) rec) ≡ 0 → (why : Refusal)
-    → why ≡ first_no (place_questions l (round_of rec) (source_of rec) (body_of rec)) → why ≡ first_no (vertex_questions l (round_of rec) (source_of rec) (body_of rec))
+    → why ≡ first_no (place_questions l (round_of rec) (source_of rec) (body_of rec))
+    → why ≡ first_no (vertex_questions l (round_of rec) (source_of rec) (body_of rec))
 place_decides l rec S e why d =
     let k = record_known (member_count l) rec (place_questions l (round_of rec) (source_of rec) (body_of rec)) (record_refusal (member_count l) rec) refl e in
     k.last why d ∙ past_state l _ S
@@ -29,7 +30,8 @@ place_decides l rec S e why d =
 pub record Tried (l : List ℕ) (n q : ℕ) (rec : List ℕ) : Type 0 where
   pub long : length rec ≡ record_size
   pub placing : Placing l n (round_of rec) (source_of rec) (take body_size (drop body_place rec))
-  pub stopped : (why : Refusal) → why ≡ first_no (place_questions l (round_of rec) (source_of rec) (take body_size (drop body_place rec))) → (number_of why ≡ 0 → ⊥)
+  pub stopped : (why : Refusal) → why ≡ first_no (place_questions l (round_of rec) (source_of rec) (take body_size (drop body_place rec)))
+      → (number_of why ≡ 0 → ⊥)
       → (a : Answer) → a ≡ nothing_added why → told a l ≡ take_vertex l rec
   pub unstopped : (why : Refusal) → why ≡ first_no (place_questions l (round_of rec) (source_of rec) (take body_size (drop body_place rec))) → number_of why ≡ 0
       → Unstopped l n q rec

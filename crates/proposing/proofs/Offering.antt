@@ -172,7 +172,8 @@ module _ (round source strong timeouts no_votes : ℕ) (digest : List ℕ) (size
     unfolding offer_rounds
     rounds_step l reached zero e = let z : slots ≡ slots * suc zero = omega arith in ap so_far z
     rounds_step l reached (suc k) e =
-        ap (λ (x : List ℕ). offer_round x f (held_mask l (suc k)) (get_or reached k 0) (suc k) slots) (rounds_step l reached k (λ s p a b. e s p (omega arith) b))
+        ap (λ (x : List ℕ). offer_round x f (held_mask l (suc k)) (get_or reached k 0) (suc k) slots)
+        (rounds_step l reached k (λ s p a b. e s p (omega arith) b))
         ∙ members_step (suc k) (held_mask l (suc k)) (get_or reached k 0) slots (omega arith) (λ p b. e k p (omega arith) b)
         ∙ ap so_far next
       where

@@ -189,7 +189,8 @@ module _ (l : List ℕ) (K : MakingKnown l) where
     rec = record_words (current_round l) (own_member l) (made_strong l) (made_timeouts l) (made_no_votes l) digest.words (made_weak l)
 
     all_held : parents_held l (current_round l) (body_of rec) ≡ true
-    all_held = parents_intro l (current_round l) (body_of rec) (λ y k e. ⊎_elim (strong_case y) (weak_case y) (parent_cases (current_round l) (body_of rec) y e))
+    all_held =
+        parents_intro l (current_round l) (body_of rec) (λ y k e. ⊎_elim (strong_case y) (weak_case y) (parent_cases (current_round l) (body_of rec) y e))
       where
         strong_case : (y : ℕ) → (id_round y + 1 ≡ current_round l) × (has (strong_of (body_of rec)) (id_member y) ≡ true) → held_id l y ≡ true
         strong_case y e =
@@ -212,7 +213,8 @@ module _ (l : List ℕ) (K : MakingKnown l) where
             rw (sym z ∙ e.2) at (weak_held e.0 h)
           where
             slot_is : (i : ℕ) → i < length (made_weak l) → weak_of (body_of rec) i ≡ get_or (made_weak l) i 0
-            slot_is i h = weak_slot (member_count l) (current_round l) (own_member l) (made_strong l) (made_timeouts l) (made_no_votes l) digest (made_weak l) i h
+            slot_is i h =
+                weak_slot (member_count l) (current_round l) (own_member l) (made_strong l) (made_timeouts l) (made_no_votes l) digest (made_weak l) i h
 
     passes : Passes l (made_record l digest.words)
     unfolding made_record

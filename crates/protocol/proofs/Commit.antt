@@ -50,7 +50,8 @@ unfolding last_up_to
 up_to_highest n d zero q l h c = absurd (omega arith)
 up_to_highest n d (suc k) q l h c = go (which (backed n d (suc k) 0)) (eq-or-lt_of_le h) (λ m. up_to_highest n d k q l m c)
   where
-    go : (backed n d (suc k) 0 ≡ true) ⊎ (backed n d (suc k) 0 ≡ false) → (q ≡ suc k) ⊎ (q < suc k) → (q ≤ k → q ≤ last_up_to n d k) → q ≤ last_up_to n d (suc k)
+    go : (backed n d (suc k) 0 ≡ true) ⊎ (backed n d (suc k) 0 ≡ false) → (q ≡ suc k) ⊎ (q < suc k) → (q ≤ k → q ≤ last_up_to n d k)
+        → q ≤ last_up_to n d (suc k)
     go (inl e) m ih = rw e h
     go (inr e) (inl m) ih = never c (rw m e)
     go (inr e) (inr m) ih = rw e (ih (omega arith))

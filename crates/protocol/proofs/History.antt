@@ -22,7 +22,8 @@ use Rattle.record.proofs.Rounds.{id_same}
 -- The edges fall by a round at least, to members of the group.
 pub record Edges (n : ℕ) (v : Records) : Type 0 where
   pub strong_low : (r p m : ℕ) → has (strong_of (v r p)) m ≡ true → (2 ≤ r) × (m < n)
-  pub weak_low : (r p i : ℕ) → i < weak_count_of (v r p) → (1 ≤ id_round (weak_of (v r p) i)) × (id_round (weak_of (v r p) i) < r) × (id_member (weak_of (v r p) i) < n)
+  pub weak_low : (r p i : ℕ) → i < weak_count_of (v r p) → (1 ≤ id_round (weak_of (v r p) i)) × (id_round (weak_of (v r p) i) < r)
+      × (id_member (weak_of (v r p) i) < n)
 
 -- so in well-formed vertices
 pub edges : (n : ℕ) (v : Records) → legal n ≡ true → ValidVertices n v → Edges n v

@@ -207,7 +207,8 @@ unfolding fresh
 fresh_masks n v g W j x h = select_cong id_limit _ _ (λ y l. ap (λ (b : Bool). not (among j y) && b) (alike y l (which (leb 1 (id_round y)))))
   where
     alike : (y : ℕ) → y < id_limit → (leb 1 (id_round y) ≡ true) ⊎ (leb 1 (id_round y) ≡ false)
-        → history n v (id_round x) (id_member x) y ≡ (leb 1 (id_round y) && has (get_or (history_masks n v (id_round x) (id_member x)) (id_round y - 1) 0) (id_member y))
+        → history n v (id_round x) (id_member x) y ≡
+        (leb 1 (id_round y) && has (get_or (history_masks n v (id_round x) (id_member x)) (id_round y - 1) 0) (id_member y))
     alike y l (inl e) =
         rw e (ap (history n v (id_round x) (id_member x)) (sym (id_same y))
         ∙ sym (history_claim n v g W (id_round x) (id_member x) h (id_round y) (id_member y) (leb-true 1 (id_round y) e) (omega arith) (omega arith)))

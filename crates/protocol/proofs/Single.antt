@@ -16,7 +16,8 @@ use Rattle.protocol.specs.Dag.{Records, Dag, voter, backed, last_up_to, last, di
 use Rattle.protocol.specs.Paths.{history, reaches}
 use Rattle.protocol.specs.Chain.{seats, span, walk, chain}
 use Rattle.protocol.specs.Journal.{among, fresh, extend}
-use Rattle.protocol.specs.Single.{one_committed, one_last_up_to, one_walk, one_chain, one_leaders, one_fresh, one_extend, one_taken, SingleClaim, SingleCommitClaim}
+use Rattle.protocol.specs.Single.{one_committed, one_last_up_to, one_walk, one_chain, one_leaders, one_fresh, one_extend, one_taken, SingleClaim}
+use Rattle.protocol.specs.Single.{SingleCommitClaim}
 use Rattle.record.proofs.Longest.{longest_le, longest_one}
 use Rattle.protocol.proofs.Lists.{map-append}
 use Rattle.record.proofs.Rounds.{id_round_lem, id_member_lem}

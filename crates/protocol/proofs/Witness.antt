@@ -168,7 +168,8 @@ module _ (l : List (List ℕ)) where
   kept_certified e r p h = fits_certified r p _ (and_left (both (fits r p (records_of l r p))) _ (every_found kept l e r p h))
 
 formed : (i : Bool) → ValidVertices 4 (witness_dag i).vertex
-unfolding witness_dag records_of early late vertex_of every kept both fits quorum_in lacks leader_at has count all strong_of timeouts_of no_votes_of weak_count_of weak_of
+unfolding witness_dag records_of early late vertex_of every kept both fits quorum_in lacks leader_at has count all strong_of timeouts_of no_votes_of
+    weak_count_of weak_of
 formed true = kept_formed (vertex_of true) refl
 formed false = kept_formed (vertex_of false) refl
 
@@ -219,7 +220,8 @@ all_apart true false = refl
 all_apart false true = refl
 all_apart false false = refl
 
-main_both : (i j : Bool) (r p m : ℕ) → honest p ≡ true → voter 4 (witness_dag i) r 0 p ≡ true → has (no_votes_of ((witness_dag j).vertex (suc r) m)) p ≡ true → ⊥
+main_both : (i j : Bool) (r p m : ℕ) → honest p ≡ true → voter 4 (witness_dag i) r 0 p ≡ true
+    → has (no_votes_of ((witness_dag j).vertex (suc r) m)) p ≡ true → ⊥
 unfolding apart witness_dag
 main_both i j r p m g v s =
     let h : present (records_of (vertex_of j) (suc r) m) ≡ true = unfold no_votes_for in no_vote_present _ 0 p s in
@@ -230,7 +232,8 @@ main_both i j r p m g v s =
     never v (not-true _ u)
 
 certified : (i : Bool) (r p : ℕ) → held (witness_dag i).vertex r p ≡ true → Certified 4 1 r p ((witness_dag i).vertex r p)
-unfolding witness_dag records_of early late vertex_of every kept both fits quorum_in lacks leader_at has count all strong_of timeouts_of no_votes_of weak_count_of weak_of
+unfolding witness_dag records_of early late vertex_of every kept both fits quorum_in lacks leader_at has count all strong_of timeouts_of no_votes_of
+    weak_count_of weak_of
 certified true = kept_certified (vertex_of true) refl
 certified false = kept_certified (vertex_of false) refl
 
@@ -275,11 +278,13 @@ no_both i j r (suc (suc x)) p m l g v s = absurd (omega arith)
 -- ---- the journals, by the masks of the histories
 
 chain_first : leaders 4 1 (witness_dag true) ≡ 50 ∷ 67 ∷ []
-unfolding witness_dag records_of early late first_of vertex_of last_up_to backed voter direct longest least leader_at has count strong_of chain walk seats path any
+unfolding witness_dag records_of early late first_of vertex_of last_up_to backed voter direct longest least leader_at has count strong_of chain walk
+    seats path any
 chain_first = refl
 
 chain_second : leaders 4 1 (witness_dag false) ≡ 50 ∷ []
-unfolding witness_dag records_of early late first_of vertex_of last_up_to backed voter direct longest least leader_at has count strong_of chain walk seats path any
+unfolding witness_dag records_of early late first_of vertex_of last_up_to backed voter direct longest least leader_at has count strong_of chain walk
+    seats path any
 chain_second = refl
 
 fresh_three : (i : Bool) → fresh 4 (witness_dag i).vertex [] 50 ≡ 16 ∷ 17 ∷ 18 ∷ 19 ∷ 32 ∷ 34 ∷ 35 ∷ 50 ∷ []
@@ -296,11 +301,13 @@ fresh_four = fresh_masks 4 (witness_dag true).vertex refl (formed true) (16 ∷ 
 -- with two leaders a round
 
 chain_two_first : leaders 4 2 (witness_dag true) ≡ 50 ∷ 51 ∷ 67 ∷ 64 ∷ []
-unfolding witness_dag records_of early late first_of vertex_of last_up_to backed voter direct longest least leader_at has count strong_of chain walk seats path any
+unfolding witness_dag records_of early late first_of vertex_of last_up_to backed voter direct longest least leader_at has count strong_of chain walk
+    seats path any
 chain_two_first = refl
 
 chain_two_second : leaders 4 2 (witness_dag false) ≡ 50 ∷ 51 ∷ []
-unfolding witness_dag records_of early late first_of vertex_of last_up_to backed voter direct longest least leader_at has count strong_of chain walk seats path any
+unfolding witness_dag records_of early late first_of vertex_of last_up_to backed voter direct longest least leader_at has count strong_of chain walk
+    seats path any
 chain_two_second = refl
 
 -- the journal up to the main leader's vertex of round 3, and the second leader's

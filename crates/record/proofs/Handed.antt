@@ -23,7 +23,8 @@ use Rattle.record.proofs.Turn.{next, known}
 
 -- handed 2f + 1 of n, the questions are those of n alone
 pub handed_law : HandedLaw
-unfolding handed_questions handed_strong handed_timeouts handed_no_votes handed_if record_questions signer_questions strong_ok timeouts_ok no_votes_ok quorum_if meets
+unfolding handed_questions handed_strong handed_timeouts handed_no_votes handed_if record_questions signer_questions strong_ok timeouts_ok no_votes_ok
+    quorum_if meets
 handed_law n q e round source body = rw e
 
 -- so are the tests of a mask, and of one that may be wanted

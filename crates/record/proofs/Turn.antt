@@ -54,7 +54,8 @@ front_yes ((true, why) ∷ xs) ys n h = front_yes xs ys (and_right (not (eqb (nu
 front_yes ((false, why) ∷ xs) ys n h = never (and_left (not (eqb (number_of why) 0)) _ n) (ap not (eq-eqb (number_of why) 0 h))
 
 -- if all are answered yes, so are those of both lists
-pub both_fronts : (xs ys : List Question) → numbered xs ≡ true → number_of (first_no (xs ++ ys)) ≡ 0 → (number_of (first_no xs) ≡ 0) × (number_of (first_no ys) ≡ 0)
+pub both_fronts : (xs ys : List Question) → numbered xs ≡ true → number_of (first_no (xs ++ ys)) ≡ 0 → (number_of (first_no xs) ≡ 0)
+    × (number_of (first_no ys) ≡ 0)
 unfolding first_no numbered
 both_fronts [] ys n h = (refl, h)
 both_fronts ((true, why) ∷ xs) ys n h = both_fronts xs ys (and_right (not (eqb (number_of why) 0)) _ n) h

@@ -129,7 +129,8 @@ module _ (l : List ℕ) (r start : ℕ) (size : length l ≡ state_size) (low : 
     pub members_no : not m ≡ true → false ≡ all slots (cell_ok l r)
     members_no t = sym (sym decides ∙ and_fails_left _ (failed em t))
 
-    pub others_decide : not m ≡ false → (z : Bool) → z ≡ all (body_size * (slots - member_count l)) (λ i. eqb (get_or l (start + body_size * member_count l + i) 0) 0)
+    pub others_decide : not m ≡ false → (z : Bool)
+        → z ≡ all (body_size * (slots - member_count l)) (λ i. eqb (get_or l (start + body_size * member_count l + i) 0) 0)
         → z ≡ all slots (cell_ok l r)
     others_decide t z ez =
         let rest : start + body_size * member_count l ≡ cell_at r (member_count l) = omega arith in
@@ -139,7 +140,8 @@ module _ (l : List ℕ) (r start : ℕ) (size : length l ≡ state_size) (low : 
 pub record RestCells (l : List ℕ) (n start : ℕ) : Type 0 where
   pub some : (k : ℕ) (z : Bool) → n ≡ k → z ≡ blank l (start + body_size * k) (start + round_size)
       → z ≡ all (body_size * (slots - n)) (λ i. eqb (get_or l (start + body_size * n + i) 0) 0)
-  pub none : (n ≡ 4 → ⊥) → (n ≡ 7 → ⊥) → (n ≡ 10 → ⊥) → (n ≡ 13 → ⊥) → true ≡ all (body_size * (slots - n)) (λ i. eqb (get_or l (start + body_size * n + i) 0) 0)
+  pub none : (n ≡ 4 → ⊥) → (n ≡ 7 → ⊥) → (n ≡ 10 → ⊥) → (n ≡ 13 → ⊥)
+      → true ≡ all (body_size * (slots - n)) (λ i. eqb (get_or l (start + body_size * n + i) 0) 0)
 
 pub rest_cells : (l : List ℕ) (n start : ℕ) → legal n ≡ true → start + round_size ≤ length l → RestCells l n start
 rest_cells l n start g h =

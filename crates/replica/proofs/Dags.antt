@@ -72,7 +72,8 @@ module _ (l : List ℕ) (size : length l ≡ state_size) where
   unfolding vertices
   in_mask r p h = go (which (is_round r && has (held_mask l r) p))
     where
-      go : ((is_round r && has (held_mask l r) p) ≡ true) ⊎ ((is_round r && has (held_mask l r) p) ≡ false) → (1 ≤ r) × (r ≤ rounds) × (has (held_mask l r) p ≡ true)
+      go : ((is_round r && has (held_mask l r) p) ≡ true) ⊎ ((is_round r && has (held_mask l r) p) ≡ false) → (1 ≤ r) × (r ≤ rounds)
+          × (has (held_mask l r) p ≡ true)
       go (inl e) = let w = round_range r (and_left _ _ e) in (w.0, w.1, and_right (is_round r) _ e)
       go (inr e) = never h (rw e)
 
@@ -98,7 +99,8 @@ module _ (l : List ℕ) (S : WellFormed l) where
       rw (vertex_cell l S.size r p h) (certified (member_count l) r p (cell l r p) (S.cells.admits r p w.0 w.1 k w.2))
 
   -- and its parents are held
-  parent : (r p y : ℕ) → held (vertices l) r p ≡ true → y < id_limit → is_parent r (vertices l r p) y ≡ true → held (vertices l) (id_round y) (id_member y) ≡ true
+  parent : (r p y : ℕ) → held (vertices l) r p ≡ true → y < id_limit → is_parent r (vertices l r p) y ≡ true
+      → held (vertices l) (id_round y) (id_member y) ≡ true
   parent r p y h k d =
       let w = in_mask l S.size r p h in
       let m : p < slots = omega (arith, in_group r p w.0 w.1 w.2, S.front.high) in

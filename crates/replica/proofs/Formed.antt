@@ -213,7 +213,8 @@ module _ (l : List ℕ) (size : length l ≡ state_size) where
       let t : leader_ok l c ≡ true = and_right (all c (leader_ok l)) _ e in
       let t' = and_right (held_id l (leader_word l c)) _ t in
       rw (part_more l leaders_at c (omega arith), before_suc c, place_suc c)
-      (led_append (width l) (held_id l) (leader_index l) 0 0 (round_before l c) (place_before l c) (id_round (leader_word l c)) (leader_index l (leader_word l c) + 1)
+      (led_append (width l) (held_id l) (leader_index l) 0 0 (round_before l c) (place_before l c) (id_round (leader_word l c))
+      (leader_index l (leader_word l c) + 1)
       (take c (drop leaders_at l)) (leader_word l c ∷ [])
       (to_led c (omega arith) (and_left _ _ e))
       (and_left _ _ t, ltb-true _ _ (and_left _ _ t'), to_next _ _ _ _ (and_right (ltb (leader_index l (leader_word l c)) (width l)) _ t'), (refl, refl)))
@@ -274,7 +275,8 @@ module _ (l : List ℕ) (size : length l ≡ state_size) where
   every_round t f = all_intro rounds (λ i. t (i + 1)) (λ i k. f (i + 1) (omega arith) (omega arith))
 
   -- the six bounds of a round
-  bounds : (r : ℕ) → masks_within l r ≡ true → (held_mask l r < 2 ^ member_count l) × (heard_mask l r < 2 ^ member_count l) × (votes_mask l r < 2 ^ member_count l)
+  bounds : (r : ℕ) → masks_within l r ≡ true → (held_mask l r < 2 ^ member_count l) × (heard_mask l r < 2 ^ member_count l)
+      × (votes_mask l r < 2 ^ member_count l)
       × (timeouts_mask l r < 2 ^ member_count l) × (no_votes_mask l r < 2 ^ member_count l) × (ordered_mask l r < 2 ^ member_count l)
   unfolding masks_within
   bounds r e =

@@ -88,7 +88,8 @@ parents_more l l' f r body e =
 -- ---- the own words
 
 -- what is asked of them depends on words 0 and 5 to 7
-pub own_same : (l l' : List ℕ) → member_count l' ≡ member_count l → own_word l' ≡ own_word l → made_rounds l' ≡ made_rounds l → signed_rounds l' ≡ signed_rounds l
+pub own_same : (l l' : List ℕ) → member_count l' ≡ member_count l → own_word l' ≡ own_word l → made_rounds l' ≡ made_rounds l
+    → signed_rounds l' ≡ signed_rounds l
     → own_ok l' ≡ own_ok l
 unfolding own_ok
 own_same l l' n p m s = rw (n, p, m, s)
@@ -199,7 +200,8 @@ module _ (K : ℕ → Type 0) (l l' : List ℕ) (p : Keeps K l l') where
     ordered_id_kept y = and_cong refl (λ e. let w = round_range (id_round y) e in ordered_kept (id_round y) (id_member y) w.0 w.1)
 
     -- its entries
-    pub journal_list_kept : K journal_count_at → ((j : ℕ) → journal_at ≤ j → j < journal_end → K j) → journal_count l ≤ journal_size → journal_list l' ≡ journal_list l
+    pub journal_list_kept : K journal_count_at → ((j : ℕ) → journal_at ≤ j → j < journal_end → K j) → journal_count l ≤ journal_size
+        → journal_list l' ≡ journal_list l
     journal_list_kept k f few = rw (p.same journal_count_at k) (keeps_part K l l' p journal_at (journal_count l) (λ j a b. f j a (omega arith)))
 
     -- and all that is said of it, where no vertex is lost

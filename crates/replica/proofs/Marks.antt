@@ -93,7 +93,8 @@ marked_more l i marks x at e f h ex m a b d = record {
 pub new_id : List ℕ → ℕ → Bool
 new_id l i = is_round (id_round (journal_word l i)) && not (among (take i (journal_list l)) (journal_word l i))
 
-pub entry_new : (l : List ℕ) (i : ℕ) → is_round (id_round (journal_word l i)) ≡ true → among (take i (journal_list l)) (journal_word l i) ≡ false → new_id l i ≡ true
+pub entry_new : (l : List ℕ) (i : ℕ) → is_round (id_round (journal_word l i)) ≡ true → among (take i (journal_list l)) (journal_word l i) ≡ false
+    → new_id l i ≡ true
 unfolding new_id
 entry_new l i a b = and_both a (ap not b)
 
@@ -147,7 +148,8 @@ among_ordered l y e f h a =
     rw z at (entry_ordered l w.0 (all_elim (journal_count l) (entry_ok l) h w.0 k))
 
 -- where all entries pass, their marks decide
-entries_decide : (l marks : List ℕ) → length l ≡ state_size → legal (member_count l) ≡ true → each_round (masks_within l) ≡ true → journal_count l ≤ journal_size
+entries_decide : (l marks : List ℕ) → length l ≡ state_size → legal (member_count l) ≡ true → each_round (masks_within l) ≡ true
+    → journal_count l ≤ journal_size
     → all (journal_count l) (entry_ok l) ≡ true → Marked l (journal_count l) marks
     → all rounds (λ i. eqb (get_or marks i 0) (ordered_mask l (i + 1))) ≡ journal_ok l
 unfolding journal_ok
@@ -192,7 +194,8 @@ entries_decide l marks e g w f h m =
         (back_at t r b)))
 
 -- the marks of new ids decide
-journal_decides : (l marks : List ℕ) → length l ≡ state_size → legal (member_count l) ≡ true → each_round (masks_within l) ≡ true → journal_count l ≤ journal_size
+journal_decides : (l marks : List ℕ) → length l ≡ state_size → legal (member_count l) ≡ true → each_round (masks_within l) ≡ true
+    → journal_count l ≤ journal_size
     → all (journal_count l) (new_id l) ≡ true → Marked l (journal_count l) marks
     → all rounds (λ i. eqb (get_or marks i 0) (ordered_mask l (i + 1))) ≡ journal_ok l
 unfolding journal_ok
@@ -200,7 +203,8 @@ journal_decides l marks e g w f h m = bool_ext
     (λ t. sym (entries_decide l marks e g w f (entries t) m) ∙ t)
     (λ t. entries_decide l marks e g w f (and_left (all (journal_count l) (entry_ok l)) _ (and_right (leb (journal_count l) journal_size) _ t)) m ∙ t)
   where
-    at_mark : all rounds (λ i. eqb (get_or marks i 0) (ordered_mask l (i + 1))) ≡ true → (i : ℕ) → i < journal_count l → is_round (id_round (journal_word l i)) ≡ true
+    at_mark : all rounds (λ i. eqb (get_or marks i 0) (ordered_mask l (i + 1))) ≡ true → (i : ℕ) → i < journal_count l
+        → is_round (id_round (journal_word l i)) ≡ true
         → has (ordered_mask l (id_round (journal_word l i))) (id_member (journal_word l i)) ≡ true
     at_mark t i b o =
         let x = journal_word l i in
@@ -238,7 +242,8 @@ module _ (l : List ℕ) (count i : ℕ) (marks : List ℕ) (R : Reading l count 
   reading_strange t = journal_stop l count i R.whole h (entry_strange l i (failed e t))
 
   -- or it is one: it stops the test if it is marked, and is marked if it is not
-  module _ (t : not b ≡ false) (at : ℕ) (d : at ≡ id_round (journal_word l i) - 1) (m : Bool) (f : m ≡ has (get_or marks at 0) (id_member (journal_word l i))) where
+  module _ (t : not b ≡ false) (at : ℕ) (d : at ≡ id_round (journal_word l i) - 1) (m : Bool)
+      (f : m ≡ has (get_or marks at 0) (id_member (journal_word l i))) where
     entry_range : (1 ≤ id_round (journal_word l i)) × (id_round (journal_word l i) ≤ rounds)
     entry_range = round_range _ (passed e t)
 
@@ -261,7 +266,8 @@ module _ (l : List ℕ) (count i : ℕ) (marks : List ℕ) (R : Reading l count 
 
 -- at the end the marks decide
 pub reading_decides : (l : List ℕ) (count i : ℕ) (marks : List ℕ) (z : Bool) → Reading l count i marks → count ≤ i → length l ≡ state_size
-    → legal (member_count l) ≡ true → each_round (masks_within l) ≡ true → z ≡ all rounds (λ k. eqb (get_or marks k 0) (ordered_mask l (k + 1))) → z ≡ journal_ok l
+    → legal (member_count l) ≡ true → each_round (masks_within l) ≡ true → z ≡ all rounds (λ k. eqb (get_or marks k 0) (ordered_mask l (k + 1)))
+    → z ≡ journal_ok l
 reading_decides l count i marks z R h e g w d =
     let same : i ≡ journal_count l = omega arith in
     d ∙ journal_decides l marks e g w (omega arith) (rw same at R.new) (rw same at R.marked)

@@ -59,7 +59,8 @@ held_if : (a b : Bool) → (a && not b) ≡ false → a ≡ true → b ≡ true
 held_if true b e h = not-false b e
 held_if false b e h = absurd (true≢false (sym h))
 
-pub parents_intro : (l : List ℕ) (r : ℕ) (body : List ℕ) → ((y : ℕ) → y < id_limit → is_parent r body y ≡ true → held_id l y ≡ true) → parents_held l r body ≡ true
+pub parents_intro : (l : List ℕ) (r : ℕ) (body : List ℕ) → ((y : ℕ) → y < id_limit → is_parent r body y ≡ true → held_id l y ≡ true)
+    → parents_held l r body ≡ true
 unfolding parents_held missing
 parents_intro l r body h = ap not (any_false id_limit (missing l r body) (λ y b. not_held (is_parent r body y) (held_id l y) (h y b)))
 
@@ -93,7 +94,8 @@ module _ (n r p : ℕ) (l body : List ℕ) (group : legal n ≡ true) (a : Admit
   later_held f = bool_ext
       (λ e. and_both
       (has_subset slots (strong_of body) (held_mask l (r - 1)) strong_small (λ m b h. strong_has e m b h))
-      (all_intro (weak_count_of body) (λ i. held_id l (weak_of body i)) (λ i b. parents_elim l r body e (weak_of body i) (weak_small i b) (weak_parent_lem r body i b))))
+      (all_intro (weak_count_of body) (λ i. held_id l (weak_of body i))
+      (λ i b. parents_elim l r body e (weak_of body i) (weak_small i b) (weak_parent_lem r body i b))))
       (λ e. parents_intro l r body (λ y b t. ⊎_elim
       (λ s. strong_in (and_left _ _ e) y s.0 s.1)
       (λ w. rw w.2 at (all_elim (weak_count_of body) (λ i. held_id l (weak_of body i)) (and_right (subset (strong_of body) (held_mask l (r - 1))) _ e)
@@ -109,7 +111,8 @@ module _ (n r p : ℕ) (l body : List ℕ) (group : legal n ≡ true) (a : Admit
           (parents_elim l r body e (id_of (r - 1) m) (omega (arith, a.round_high))
           (strong_parent r body (id_of (r - 1) m) (omega arith) (rw y h))))
 
-      strong_in : subset (strong_of body) (held_mask l (r - 1)) ≡ true → (y : ℕ) → id_round y + 1 ≡ r → has (strong_of body) (id_member y) ≡ true → held_id l y ≡ true
+      strong_in : subset (strong_of body) (held_mask l (r - 1)) ≡ true → (y : ℕ) → id_round y + 1 ≡ r → has (strong_of body) (id_member y) ≡ true
+          → held_id l y ≡ true
       strong_in e y q h =
           let x : r - 1 ≡ id_round y = omega arith in
           and_both (round_in (id_round y) (omega arith) (omega (arith, a.round_high)))

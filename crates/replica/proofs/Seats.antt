@@ -129,7 +129,8 @@ module _ (l : List ℕ) (i : ℕ) where
       ∙ entry_some h k
 
   pub entry_later : (b : Bool) → held_id l entry ≡ true → leader_index l entry < width l → (i ≡ 0 → ⊥)
-      → b ≡ comes_next (id_round (leader_word l (i - 1))) (leader_index l (leader_word l (i - 1)) + 1) (id_round entry) (leader_index l entry) → b ≡ leader_ok l i
+      → b ≡ comes_next (id_round (leader_word l (i - 1))) (leader_index l (leader_word l (i - 1)) + 1) (id_round entry) (leader_index l entry)
+      → b ≡ leader_ok l i
   entry_later b h k e f =
       f ∙ ap (λ (t : Bool). comes_next (cond t 0 (id_round (leader_word l (i - 1)))) (cond t 0 (leader_index l (leader_word l (i - 1)) + 1))
       (id_round entry) (leader_index l entry)) (sym (ne_eqb i 0 e))

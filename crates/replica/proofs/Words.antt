@@ -60,7 +60,8 @@ masks_small l r e =
     ≡ true = and_right (within n (held_mask l r)) _ e in
     let e₂ : (within n (votes_mask l r) && (within n (timeouts_mask l r) && (within n (no_votes_mask l r) && within n (ordered_mask l r))))
     ≡ true = and_right (within n (heard_mask l r)) _ e₁ in
-    let e₃ : (within n (timeouts_mask l r) && (within n (no_votes_mask l r) && within n (ordered_mask l r))) ≡ true = and_right (within n (votes_mask l r)) _ e₂ in
+    let e₃ : (within n (timeouts_mask l r) && (within n (no_votes_mask l r) && within n (ordered_mask l r))) ≡ true = and_right
+    (within n (votes_mask l r)) _ e₂ in
     let e₄ : (within n (no_votes_mask l r) && within n (ordered_mask l r)) ≡ true = and_right (within n (timeouts_mask l r)) _ e₃ in
     record {
       held = within_lt n (held_mask l r) (and_left _ _ e);

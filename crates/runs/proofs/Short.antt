@@ -240,7 +240,8 @@ module _ (f g : List ℕ → List ℕ → Trial (List ℕ)) (P : List ℕ → Ty
 take_is : (l : List ℕ) → WellFormed l → (rec : List ℕ) → take_vertex l rec ≡ short_take l rec
 unfolding short_take short_vertex take_body
 take_is l S rec =
-    ap (λ (why : Refusal). outcome why l (commit_up_to (raise_round (written l (round_of rec) (source_of rec) (body_of rec))) most_commits)) (sym (past_state l _ S))
+    ap (λ (why : Refusal). outcome why l (commit_up_to (raise_round (written l (round_of rec) (source_of rec) (body_of rec))) most_commits))
+    (sym (past_state l _ S))
     ∙ ap (outcome (short_vertex l rec) l) (commits_are most_commits _)
 
 -- a vertex with a pending buffer

@@ -1,5 +1,6 @@
 -- Laws of what is answered of a reader's bytes. Assumes nothing.
-use Rattle.std.proofs.Common.{◌≡◌, refl, sym, ap, ◌∙◌, subst, List, [], ◌++◌, append-nil, ℕ, ◌-◌, ◌^◌, ◌≤◌, length, length-append, take, arith, Option, None, Some, IfSome}
+use Rattle.std.proofs.Common.{◌≡◌, refl, sym, ap, ◌∙◌, subst, List, [], ◌++◌, append-nil, ℕ, ◌-◌, ◌^◌, ◌≤◌, length, length-append, take, arith}
+use Rattle.std.proofs.Common.{Option, None, Some, IfSome}
 use Rattle.std.specs.Io.KnownBytes.{Appends, Consumes, IsAtEnd}
 use Rattle.std.proofs.KnownBytes.{Appends-nil, Appends-trans, Consumes-trans, Consumes-whole}
 use Rattle.transcript.specs.Text.{Appended}

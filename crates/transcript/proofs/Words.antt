@@ -27,11 +27,13 @@ use Rattle.transcript.proofs.Numerals.{split}
 module _ (s : List ℕ) (i : ℕ) (l : i < length s) where
   pub word_stop : get_or s i 0 ≡ space → length (up_to_space (drop i s)) ≡ 0
   unfolding up_to_space
-  word_stop e = ap (λ (x : List ℕ). length (up_to_space x)) (split s i l) ∙ ap length (cond_true [] (get_or s i 0 ∷ up_to_space (drop (i + 1) s)) (eq-eqb _ space e))
+  word_stop e =
+      ap (λ (x : List ℕ). length (up_to_space x)) (split s i l) ∙ ap length (cond_true [] (get_or s i 0 ∷ up_to_space (drop (i + 1) s)) (eq-eqb _ space e))
 
   pub word_next : (get_or s i 0 ≡ space → ⊥) → length (up_to_space (drop i s)) ≡ suc (length (up_to_space (drop (i + 1) s)))
   unfolding up_to_space
-  word_next e = ap (λ (x : List ℕ). length (up_to_space x)) (split s i l) ∙ ap length (cond_false [] (get_or s i 0 ∷ up_to_space (drop (i + 1) s)) (ne_eqb _ space e))
+  word_next e =
+      ap (λ (x : List ℕ). length (up_to_space x)) (split s i l) ∙ ap length (cond_false [] (get_or s i 0 ∷ up_to_space (drop (i + 1) s)) (ne_eqb _ space e))
 
 pub word_none : (s : List ℕ) (i : ℕ) → length s ≤ i → length (up_to_space (drop i s)) ≡ 0
 unfolding up_to_space
@@ -106,14 +108,16 @@ module _ (s : List ℕ) (at j k : ℕ) (p : k ≡ suc j) (l : at < length s) whe
   words_bad h =
       rw p (and_fails_right (eqb (get_or (drop at s) 0 0) space) (and_fails_left _ (ap numeral_ok word_here ∙ numeral_no (up_to_space (drop (at + 1) s)) h)))
 
-  module _ (end v : ℕ) (e : end ≡ at + 1 + length (up_to_space (drop (at + 1) s))) (d : v ≡ numeral_value (up_to_space (drop (at + 1) s))) (h : v ≤ largest) where
+  module _ (end v : ℕ) (e : end ≡ at + 1 + length (up_to_space (drop (at + 1) s))) (d : v ≡ numeral_value (up_to_space (drop (at + 1) s)))
+      (h : v ≤ largest) where
     read_here : (numeral_ok (up_to_space (drop (at + 1) s)) ≡ true) × (numeral_value (up_to_space (drop (at + 1) s)) ≡ value_of (up_to_space (drop (at + 1) s)))
     read_here = numeral_yes (up_to_space (drop (at + 1) s)) (omega arith)
 
     rest_here : after_word (drop at s) ≡ drop end s
     rest_here =
         let q : at + (1 + length (up_to_space (drop (at + 1) s))) ≡ end = omega arith in
-        ap (λ (w : List ℕ). drop (1 + length w) (drop at s)) word_here ∙ drop-drop (1 + length (up_to_space (drop (at + 1) s))) at s ∙ ap (λ (m : ℕ). drop m s) q
+        ap (λ (w : List ℕ). drop (1 + length w) (drop at s)) word_here ∙ drop-drop (1 + length (up_to_space (drop (at + 1) s))) at s
+        ∙ ap (λ (m : ℕ). drop m s) q
 
     words_next : get_or s at 0 ≡ space → words_ok k (drop at s) ≡ words_ok j (drop end s)
     unfolding words_ok

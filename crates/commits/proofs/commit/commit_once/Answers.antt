@@ -49,7 +49,8 @@ returns-then-does_grow c =
 pub returns-then-q-ge-ROUNDS : goal.returns-then-q-ge-ROUNDS
 returns-then-q-ge-ROUNDS c =
     let h = c.if-q-ge-ROUNDS.true in
-    told_none c.args.state.now _ _ (is_over c.args.state.now (still (goal.at.returns-then-q-ge-ROUNDS c).Else-does_grow) (omega (arith, c.lowest_committable-q.ensures))) refl refl
+    told_none c.args.state.now _ _ (is_over c.args.state.now (still (goal.at.returns-then-q-ge-ROUNDS c).Else-does_grow)
+    (omega (arith, c.lowest_committable-q.ensures))) refl refl
 
 pub commit_round-requires : goal.commit_round-requires
 commit_round-requires c =

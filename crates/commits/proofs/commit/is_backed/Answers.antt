@@ -12,7 +12,7 @@ use Rattle.commits.proofs.commit.is_backed.Goals as goal
 use Rattle.commits.proofs.commit.is_backed.Goals.{After-has_bit}
 
 -- the first test asks whether the leader's vertex is held
-led : (c : After-has_bit) → let a = (c.args) in c.has_bit.result
+led : (c : After-has_bit) → let a = c.args in c.has_bit.result
     ≡ held (vertices a.state.now) a.q (leader_at a.n a.q a.i)
 led c =
     let L = c.requires.0 in

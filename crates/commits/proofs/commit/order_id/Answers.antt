@@ -19,7 +19,8 @@ fresh c = sym (ordered (goal.at.Else-has_bit c).After-has_bit-2) ∙ c.if-has_bi
 
 pub enter_id-requires : goal.enter_id-requires
 enter_id-requires c =
-    let space = enter_fits c.args.state.now c.args.id c.requires.0 (omega arith) (omega arith) c.requires.3 (fresh (goal.at.enter_id-requires c).Else-has_bit) in
+    let space = enter_fits c.args.state.now c.args.id c.requires.0 (omega arith) (omega arith) c.requires.3
+    (fresh (goal.at.enter_id-requires c).Else-has_bit) in
     search rules
 
 pub returns : goal.returns

@@ -24,9 +24,6 @@ returns c =
     let e : c.loop-r.r ≡ id_round c.args.id = omega arith in
     (known (goal.at.returns c).Start).done _ (rw e at c.loop-r.invariant.1)
 
-pub history_of-masks-requires : goal.history_of-masks-requires
-history_of-masks-requires c = search rules
-
 pub loop-r-init : goal.loop-r-init
 loop-r-init c = (omega arith, (known (goal.at.loop-r-init c).Start).begun)
 

@@ -1,7 +1,6 @@
 use Rattle.commits.proofs.Laws.{join_round_none, join_round_in, join_round_out}
 use mathlib.Core.Path.{◌≡◌, sym, ◌∙◌}
 use native.Mathlib.Omega.{arith}
-use borrow.Author.Rules.{rules}
 use Rattle.commits.proofs.history.join_round.Goals as goal
 use Rattle.commits.proofs.history.join_round.Goals.{then-has_bit, else-has_bit}
 
@@ -21,9 +20,3 @@ returns c =
 
 pub loop-p-init : goal.loop-p-init
 loop-p-init c = (omega arith, join_round_none _ _ _ _)
-
-pub has_bit-requires : goal.has_bit-requires
-has_bit-requires c = search rules
-
-pub join_parents-requires : goal.join_parents-requires
-join_parents-requires c = search rules

@@ -5,7 +5,7 @@ use borrow.Author.Rules.{rules}
 use Rattle.commits.proofs.history.join_weak.Goals as goal
 use Rattle.commits.proofs.history.join_weak.Goals.{After-cell_at-at, In-loop-i}
 
-known : (c : After-cell_at-at) → let a = (c.args) in
+known : (c : After-cell_at-at) → let a = c.args in
     Cell a.state.now a.round a.member c.cell_at-at.result
 known c =
     cell_known _ c.requires.0 _ _ _ c.requires.1 c.requires.2 c.requires.3 c.cell_at-at.ensures

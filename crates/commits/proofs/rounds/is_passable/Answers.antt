@@ -23,16 +23,19 @@ led c =
     rw (c.mask_of.ensures, c.leader_of.ensures) at c.has.ensures
 
 pub returns-then-not-meets_quorum : goal.returns-then-not-meets_quorum
-returns-then-not-meets_quorum c = passable_few _ _ _ c.requires.0.members (sym (many (goal.at.returns-then-not-meets_quorum c).After-meets_quorum) ∙ c.if-not-meets_quorum.true)
+returns-then-not-meets_quorum c =
+    passable_few _ _ _ c.requires.0.members (sym (many (goal.at.returns-then-not-meets_quorum c).After-meets_quorum) ∙ c.if-not-meets_quorum.true)
 
 pub has-requires : goal.has-requires
 has-requires c = let small = leader_small c.args.n c.args.round (omega arith) in search rules
 
 pub returns-then-has : goal.returns-then-has
 returns-then-has c =
-    passable_led _ _ _ c.requires.0.members (sym (many (goal.at.returns-then-has c).After-meets_quorum) ∙ c.if-not-meets_quorum.false) (sym (led (goal.at.returns-then-has c).After-has) ∙ c.if-has.true)
+    passable_led _ _ _ c.requires.0.members (sym (many (goal.at.returns-then-has c).After-meets_quorum) ∙ c.if-not-meets_quorum.false)
+    (sym (led (goal.at.returns-then-has c).After-has) ∙ c.if-has.true)
 
 pub returns : goal.returns
 returns c =
     (rw c.mask_of-2.ensures at c.meets_quorum-2.ensures) ∙ meets_law _ _ _ c.requires.0.quorum_of
-    ∙ passable_late _ _ _ c.requires.0.members (sym (many (goal.at.returns c).After-meets_quorum) ∙ c.if-not-meets_quorum.false) (sym (led (goal.at.returns c).After-has) ∙ c.if-has.false)
+    ∙ passable_late _ _ _ c.requires.0.members (sym (many (goal.at.returns c).After-meets_quorum) ∙ c.if-not-meets_quorum.false)
+    (sym (led (goal.at.returns c).After-has) ∙ c.if-has.false)

@@ -1,7 +1,6 @@
 use Rattle.commits.proofs.Laws.{cell_known, parents_none, parents_in_lem, parents_out}
 use mathlib.Core.Path.{◌≡◌, sym, ◌∙◌}
 use native.Mathlib.Omega.{arith}
-use borrow.Author.Rules.{rules}
 use Rattle.commits.proofs.walk.parents_of.Goals as goal
 use Rattle.commits.proofs.walk.parents_of.Goals.{then-has_bit, else-has_bit}
 
@@ -22,12 +21,3 @@ returns c =
 
 pub loop-p-init : goal.loop-p-init
 loop-p-init c = (omega arith, parents_none _ _ _)
-
-pub has_bit-requires : goal.has_bit-requires
-has_bit-requires c = search rules
-
-pub cell_at-at-requires : goal.cell_at-at-requires
-cell_at-at-requires c = search rules
-
-pub bounds-state-at : goal.bounds-state-at
-bounds-state-at c = search rules

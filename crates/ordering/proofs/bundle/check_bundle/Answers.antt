@@ -31,7 +31,8 @@ pub returns-then-not-is_within : goal.returns-then-not-is_within
 returns-then-not-is_within c = search bundle_wide
 
 pub mask_of-noted-requires : goal.mask_of-noted-requires
-mask_of-noted-requires c = let a = size (goal.at.mask_of-noted-requires c).Else-number-ne0 in let b = range (goal.at.mask_of-noted-requires c).Else-not-is_round in search rules
+mask_of-noted-requires c =
+    let a = size (goal.at.mask_of-noted-requires c).Else-number-ne0 in let b = range (goal.at.mask_of-noted-requires c).Else-not-is_round in search rules
 
 pub returns-then-noted-mask : goal.returns-then-noted-mask
 returns-then-noted-mask c = search bundle_again

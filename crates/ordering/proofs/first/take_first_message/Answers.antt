@@ -18,22 +18,23 @@ abbrev after : Start → List Question
 after s = hearing_questions (s.args.state.now) (member_count (s.args.state.now)) (s.args.rec.now)
 
 -- the state's questions are passed
-state : (c : Else-number-ne0) → WellFormed (c.args.state.now)
+state : (c : Else-number-ne0) → WellFormed c.args.state.now
 state c = state_formed _ _ c.check_state-why.ensures (cc)
 
 -- so those of the message decide
 asked : (c : After-check_first-refused) → c.check_first-refused.result
-    ≡ first_no (first_questions (c.args.state.now) (round_of (c.args.rec.now)) (source_of (c.args.rec.now)) (body_of (c.args.rec.now)))
+    ≡ first_no (first_questions c.args.state.now (round_of c.args.rec.now) (source_of c.args.rec.now) (body_of c.args.rec.now))
 asked c =
-    state_past (c.args.state.now) _ c.check_state-why.ensures (after (goal.at.After-check_first-refused c).Start) (cc) _ c.check_first-refused.ensures
+    state_past c.args.state.now _ c.check_state-why.ensures (after (goal.at.After-check_first-refused c).Start) (cc) _ c.check_first-refused.ensures
 
 -- and stopped nothing
-known : (c : Else-number-ne0-2) → FirstTaken (c.args.state.now) (c.args.rec.now)
+known : (c : Else-number-ne0-2) → FirstTaken c.args.state.now c.args.rec.now
 known c = first_taken _ _ _ (asked (goal.at.Else-number-ne0-2 c).After-check_first-refused) (cc)
 
 pub returns-then-number-ne0 : goal.returns-then-number-ne0
 returns-then-number-ne0 c =
-    first_refused (c.args.state.now) (c.args.rec.now) _ (state_stops (c.args.state.now) _ c.check_state-why.ensures (after (goal.at.returns-then-number-ne0 c).Start) (λ d. c.if-number-ne0.true (cc)))
+    first_refused c.args.state.now c.args.rec.now _
+    (state_stops c.args.state.now _ c.check_state-why.ensures (after (goal.at.returns-then-number-ne0 c).Start) (λ d. c.if-number-ne0.true (cc)))
     (λ d. c.if-number-ne0.true (cc)) _ c.refuse.ensures
 
 pub bounds-state-0 : goal.bounds-state-0
@@ -44,7 +45,8 @@ check_first-refused-requires c = let k = state (goal.at.check_first-refused-requ
 
 pub returns-then-number-ne0-2 : goal.returns-then-number-ne0-2
 returns-then-number-ne0-2 c =
-    first_refused (c.args.state.now) (c.args.rec.now) _ (asked (goal.at.returns-then-number-ne0-2 c).After-check_first-refused) (λ d. c.if-number-ne0-2.true (cc)) _ c.refuse-then-number-ne0-2.ensures
+    first_refused c.args.state.now c.args.rec.now _ (asked (goal.at.returns-then-number-ne0-2 c).After-check_first-refused)
+    (λ d. c.if-number-ne0-2.true (cc)) _ c.refuse-then-number-ne0-2.ensures
 
 pub bounds-rec-0 : goal.bounds-rec-0
 bounds-rec-0 c = let k = known (goal.at.bounds-rec-0 c).Else-number-ne0-2 in search rules

@@ -11,20 +11,22 @@ abbrev mask : Start → ℕ
 mask s = mask_of (s.args.state.now) s.args.kind s.args.round
 
 -- the state's questions are passed
-state : (c : Else-number-ne0) → let s : Start = (goal.at.Else-number-ne0 c).Start in NoteKnown (c.args.state.now) c.args.round c.args.signer (mask s)
+state : (c : Else-number-ne0) → let s : Start = (goal.at.Else-number-ne0 c).Start in NoteKnown c.args.state.now c.args.round c.args.signer (mask s)
 state c = note_known _ _ _ _ _ c.check_state-why.ensures (cc)
 
 -- and those of the signer
-known : (c : Else-number-ne0-2) → let s : Start = (goal.at.Else-number-ne0-2 c).Start in SignerKnown (c.args.state.now) c.args.round c.args.signer (mask s)
+known : (c : Else-number-ne0-2) → let s : Start = (goal.at.Else-number-ne0-2 c).Start in SignerKnown c.args.state.now c.args.round c.args.signer (mask s)
 known c =
     signer_known _ _ _ _ _ c.check_state-why.ensures (cc) _ c.check_signer-refused.ensures (cc)
 
 pub returns-then-number-ne0 : goal.returns-then-number-ne0
 returns-then-number-ne0 c =
-    let s : Start = (goal.at.returns-then-number-ne0 c).Start in note_state (c.args.state.now) c.args.round c.args.signer (mask s) _ c.check_state-why.ensures (λ d. c.if-number-ne0.true (cc))
+    let s : Start = (goal.at.returns-then-number-ne0 c).Start in
+    note_state c.args.state.now c.args.round c.args.signer (mask s) _ c.check_state-why.ensures (λ d. c.if-number-ne0.true (cc))
 
 pub returns-then-number-ne0-2 : goal.returns-then-number-ne0-2
-returns-then-number-ne0-2 c = (state (goal.at.returns-then-number-ne0-2 c).Else-number-ne0).stopped _ c.check_signer-refused.ensures (λ d. c.if-number-ne0-2.true (cc))
+returns-then-number-ne0-2 c =
+    (state (goal.at.returns-then-number-ne0-2 c).Else-number-ne0).stopped _ c.check_signer-refused.ensures (λ d. c.if-number-ne0-2.true (cc))
 
 pub bounds-state-0 : goal.bounds-state-0
 bounds-state-0 c = let k = state (goal.at.bounds-state-0 c).Else-number-ne0 in search rules

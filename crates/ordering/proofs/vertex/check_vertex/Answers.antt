@@ -12,12 +12,13 @@ abbrev rest : Start → List Question
 rest s = place_questions (s.args.state.now) (round_of (s.args.rec.now)) (source_of (s.args.rec.now)) (body_of (s.args.rec.now))
 
 -- the record's questions are passed
-known : (c : Else-number-ne0) → let s : Start = (goal.at.Else-number-ne0 c).Start in RecordKnown c.args.n (c.args.rec.now) (rest s)
+known : (c : Else-number-ne0) → let s : Start = (goal.at.Else-number-ne0 c).Start in RecordKnown c.args.n c.args.rec.now (rest s)
 known c = record_known _ _ _ _ c.check-why.ensures (cc)
 
 pub returns-then-number-ne0 : goal.returns-then-number-ne0
 returns-then-number-ne0 c =
-    let s : Start = (goal.at.returns-then-number-ne0 c).Start in record_stops c.args.n (c.args.rec.now) (rest s) _ c.check-why.ensures (λ d. c.if-number-ne0.true (cc))
+    let s : Start = (goal.at.returns-then-number-ne0 c).Start in
+    record_stops c.args.n c.args.rec.now (rest s) _ c.check-why.ensures (λ d. c.if-number-ne0.true (cc))
 
 pub bounds-rec-0 : goal.bounds-rec-0
 bounds-rec-0 c = let k = known (goal.at.bounds-rec-0 c).Else-number-ne0 in search rules

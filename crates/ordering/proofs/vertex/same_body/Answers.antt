@@ -22,9 +22,8 @@ loop-i-init c = (omega arith, all_none _)
 pub returns-then-state-at : goal.returns-then-state-at
 unfolding same_body
 returns-then-state-at c =
-    let t : ℕ
-    → Bool = λ k. eqb (get_or c.args.state.now (cell_at c.args.round c.args.member + k) 0) (get_or c.args.body.now k
-    0) in
+    let t : ℕ → Bool =
+    λ k. eqb (get_or c.args.state.now (cell_at c.args.round c.args.member + k) 0) (get_or c.args.body.now k 0) in
     sym (all_stop body_size t c.loop-i.i c.loop-i-test.true (ne_eqb _ _ (rw c.cell_at-at.ensures at c.if-state-at.true)))
 
 pub loop-i-preserved : goal.loop-i-preserved

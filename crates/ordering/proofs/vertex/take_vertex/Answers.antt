@@ -14,21 +14,23 @@ use Rattle.ordering.proofs.vertex.take_vertex.Goals.{After-check_vertex-refused,
 
 -- the questions after those of the state
 abbrev after : Start → List Question
-after s = admission_questions (s.args.state.now) (member_count (s.args.state.now)) (round_of (s.args.rec.now)) (source_of (s.args.rec.now)) (body_of (s.args.rec.now))
+after s =
+    admission_questions (s.args.state.now) (member_count (s.args.state.now)) (round_of (s.args.rec.now)) (source_of (s.args.rec.now)) (body_of (s.args.rec.now))
 
 -- the state's questions are passed
-state : (c : Else-number-ne0) → WellFormed (c.args.state.now)
+state : (c : Else-number-ne0) → WellFormed c.args.state.now
 state c = state_formed _ _ c.check_state-why.ensures (cc)
 
 -- so those of the vertex decide
 asked : (c : After-check_vertex-refused) → c.check_vertex-refused.result
-    ≡ first_no (vertex_questions (c.args.state.now) (round_of (c.args.rec.now)) (source_of (c.args.rec.now)) (body_of (c.args.rec.now)))
+    ≡ first_no (vertex_questions c.args.state.now (round_of c.args.rec.now) (source_of c.args.rec.now) (body_of c.args.rec.now))
 asked c =
-    state_past (c.args.state.now) _ c.check_state-why.ensures (after (goal.at.After-check_vertex-refused c).Start) (cc) _ c.check_vertex-refused.ensures
+    state_past c.args.state.now _ c.check_state-why.ensures (after (goal.at.After-check_vertex-refused c).Start) (cc) _ c.check_vertex-refused.ensures
 
 pub returns-then-number-ne0 : goal.returns-then-number-ne0
 returns-then-number-ne0 c =
-    vertex_refused (c.args.state.now) (c.args.rec.now) _ (state_stops (c.args.state.now) _ c.check_state-why.ensures (after (goal.at.returns-then-number-ne0 c).Start) (λ d. c.if-number-ne0.true (cc)))
+    vertex_refused c.args.state.now c.args.rec.now _
+    (state_stops c.args.state.now _ c.check_state-why.ensures (after (goal.at.returns-then-number-ne0 c).Start) (λ d. c.if-number-ne0.true (cc)))
     (λ d. c.if-number-ne0.true (cc)) _ c.refuse.ensures
 
 pub bounds-state-0 : goal.bounds-state-0
@@ -39,11 +41,13 @@ check_vertex-refused-requires c = let k = state (goal.at.check_vertex-refused-re
 
 pub returns-then-number-ne0-2 : goal.returns-then-number-ne0-2
 returns-then-number-ne0-2 c =
-    vertex_refused (c.args.state.now) (c.args.rec.now) _ (asked (goal.at.returns-then-number-ne0-2 c).After-check_vertex-refused) (λ d. c.if-number-ne0-2.true (cc)) _ c.refuse-then-number-ne0-2.ensures
+    vertex_refused c.args.state.now c.args.rec.now _ (asked (goal.at.returns-then-number-ne0-2 c).After-check_vertex-refused)
+    (λ d. c.if-number-ne0-2.true (cc)) _ c.refuse-then-number-ne0-2.ensures
 
 pub admit_vertex-requires : goal.admit_vertex-requires
 admit_vertex-requires c =
-    let a : After-check_vertex-refused = (goal.at.admit_vertex-requires c).After-check_vertex-refused in record { members = refl; quorum = c.quorum_of-quorum.ensures; passed = ap number_of (sym (asked a)) ∙ cc }
+    let a : After-check_vertex-refused = (goal.at.admit_vertex-requires c).After-check_vertex-refused in
+    record { members = refl; quorum = c.quorum_of-quorum.ensures; passed = ap number_of (sym (asked a)) ∙ cc }
 
 pub returns : goal.returns
 returns c = c.admit_vertex.ensures

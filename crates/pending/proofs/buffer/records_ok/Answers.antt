@@ -11,30 +11,33 @@ use Rattle.pending.proofs.buffer.records_ok.Goals.{After-id_of-id, After-number}
 
 pub loop-j-init : goal.loop-j-init
 loop-j-init c =
-    (omega arith, refl, ap (records_ok c.args.n 0) (records_all (c.args.buffer.now) (count_of (c.args.buffer.now))))
+    (omega arith, refl, ap (records_ok c.args.n 0) (records_all c.args.buffer.now (count_of c.args.buffer.now)))
 
 -- the questions are asked of the record in slot j
-asked : (c : After-number) → c.number.result ≡ number_of (record_refusal c.args.n (record_at (c.args.buffer.now) c.loop-j.j))
+asked : (c : After-number) → c.number.result ≡ number_of (record_refusal c.args.n (record_at c.args.buffer.now c.loop-j.j))
 asked c =
-    c.number.ensures ∙ ap number_of (c.check.ensures ∙ ap (record_refusal c.args.n) (slot_part (c.args.buffer.now) _ _ c.slot_at-at.ensures))
+    c.number.ensures ∙ ap number_of (c.check.ensures ∙ ap (record_refusal c.args.n) (slot_part c.args.buffer.now _ _ c.slot_at-at.ensures))
 
 -- and its id is known
-known : (c : After-id_of-id) → c.id_of-id.result ≡ record_id (record_at (c.args.buffer.now) c.loop-j.j)
+known : (c : After-id_of-id) → c.id_of-id.result ≡ record_id (record_at c.args.buffer.now c.loop-j.j)
 known c =
-    c.id_of-id.ensures ∙ ap record_id (slot_part (c.args.buffer.now) _ _ c.slot_at-at.ensures)
+    c.id_of-id.ensures ∙ ap record_id (slot_part c.args.buffer.now _ _ c.slot_at-at.ensures)
 
 pub returns-then-number-ne0 : goal.returns-then-number-ne0
 returns-then-number-ne0 c =
-    let m : After-number = (goal.at.returns-then-number-ne0 c).After-number in sym (ok_refused c.args.n c.loop-j.last (c.args.buffer.now) c.loop-j.j _ (omega arith) (λ d. c.if-number-ne0.true (asked m ∙ d)))
+    let m : After-number = (goal.at.returns-then-number-ne0 c).After-number in
+    sym (ok_refused c.args.n c.loop-j.last c.args.buffer.now c.loop-j.j _ (omega arith) (λ d. c.if-number-ne0.true (asked m ∙ d)))
     ∙ c.loop-j.invariant.2
 
 pub id_of-id-requires : goal.id_of-id-requires
 id_of-id-requires c =
-    let m : After-number = (goal.at.id_of-id-requires c).After-number in rw (slot_part (c.args.buffer.now) _ _ c.slot_at-at.ensures) (bounded c.args.n _ c.requires.1 (sym (asked m) ∙ cc))
+    let m : After-number = (goal.at.id_of-id-requires c).After-number in
+    rw (slot_part c.args.buffer.now _ _ c.slot_at-at.ensures) (bounded c.args.n _ c.requires.1 (sym (asked m) ∙ cc))
 
 pub returns-then-id-last : goal.returns-then-id-last
 returns-then-id-last c =
-    let i : After-id_of-id = (goal.at.returns-then-id-last c).After-id_of-id in sym (ok_low c.args.n c.loop-j.last (c.args.buffer.now) c.loop-j.j _ (omega arith) (omega (arith, known i)))
+    let i : After-id_of-id = (goal.at.returns-then-id-last c).After-id_of-id in
+    sym (ok_low c.args.n c.loop-j.last c.args.buffer.now c.loop-j.j _ (omega arith) (omega (arith, known i)))
     ∙ c.loop-j.invariant.2
 
 pub loop-j-preserved : goal.loop-j-preserved
@@ -42,11 +45,11 @@ loop-j-preserved c =
     let m : After-number = (goal.at.loop-j-preserved c).After-number in let i : After-id_of-id = (goal.at.loop-j-preserved c).After-id_of-id in (
       omega arith,
       c.loop-j.invariant.1,
-      ap (λ (x : ℕ). records_ok c.args.n x (records_from (c.args.buffer.now) (c.loop-j.j + 1) (count_of (c.args.buffer.now) - (c.loop-j.j + 1)))) (known i)
-          ∙ ok_next c.args.n c.loop-j.last (c.args.buffer.now) c.loop-j.j _ (omega arith) (sym (asked m) ∙ cc) (omega (arith, known i))
+      ap (λ (x : ℕ). records_ok c.args.n x (records_from c.args.buffer.now (c.loop-j.j + 1) (count_of c.args.buffer.now - (c.loop-j.j + 1)))) (known i)
+          ∙ ok_next c.args.n c.loop-j.last c.args.buffer.now c.loop-j.j _ (omega arith) (sym (asked m) ∙ cc) (omega (arith, known i))
           ∙ c.loop-j.invariant.2,
     )
 
 pub returns : goal.returns
 returns c =
-    sym (ok_end c.args.n c.loop-j.last (c.args.buffer.now) c.loop-j.j _ (omega arith)) ∙ c.loop-j.invariant.2
+    sym (ok_end c.args.n c.loop-j.last c.args.buffer.now c.loop-j.j _ (omega arith)) ∙ c.loop-j.invariant.2

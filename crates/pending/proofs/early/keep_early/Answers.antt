@@ -14,43 +14,46 @@ use Rattle.pending.proofs.early.keep_early.Goals.{After-rank_of-j, Else-has_id, 
 
 pub returns-then-not-is_missing : goal.returns-then-not-is_missing
 returns-then-not-is_missing c =
-    early_other (c.args.buffer.now) (c.args.rec.now) c.args.why (failed c.is_missing.ensures (cc))
+    early_other c.args.buffer.now c.args.rec.now c.args.why (failed c.is_missing.ensures (cc))
 
 -- a parent is missing
 missing : (c : Else-not-is_missing) → is_missing c.args.why ≡ true
 missing c = passed c.is_missing.ensures (cc)
 
 -- so the buffer is well formed
-sound : (c : Else-not-is_missing) → Sound (c.args.buffer.now)
+sound : (c : Else-not-is_missing) → Sound c.args.buffer.now
 sound c = c.requires.sound (missing c)
 
-F : (c : Else-not-is_missing) → Formed (sound c).members (c.args.buffer.now)
+F : (c : Else-not-is_missing) → Formed (sound c).members c.args.buffer.now
 F c = formed _ _ (sound c).formed
 
 -- and slot j is the record's place
-place : (c : After-rank_of-j) → PlaceOf (c.args.buffer.now) c.rank_of-j.result (c.args.rec.now)
+place : (c : After-rank_of-j) → PlaceOf c.args.buffer.now c.rank_of-j.result c.args.rec.now
 place c =
-    let e : Else-not-is_missing = (goal.at.After-rank_of-j c).Else-not-is_missing in record { sound = sound e; bounded = c.requires.bounded (missing e); place = c.rank_of-j.ensures ∙ ap (rank (records_in (c.args.buffer.now))) c.id_of.ensures }
+    let e : Else-not-is_missing = (goal.at.After-rank_of-j c).Else-not-is_missing in
+    record { sound = sound e; bounded = c.requires.bounded (missing e); place = c.rank_of-j.ensures ∙ ap (rank (records_in c.args.buffer.now)) c.id_of.ensures }
 
 -- the same record does not wait
-other : (c : Else-has_record) → some (same_record (c.args.rec.now)) (records_in (c.args.buffer.now)) ≡ false
+other : (c : Else-has_record) → some (same_record c.args.rec.now) (records_in c.args.buffer.now) ≡ false
 other c = sym c.has_record.ensures ∙ cc
 
 -- nor one of its id
-new : (c : Else-has_id) → some (same_id (c.args.rec.now)) (records_in (c.args.buffer.now)) ≡ false
+new : (c : Else-has_id) → some (same_id c.args.rec.now) (records_in c.args.buffer.now) ≡ false
 new c = sym c.has_id.ensures ∙ cc
 
 pub returns-then-has_record : goal.returns-then-has_record
 returns-then-has_record c =
-    early_same (c.args.buffer.now) (c.args.rec.now) c.args.why (missing (goal.at.returns-then-has_record c).Else-not-is_missing) (sym c.has_record.ensures ∙ cc)
+    early_same c.args.buffer.now c.args.rec.now c.args.why (missing (goal.at.returns-then-has_record c).Else-not-is_missing) (sym c.has_record.ensures ∙ cc)
 
 pub returns-then-has_id : goal.returns-then-has_id
 returns-then-has_id c =
-    early_id (c.args.buffer.now) (c.args.rec.now) c.args.why (missing (goal.at.returns-then-has_id c).Else-not-is_missing) (other (goal.at.returns-then-has_id c).Else-has_record) (sym c.has_id.ensures ∙ cc)
+    early_id c.args.buffer.now c.args.rec.now c.args.why (missing (goal.at.returns-then-has_id c).Else-not-is_missing)
+    (other (goal.at.returns-then-has_id c).Else-has_record) (sym c.has_id.ensures ∙ cc)
 
 pub returns-then-buffer-eq-BUFFER_SLOTS : goal.returns-then-buffer-eq-BUFFER_SLOTS
 returns-then-buffer-eq-BUFFER_SLOTS c =
-    early_full (c.args.buffer.now) (c.args.rec.now) c.args.why (missing (goal.at.returns-then-buffer-eq-BUFFER_SLOTS c).Else-not-is_missing) (other (goal.at.returns-then-buffer-eq-BUFFER_SLOTS c).Else-has_record) (new (goal.at.returns-then-buffer-eq-BUFFER_SLOTS c).Else-has_id) (omega arith)
+    early_full c.args.buffer.now c.args.rec.now c.args.why (missing (goal.at.returns-then-buffer-eq-BUFFER_SLOTS c).Else-not-is_missing)
+    (other (goal.at.returns-then-buffer-eq-BUFFER_SLOTS c).Else-has_record) (new (goal.at.returns-then-buffer-eq-BUFFER_SLOTS c).Else-has_id) (omega arith)
 
 pub put_in-requires : goal.put_in-requires
 put_in-requires c = let f = (F (goal.at.put_in-requires c).Else-not-is_missing).few in (place (goal.at.put_in-requires c).After-rank_of-j, omega arith)
@@ -58,7 +61,8 @@ put_in-requires c = let f = (F (goal.at.put_in-requires c).Else-not-is_missing).
 pub returns : goal.returns
 returns c =
     let f = (F (goal.at.returns c).Else-not-is_missing).few in
-    early_put (c.args.buffer.now) (c.args.rec.now) c.args.why (missing (goal.at.returns c).Else-not-is_missing) (other (goal.at.returns c).Else-has_record) (new (goal.at.returns c).Else-has_id) (omega arith) _ c.put_in.ensures
+    early_put c.args.buffer.now c.args.rec.now c.args.why (missing (goal.at.returns c).Else-not-is_missing) (other (goal.at.returns c).Else-has_record)
+    (new (goal.at.returns c).Else-has_id) (omega arith) _ c.put_in.ensures
 
 pub id_of-requires : goal.id_of-requires
 id_of-requires c = c.requires.bounded (missing c)

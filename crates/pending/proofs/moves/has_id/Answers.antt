@@ -15,16 +15,18 @@ F s = formed _ _ s.requires.sound.formed
 
 pub returns-then-j-buffer : goal.returns-then-j-buffer
 returns-then-j-buffer c =
-    let s : Start = (goal.at.returns-then-j-buffer c).Start in none_there _ (c.args.buffer.now) (c.args.rec.now) c.args.j (F s) c.requires.place (same_id (c.args.rec.now)) (tells_id (c.args.rec.now)) (omega arith)
+    let s : Start = (goal.at.returns-then-j-buffer c).Start in
+    none_there _ c.args.buffer.now c.args.rec.now c.args.j (F s) c.requires.place (same_id c.args.rec.now) (tells_id c.args.rec.now) (omega arith)
 
 pub id_of-requires-2 : goal.id_of-requires-2
 id_of-requires-2 c =
-    rw (slot_part (c.args.buffer.now) _ _ c.slot_at-at.ensures) (slot_bounded (c.args.buffer.now) c.args.j c.requires.sound (omega arith))
+    rw (slot_part c.args.buffer.now _ _ c.slot_at-at.ensures) (slot_bounded c.args.buffer.now c.args.j c.requires.sound (omega arith))
 
 pub returns : goal.returns
 returns c =
-    let s : Start = (goal.at.returns c).Start in ap₂ eqb c.id_of.ensures (c.id_of-2.ensures ∙ ap record_id (slot_part (c.args.buffer.now) _ _ c.slot_at-at.ensures))
-    ∙ one_there _ (c.args.buffer.now) (c.args.rec.now) c.args.j (F s) c.requires.place (same_id (c.args.rec.now)) (tells_id (c.args.rec.now)) (omega arith)
+    let s : Start = (goal.at.returns c).Start in
+    ap₂ eqb c.id_of.ensures (c.id_of-2.ensures ∙ ap record_id (slot_part c.args.buffer.now _ _ c.slot_at-at.ensures))
+    ∙ one_there _ c.args.buffer.now c.args.rec.now c.args.j (F s) c.requires.place (same_id c.args.rec.now) (tells_id c.args.rec.now) (omega arith)
 
 pub bounds-buffer-0 : goal.bounds-buffer-0
 bounds-buffer-0 c = let f = F (goal.at.bounds-buffer-0 c).Start in search rules

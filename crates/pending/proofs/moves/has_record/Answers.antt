@@ -14,12 +14,13 @@ F s = formed _ _ s.requires.sound.formed
 
 pub returns-then-j-buffer : goal.returns-then-j-buffer
 returns-then-j-buffer c =
-    let s : Start = (goal.at.returns-then-j-buffer c).Start in none_there _ (c.args.buffer.now) (c.args.rec.now) c.args.j (F s) c.requires.place (same_record (c.args.rec.now)) (tells_same (c.args.rec.now)) (omega arith)
+    let s : Start = (goal.at.returns-then-j-buffer c).Start in
+    none_there _ c.args.buffer.now c.args.rec.now c.args.j (F s) c.requires.place (same_record c.args.rec.now) (tells_same c.args.rec.now) (omega arith)
 
 pub returns : goal.returns
 returns c =
-    let s : Start = (goal.at.returns c).Start in c.same_record.ensures ∙ ap (same_record (c.args.rec.now)) (slot_part (c.args.buffer.now) _ _ c.slot_at-at.ensures)
-    ∙ one_there _ (c.args.buffer.now) (c.args.rec.now) c.args.j (F s) c.requires.place (same_record (c.args.rec.now)) (tells_same (c.args.rec.now)) (omega arith)
+    let s : Start = (goal.at.returns c).Start in c.same_record.ensures ∙ ap (same_record c.args.rec.now) (slot_part c.args.buffer.now _ _ c.slot_at-at.ensures)
+    ∙ one_there _ c.args.buffer.now c.args.rec.now c.args.j (F s) c.requires.place (same_record c.args.rec.now) (tells_same c.args.rec.now) (omega arith)
 
 pub bounds-buffer-0 : goal.bounds-buffer-0
 bounds-buffer-0 c = let f = F (goal.at.bounds-buffer-0 c).Start in search rules

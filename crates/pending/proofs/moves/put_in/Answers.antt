@@ -16,10 +16,17 @@ F s = formed _ _ s.requires.0.sound.formed
 
 -- the slot is not above the count
 fits : (s : Start) → s.args.j ≤ count_of (s.args.buffer.now)
-fits s = omega (arith, s.requires.0.place, rank_le (records_in (s.args.buffer.now)) (record_id s.args.rec.now), records_length (s.args.buffer.now) 0 (count_of (s.args.buffer.now)))
+fits s =
+    omega (
+      arith,
+      s.requires.0.place,
+      rank_le (records_in (s.args.buffer.now)) (record_id s.args.rec.now),
+      records_length (s.args.buffer.now) 0
+          (count_of (s.args.buffer.now)),
+    )
 
 pub loop-i-init : goal.loop-i-init
-loop-i-init c = let s : Start = (goal.at.loop-i-init c).Start in (fits s, omega arith, refl, moved_none _ (c.args.buffer.now) (F s))
+loop-i-init c = let s : Start = (goal.at.loop-i-init c).Start in (fits s, omega arith, refl, moved_none _ c.args.buffer.now (F s))
 
 pub copy_slot-requires : goal.copy_slot-requires
 copy_slot-requires c =
@@ -33,7 +40,7 @@ loop-i-preserved c =
       omega arith,
       omega arith,
       c.loop-i.invariant.2,
-      moved_more (c.args.buffer.now) c.loop-i.buffer _ (c.loop-i.i - 1) (count_of (c.args.buffer.now)) (rw n c.loop-i.invariant.3) (omega arith) c.requires.1
+      moved_more c.args.buffer.now c.loop-i.buffer _ (c.loop-i.i - 1) (count_of c.args.buffer.now) (rw n c.loop-i.invariant.3) (omega arith) c.requires.1
           (rw n c.copy_slot.ensures),
     )
 
@@ -43,12 +50,13 @@ write_slot-requires c =
 
 pub shape_of-buffer : goal.shape_of-buffer
 shape_of-buffer c =
-    let s : Start = (goal.at.shape_of-buffer c).Start in length-set c.write_slot.new.buffer count_place _ ∙ c.write_slot.auto.buffer ∙ c.loop-i.invariant.3.size ∙ sym (F s).size
+    let s : Start = (goal.at.shape_of-buffer c).Start in length-set c.write_slot.new.buffer count_place _ ∙ c.write_slot.auto.buffer
+    ∙ c.loop-i.invariant.3.size ∙ sym (F s).size
 
 pub returns : goal.returns
 returns c =
     let s : Start = (goal.at.returns c).Start in let e : c.loop-i.i ≡ c.args.j = omega arith in
-    put_done _ (c.args.buffer.now) c.loop-i.buffer _ c.args.rec.now c.args.j (F s) (rw e at c.loop-i.invariant.3) c.requires.1 (fits s) c.requires.0.bounded.size
+    put_done _ c.args.buffer.now c.loop-i.buffer _ c.args.rec.now c.args.j (F s) (rw e at c.loop-i.invariant.3) c.requires.1 (fits s) c.requires.0.bounded.size
     (rw c.write_slot.ensures) c.requires.0.place
 
 pub bounds-buffer-0 : goal.bounds-buffer-0

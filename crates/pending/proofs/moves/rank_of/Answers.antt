@@ -13,32 +13,34 @@ F s = formed _ _ s.requires.formed
 
 pub loop-j-init : goal.loop-j-init
 loop-j-init c =
-    let e = ap (λ recs. rank recs c.args.id) (records_all (c.args.buffer.now) (count_of (c.args.buffer.now))) in
+    let e = ap (λ recs. rank recs c.args.id) (records_all c.args.buffer.now (count_of c.args.buffer.now)) in
     (omega arith, refl, omega (arith, e))
 
 pub id_of-requires : goal.id_of-requires
 id_of-requires c =
-    rw (slot_part (c.args.buffer.now) _ _ c.slot_at-at.ensures) (slot_bounded (c.args.buffer.now) c.loop-j.j c.requires (omega arith))
+    rw (slot_part c.args.buffer.now _ _ c.slot_at-at.ensures) (slot_bounded c.args.buffer.now c.loop-j.j c.requires (omega arith))
 
 -- the id of the record in slot j
 known : (c : After-id_of)
-    → c.id_of.result ≡ record_id (record_at (c.args.buffer.now) c.loop-j.j)
+    → c.id_of.result ≡ record_id (record_at c.args.buffer.now c.loop-j.j)
 known c =
-    c.id_of.ensures ∙ ap record_id (slot_part (c.args.buffer.now) _ _ c.slot_at-at.ensures)
+    c.id_of.ensures ∙ ap record_id (slot_part c.args.buffer.now _ _ c.slot_at-at.ensures)
 
 pub returns-then-id_of-id : goal.returns-then-id_of-id
 returns-then-id_of-id c =
-    let i : After-id_of = (goal.at.returns-then-id_of-id c).After-id_of in let r = rank_here (c.args.buffer.now) c.loop-j.j (count_of (c.args.buffer.now)) c.args.id (omega arith) (omega (arith, known i)) in
+    let i : After-id_of = (goal.at.returns-then-id_of-id c).After-id_of in
+    let r = rank_here c.args.buffer.now c.loop-j.j (count_of c.args.buffer.now) c.args.id (omega arith) (omega (arith, known i)) in
     omega (arith, r, c.loop-j.invariant.2)
 
 pub loop-j-preserved : goal.loop-j-preserved
 loop-j-preserved c =
-    let i : After-id_of = (goal.at.loop-j-preserved c).After-id_of in let r = rank_next (c.args.buffer.now) c.loop-j.j (count_of (c.args.buffer.now)) c.args.id (omega arith) (omega (arith, known i)) in
+    let i : After-id_of = (goal.at.loop-j-preserved c).After-id_of in
+    let r = rank_next c.args.buffer.now c.loop-j.j (count_of c.args.buffer.now) c.args.id (omega arith) (omega (arith, known i)) in
     (omega arith, c.loop-j.invariant.1, omega (arith, r, c.loop-j.invariant.2))
 
 pub returns : goal.returns
 returns c =
-    let r = rank_none (c.args.buffer.now) c.loop-j.j (count_of (c.args.buffer.now)) c.args.id (omega arith) in
+    let r = rank_none c.args.buffer.now c.loop-j.j (count_of c.args.buffer.now) c.args.id (omega arith) in
     omega (arith, r, c.loop-j.invariant.2)
 
 pub bounds-buffer-0 : goal.bounds-buffer-0

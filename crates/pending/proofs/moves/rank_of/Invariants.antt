@@ -6,7 +6,8 @@ use Rattle.pending.specs.Inner.{rank}
 use Rattle.pending.proofs.moves.rank_of.Given as goal
 
 abbrev pub invariant-loop-j : goal.invariant-loop-j
-invariant-loop-j l = (l.j ≤ l.count) × (l.count ≡ count_of l.buffer) × (l.j + rank (records_from l.buffer l.j (l.count - l.j)) l.id ≡ rank (records_in l.buffer) l.id)
+invariant-loop-j l =
+    (l.j ≤ l.count) × (l.count ≡ count_of l.buffer) × (l.j + rank (records_from l.buffer l.j (l.count - l.j)) l.id ≡ rank (records_in l.buffer) l.id)
 
 abbrev pub decreases-loop-j : goal.decreases-loop-j
 decreases-loop-j l = l.count - l.j

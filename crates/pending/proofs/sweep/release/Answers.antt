@@ -26,7 +26,8 @@ loop-j-init c = let s : Start = (goal.at.loop-j-init c).Start in (omega arith, r
 
 pub sweep_one-kept-requires : goal.sweep_one-kept-requires
 sweep_one-kept-requires c =
-    let s : Start = (goal.at.sweep_one-kept-requires c).Start in going_trying c.args.n c.args.quorum (c.args.state.now) (c.args.buffer.now) c.loop-j.state c.loop-j.buffer c.loop-j.kept c.loop-j.j (F s) c.requires.0.quorum
+    let s : Start = (goal.at.sweep_one-kept-requires c).Start in
+    going_trying c.args.n c.args.quorum c.args.state.now c.args.buffer.now c.loop-j.state c.loop-j.buffer c.loop-j.kept c.loop-j.j (F s) c.requires.0.quorum
     c.loop-j.invariant.2 (omega arith)
 
 pub loop-j-preserved : goal.loop-j-preserved
@@ -34,7 +35,7 @@ loop-j-preserved c =
     let s : Start = (goal.at.loop-j-preserved c).Start in (
       omega arith,
       c.loop-j.invariant.1,
-      step c.args.n (c.args.state.now) (c.args.buffer.now) c.loop-j.state c.loop-j.buffer c.loop-j.kept c.loop-j.j (F s) c.loop-j.invariant.2 (omega arith) _ _ _
+      step c.args.n c.args.state.now c.args.buffer.now c.loop-j.state c.loop-j.buffer c.loop-j.kept c.loop-j.j (F s) c.loop-j.invariant.2 (omega arith) _ _ _
           c.sweep_one-kept.ensures,
     )
 
@@ -68,8 +69,9 @@ shape_of-buffer c =
 
 pub returns : goal.returns
 returns c =
-    let s : Start = (goal.at.returns c).Start in let b : After-slot_at-end = (goal.at.returns c).After-slot_at-end in let e : c.loop-j.j ≡ count_of (c.args.buffer.now) = omega arith in
-    sweep_done c.args.n (c.args.state.now) (c.args.buffer.now) c.loop-j.state c.loop-j.buffer _ _ c.loop-j.kept _ _ (F s) (G s) (rw e at c.loop-j.invariant.2)
+    let s : Start = (goal.at.returns c).Start in let b : After-slot_at-end = (goal.at.returns c).After-slot_at-end in
+    let e : c.loop-j.j ≡ count_of c.args.buffer.now = omega arith in
+    sweep_done c.args.n c.args.state.now c.args.buffer.now c.loop-j.state c.loop-j.buffer _ _ c.loop-j.kept _ _ (F s) (G s) (rw e at c.loop-j.invariant.2)
     c.slot_at-free.ensures c.slot_at-end.ensures (cleared c.loop-j.buffer c.clear.new.words _ _ (bounds b).0 (bounds b).1 c.clear.ensures) refl
 
 pub bounds-buffer-0 : goal.bounds-buffer-0

@@ -1,6 +1,5 @@
 -- Questions 9, 10, 12 and 18 in turn: laws of `Asking`.
 use Rattle.proposing.proofs.Asking.{draft_timeouts, draft_no_votes, draft_made, draft_first, draft_few, draft_done}
-use borrow.Author.Rules.{rules}
 use Rattle.proposing.proofs.making.check_draft.Goals as goal
 
 pub returns-then-not-quorum_if : goal.returns-then-not-quorum_if
@@ -8,9 +7,6 @@ returns-then-not-quorum_if c = search draft_timeouts
 
 pub returns-then-not-quorum_if-2 : goal.returns-then-not-quorum_if-2
 returns-then-not-quorum_if-2 c = search draft_no_votes
-
-pub bounds-state-6 : goal.bounds-state-6
-bounds-state-6 c = search rules
 
 pub returns-then-marks_round : goal.returns-then-marks_round
 returns-then-marks_round c = search draft_made

@@ -8,12 +8,12 @@ use Rattle.proposing.proofs.making.check_propose.Goals as goal
 use Rattle.proposing.proofs.making.check_propose.Goals.{Else-number-ne0, Else-round-gt-ROUNDS}
 
 -- the state is a member's
-known : (c : Else-number-ne0) → MemberKnown (c.args.state.now)
-known c = member_known (c.args.state.now) _ c.check_member-why.ensures (cc)
+known : (c : Else-number-ne0) → MemberKnown c.args.state.now
+known c = member_known c.args.state.now _ c.check_member-why.ensures (cc)
 
 -- and a record can be made for its current round
-ready : (c : Else-round-gt-ROUNDS) → Current (c.args.state.now) (member_count (c.args.state.now)) (current_round (c.args.state.now))
-ready c = current (c.args.state.now) (known (goal.at.Else-round-gt-ROUNDS c).Else-number-ne0) c.if-round-gt-ROUNDS.false
+ready : (c : Else-round-gt-ROUNDS) → Current c.args.state.now (member_count c.args.state.now) (current_round c.args.state.now)
+ready c = current c.args.state.now (known (goal.at.Else-round-gt-ROUNDS c).Else-number-ne0) c.if-round-gt-ROUNDS.false
 
 pub returns-then-number-ne0 : goal.returns-then-number-ne0
 returns-then-number-ne0 c = search propose_stopped

@@ -8,7 +8,7 @@ use Rattle.proposing.proofs.making.copied.Goals.{Else-not-wanted}
 
 -- the mask is wanted, so there is a round before
 known : (c : Else-not-wanted) → 2 ≤ c.args.round
-known c = c.requires.2 (c.if-not-wanted.false)
+known c = c.requires.2 c.if-not-wanted.false
 
 pub returns : goal.returns
 returns c =

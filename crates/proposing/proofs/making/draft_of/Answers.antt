@@ -7,15 +7,6 @@ pub lacks_leader-wants_timeouts-requires : goal.lacks_leader-wants_timeouts-requ
 lacks_leader-wants_timeouts-requires c =
     (terms_self _ _ _ c.terms_of-terms.ensures, c.requires.high)
 
-pub terms_of-terms-requires : goal.terms_of-terms-requires
-terms_of-terms-requires c = search rules
-
-pub bounds-state-5 : goal.bounds-state-5
-bounds-state-5 c = search rules
-
-pub leads-wants_no_votes-requires : goal.leads-wants_no_votes-requires
-leads-wants_no_votes-requires c = search rules
-
 pub copied-timeouts-requires : goal.copied-timeouts-requires
 copied-timeouts-requires c = let w = wanted_later _ _ _ _ c.lacks_leader-wants_timeouts.ensures in search rules
 

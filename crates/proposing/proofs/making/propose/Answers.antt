@@ -7,9 +7,9 @@ use Rattle.proposing.proofs.making.propose.Goals as goal
 use Rattle.proposing.proofs.making.propose.Goals.{Else-number-ne0}
 
 -- no question stopped the call
-ready : (c : Else-number-ne0) → Current (c.args.state.now) (member_count (c.args.state.now)) (current_round (c.args.state.now))
+ready : (c : Else-number-ne0) → Current c.args.state.now (member_count c.args.state.now) (current_round c.args.state.now)
 ready c =
-    propose_current (c.args.state.now) c.args.digest.now _ c.check_propose-why.ensures _ c.number.ensures c.if-number-ne0.false
+    propose_current c.args.state.now c.args.digest.now _ c.check_propose-why.ensures _ c.number.ensures c.if-number-ne0.false
 
 pub returns-then-number-ne0 : goal.returns-then-number-ne0
 returns-then-number-ne0 c = search propose_refused

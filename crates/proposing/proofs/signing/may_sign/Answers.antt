@@ -6,7 +6,6 @@ use Rattle.proposing.proofs.Asking.{may_first, may_held, may_made}
 use mathlib.Core.Path.{◌≡◌}
 use Rattle.record.specs.Members.{leader, has}
 use Rattle.replica.specs.State.{held_mask}
-use borrow.Author.Rules.{rules}
 use Rattle.proposing.proofs.signing.may_sign.Goals as goal
 use Rattle.proposing.proofs.signing.may_sign.Goals.{After-has}
 
@@ -23,23 +22,8 @@ led c =
 pub returns-then-round-lt2 : goal.returns-then-round-lt2
 returns-then-round-lt2 c = may_first _ _ _ c.requires c.if-round-lt2.true
 
-pub overflow_sub-round : goal.overflow_sub-round
-overflow_sub-round c = search rules
-
-pub mask_of-requires : goal.mask_of-requires
-mask_of-requires c = search rules
-
-pub overflow_sub-round-2 : goal.overflow_sub-round-2
-overflow_sub-round-2 c = search rules
-
-pub leader_of-requires : goal.leader_of-requires
-leader_of-requires c = search rules
-
 pub returns-then-has : goal.returns-then-has
 returns-then-has c = may_held _ _ _ c.requires c.if-round-lt2.false _ (led (goal.at.returns-then-has c).After-has) c.if-has.true
-
-pub bounds-state-6 : goal.bounds-state-6
-bounds-state-6 c = search rules
 
 pub returns : goal.returns
 returns c = may_made _ _ _ c.requires c.if-round-lt2.false _ (led (goal.at.returns c).After-has) c.if-has.false _ c.marks_round.ensures

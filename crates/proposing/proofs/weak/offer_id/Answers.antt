@@ -5,7 +5,8 @@ use Rattle.proposing.proofs.weak.offer_id.Goals as goal
 
 pub returns : goal.returns
 returns c =
-    c.add_weak.ensures ∙ offer_new _ _ _ _ _ (sym c.has_bit.ensures ∙ c.if-not-has_bit.false) (sym c.has_bit-2.ensures ∙ c.if-has_bit.false) c.if-most-words.false
+    c.add_weak.ensures ∙ offer_new _ _ _ _ _ (sym c.has_bit.ensures ∙ c.if-not-has_bit.false)
+    (sym c.has_bit-2.ensures ∙ c.if-has_bit.false) c.if-most-words.false
 
 pub returns-then-not-has_bit : goal.returns-then-not-has_bit
 returns-then-not-has_bit c = offer_out _ _ _ _ _ (sym c.has_bit.ensures ∙ c.if-not-has_bit.true)

@@ -12,4 +12,4 @@ pub returns : goal.returns
 returns c = ap (λ (x : ℕ). x - 1) c.power.ensures ∙ sym (largest_few _ (omega arith))
 
 pub overflow_sub-result : goal.overflow_sub-result
-overflow_sub-result c = omega (arith, c.power.ensures, pow_pos (c.args.n))
+overflow_sub-result c = omega (arith, c.power.ensures, pow_pos c.args.n)

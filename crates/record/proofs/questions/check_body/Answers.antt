@@ -19,7 +19,7 @@ returns-then-number-ne0 c =
     next _ _ (eq-eqb _ _ c.if-body-ne-BODY_SIZE.false) (c.check_signer-why.ensures ∙ front_no _ _ (λ d. c.if-number-ne0.true (cc)))
 
 -- 5 and 6 are answered yes
-known : (c : Else-number-ne0) → let a = (c.args) in Placed a.n a.round a.source
+known : (c : Else-number-ne0) → let a = c.args in Placed a.n a.round a.source
 known c = placed _ _ _ (cc)
 
 pub check_known-requires : goal.check_known-requires

@@ -10,9 +10,9 @@ use Rattle.record.proofs.Turn.{next, stop, done, known}
 use mathlib.Core.Path.{◌∙◌, sym, ◌≡◌, ap}
 use Prim.Native.Nat.{ℕ}
 use lib.ListN.{drop}
-use borrow.Author.Rules.{rules}
 use Rattle.record.proofs.questions.check_known.Goals as goal
-use Rattle.record.proofs.questions.check_known.Goals.{After-masks_ok, After-no_votes_ok, After-quorum_if, After-strong_ok, Else-not-masks_ok, Else-not-no_votes_ok, Else-not-quorum_if, Else-not-strong_ok, Start}
+use Rattle.record.proofs.questions.check_known.Goals.{After-masks_ok, After-no_votes_ok, After-quorum_if, After-strong_ok, Else-not-masks_ok}
+use Rattle.record.proofs.questions.check_known.Goals.{Else-not-no_votes_ok, Else-not-quorum_if, Else-not-strong_ok, Start}
 
 -- the questions from the one at k on decide
 abbrev Left : Start → ℕ → Type 0
@@ -22,95 +22,74 @@ Left s k =
 
 from_masks : (c : Start) → Left c 3
 unfolding handed_questions record_questions signer_questions
-from_masks c r = known _ _ _ (c.args.body.now) _ c.requires.round_low c.requires.round_high c.requires.source_low c.requires.size
+from_masks c r = known _ _ _ c.args.body.now _ c.requires.round_low c.requires.round_high c.requires.source_low c.requires.size
 
 -- what each test asks
-masks : (c : After-masks_ok) → c.masks_ok.result ≡ masks_ok (c.args.terms.n) (c.args.body.now)
+masks : (c : After-masks_ok) → c.masks_ok.result ≡ masks_ok c.args.terms.n c.args.body.now
 unfolding masks_ok strong_of timeouts_of no_votes_of
 masks c = c.masks_ok.ensures
 
 -- 7 is answered yes of the strong mask before 8 is asked
-strong : (c : After-strong_ok) → c.strong_ok.result ≡ handed_strong (c.args.quorum) (c.args.round) (strong_of (c.args.body.now))
+strong : (c : After-strong_ok) → c.strong_ok.result ≡ handed_strong c.args.quorum c.args.round (strong_of c.args.body.now)
 unfolding strong_of
 strong c =
     strong_asked _ _ _ _ _ (sym (masks (goal.at.After-strong_ok c).After-masks_ok) ∙ c.if-not-masks_ok.false) c.strong_ok.ensures
 
-timeouts : (c : After-quorum_if) → c.quorum_if.result ≡ handed_timeouts (c.args.terms.n) (c.args.quorum) (c.args.round) (c.args.body.now)
+timeouts : (c : After-quorum_if) → c.quorum_if.result ≡ handed_timeouts c.args.terms.n c.args.quorum c.args.round c.args.body.now
 unfolding handed_timeouts strong_of timeouts_of
 timeouts c = cc
 
-no_votes : (c : After-no_votes_ok) → c.no_votes_ok.result ≡ handed_no_votes (c.args.terms.n) (c.args.quorum) (c.args.round) c.args.source (c.args.body.now)
+no_votes : (c : After-no_votes_ok) → c.no_votes_ok.result ≡ handed_no_votes c.args.terms.n c.args.quorum c.args.round c.args.source c.args.body.now
 unfolding handed_no_votes strong_of no_votes_of
 no_votes c =
     rw (c.lacks_leader-lack.ensures, ap (λ (t : Terms). t.leader) c.requires.terms_are) at c.no_votes_ok.ensures
 
 from_strong : (c : Else-not-masks_ok) → Left (goal.at.Else-not-masks_ok c).Start 4
 unfolding handed_questions record_questions signer_questions
-from_strong c r d = from_masks (goal.at.Else-not-masks_ok c).Start r (next _ _ (sym (masks (goal.at.Else-not-masks_ok c).After-masks_ok) ∙ c.if-not-masks_ok.false) d)
+from_strong c r d =
+    from_masks (goal.at.Else-not-masks_ok c).Start r (next _ _ (sym (masks (goal.at.Else-not-masks_ok c).After-masks_ok) ∙ c.if-not-masks_ok.false) d)
 
 from_timeouts : (c : Else-not-strong_ok) → Left (goal.at.Else-not-strong_ok c).Start 5
 unfolding handed_questions record_questions signer_questions
-from_timeouts c r d = from_strong (goal.at.Else-not-strong_ok c).Else-not-masks_ok r (next _ _ (sym (strong (goal.at.Else-not-strong_ok c).After-strong_ok) ∙ c.if-not-strong_ok.false) d)
+from_timeouts c r d =
+    from_strong (goal.at.Else-not-strong_ok c).Else-not-masks_ok r
+    (next _ _ (sym (strong (goal.at.Else-not-strong_ok c).After-strong_ok) ∙ c.if-not-strong_ok.false) d)
 
 from_no_votes : (c : Else-not-quorum_if) → Left (goal.at.Else-not-quorum_if c).Start 6
 unfolding handed_questions record_questions signer_questions
-from_no_votes c r d = from_timeouts (goal.at.Else-not-quorum_if c).Else-not-strong_ok r (next _ _ (sym (timeouts (goal.at.Else-not-quorum_if c).After-quorum_if) ∙ c.if-not-quorum_if.false) d)
+from_no_votes c r d =
+    from_timeouts (goal.at.Else-not-quorum_if c).Else-not-strong_ok r
+    (next _ _ (sym (timeouts (goal.at.Else-not-quorum_if c).After-quorum_if) ∙ c.if-not-quorum_if.false) d)
 
 from_weak : (c : Else-not-no_votes_ok) → Left (goal.at.Else-not-no_votes_ok c).Start 7
 unfolding handed_questions record_questions signer_questions
-from_weak c r d = from_no_votes (goal.at.Else-not-no_votes_ok c).Else-not-quorum_if r (next _ _ (sym (no_votes (goal.at.Else-not-no_votes_ok c).After-no_votes_ok) ∙ c.if-not-no_votes_ok.false) d)
-
-pub bounds-body-0 : goal.bounds-body-0
-unfolding handed_questions record_questions signer_questions
-bounds-body-0 c = search rules
-
-pub bounds-body-1 : goal.bounds-body-1
-unfolding handed_questions record_questions signer_questions
-bounds-body-1 c = search rules
-
-pub bounds-body-2 : goal.bounds-body-2
-unfolding handed_questions record_questions signer_questions
-bounds-body-2 c = search rules
-
-pub masks_ok-requires : goal.masks_ok-requires
-unfolding handed_questions record_questions signer_questions
-masks_ok-requires c = search rules
+from_weak c r d =
+    from_no_votes (goal.at.Else-not-no_votes_ok c).Else-not-quorum_if r
+    (next _ _ (sym (no_votes (goal.at.Else-not-no_votes_ok c).After-no_votes_ok) ∙ c.if-not-no_votes_ok.false) d)
 
 pub returns-then-not-masks_ok : goal.returns-then-not-masks_ok
 unfolding handed_questions record_questions signer_questions
-returns-then-not-masks_ok c = from_masks (goal.at.returns-then-not-masks_ok c).Start _ (stop _ _ (sym (masks (goal.at.returns-then-not-masks_ok c).After-masks_ok) ∙ c.if-not-masks_ok.true))
-
-pub strong_ok-requires : goal.strong_ok-requires
-unfolding handed_questions record_questions signer_questions
-strong_ok-requires c = search rules
+returns-then-not-masks_ok c =
+    from_masks (goal.at.returns-then-not-masks_ok c).Start _
+    (stop _ _ (sym (masks (goal.at.returns-then-not-masks_ok c).After-masks_ok) ∙ c.if-not-masks_ok.true))
 
 pub returns-then-not-strong_ok : goal.returns-then-not-strong_ok
 unfolding handed_questions record_questions signer_questions
-returns-then-not-strong_ok c = from_strong (goal.at.returns-then-not-strong_ok c).Else-not-masks_ok _ (stop _ _ (sym (strong (goal.at.returns-then-not-strong_ok c).After-strong_ok) ∙ c.if-not-strong_ok.true))
-
-pub lacks_leader-lack-requires : goal.lacks_leader-lack-requires
-unfolding handed_questions record_questions signer_questions
-lacks_leader-lack-requires c = search rules
-
-pub quorum_if-requires : goal.quorum_if-requires
-unfolding handed_questions record_questions signer_questions
-quorum_if-requires c = search rules
+returns-then-not-strong_ok c =
+    from_strong (goal.at.returns-then-not-strong_ok c).Else-not-masks_ok _
+    (stop _ _ (sym (strong (goal.at.returns-then-not-strong_ok c).After-strong_ok) ∙ c.if-not-strong_ok.true))
 
 pub returns-then-not-quorum_if : goal.returns-then-not-quorum_if
 unfolding handed_questions record_questions signer_questions
-returns-then-not-quorum_if c = from_timeouts (goal.at.returns-then-not-quorum_if c).Else-not-strong_ok _ (stop _ _ (sym (timeouts (goal.at.returns-then-not-quorum_if c).After-quorum_if) ∙ c.if-not-quorum_if.true))
-
-pub no_votes_ok-requires : goal.no_votes_ok-requires
-unfolding handed_questions record_questions signer_questions
-no_votes_ok-requires c = search rules
+returns-then-not-quorum_if c =
+    from_timeouts (goal.at.returns-then-not-quorum_if c).Else-not-strong_ok _
+    (stop _ _ (sym (timeouts (goal.at.returns-then-not-quorum_if c).After-quorum_if) ∙ c.if-not-quorum_if.true))
 
 pub returns-then-not-no_votes_ok : goal.returns-then-not-no_votes_ok
 unfolding handed_questions record_questions signer_questions
-returns-then-not-no_votes_ok c = from_no_votes (goal.at.returns-then-not-no_votes_ok c).Else-not-quorum_if _ (stop _ _ (sym (no_votes (goal.at.returns-then-not-no_votes_ok c).After-no_votes_ok) ∙ c.if-not-no_votes_ok.true))
-
-pub weak_ok-requires : goal.weak_ok-requires
-unfolding handed_questions record_questions signer_questions
-weak_ok-requires c = search rules
+returns-then-not-no_votes_ok c =
+    from_no_votes (goal.at.returns-then-not-no_votes_ok c).Else-not-quorum_if _
+    (stop _ _ (sym (no_votes (goal.at.returns-then-not-no_votes_ok c).After-no_votes_ok) ∙ c.if-not-no_votes_ok.true))
 
 pub returns-then-not-weak_ok : goal.returns-then-not-weak_ok
 unfolding handed_questions record_questions signer_questions

@@ -13,13 +13,13 @@ use lib.Dec.{eqb}
 use Rattle.record.proofs.questions.masks_admitted.Goals as goal
 use Rattle.record.proofs.questions.masks_admitted.Goals.{Else-lacks_leader, Else-not-strong_ok, Then-lacks_leader}
 
-strong : (c : Else-not-strong_ok) → let a = (c.args) in
+strong : (c : Else-not-strong_ok) → let a = c.args in
     (within a.terms.n (strong_of a.body.now) && handed_strong a.quorum a.round (strong_of a.body.now)) ≡ true
 unfolding strong_of
 strong c = sym c.strong_ok.ensures ∙ c.if-not-strong_ok.false
 
 -- the mask has the previous leader
-full : (c : Else-lacks_leader) → let a = (c.args) in masks_admitted a.terms.n a.quorum a.round a.source a.body.now
+full : (c : Else-lacks_leader) → let a = c.args in masks_admitted a.terms.n a.quorum a.round a.source a.body.now
     ≡ eqb (bit_or (timeouts_of a.body.now) (no_votes_of a.body.now)) 0
 unfolding strong_of
 full c = masks_full _ _ _ _ _ (strong (goal.at.Else-lacks_leader c).Else-not-strong_ok) (cc)
@@ -29,7 +29,7 @@ unfolding strong_of
 returns-then-not-strong_ok c = sym (masks_strong _ _ _ _ _ (sym c.strong_ok.ensures ∙ c.if-not-strong_ok.true))
 
 -- it lacks that leader
-lacks : (c : Then-lacks_leader) → let a = (c.args) in lacks_leader a.terms.n a.round (strong_of a.body.now) ≡ true
+lacks : (c : Then-lacks_leader) → let a = c.args in lacks_leader a.terms.n a.round (strong_of a.body.now) ≡ true
 unfolding strong_of
 lacks c = sym c.lacks_leader.ensures ∙ c.if-lacks_leader.true
 

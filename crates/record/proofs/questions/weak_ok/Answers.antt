@@ -12,33 +12,13 @@ pub returns-then-not-weak_ids_ok : goal.returns-then-not-weak_ids_ok
 unfolding weak_count_of
 returns-then-not-weak_ids_ok c = search ids_no
 
-pub bounds-body-11 : goal.bounds-body-11
-unfolding weak_count_of
-bounds-body-11 c = search rules
-
-pub slots_blank-requires : goal.slots_blank-requires
-unfolding weak_count_of
-slots_blank-requires c = search rules
-
 pub returns-then-body-eq0 : goal.returns-then-body-eq0
 unfolding weak_count_of
 returns-then-body-eq0 c = search none_decide
 
-pub faulty_of-most-requires : goal.faulty_of-most-requires
-unfolding weak_count_of
-faulty_of-most-requires c = search rules
-
-pub bounds-body-11-2 : goal.bounds-body-11-2
-unfolding weak_count_of
-bounds-body-11-2 c = search rules
-
 pub returns-then-most-body : goal.returns-then-most-body
 unfolding weak_count_of
 returns-then-most-body c = search weak_over
-
-pub used_slots-count-requires : goal.used_slots-count-requires
-unfolding weak_count_of
-used_slots-count-requires c = search rules
 
 pub weak_ids_ok-requires : goal.weak_ids_ok-requires
 unfolding weak_count_of

@@ -6,7 +6,7 @@ use Rattle.replica.proofs.lists.hand_list.Goals as goal
 use Rattle.replica.proofs.lists.hand_list.Goals.{Else-number-ne0}
 
 known : (c : Else-number-ne0)
-    → let a = (c.args) in Handing a.state a.k a.first (get_or a.state.now a.count 0)
+    → let a = c.args in Handing a.state a.k a.first (get_or a.state.now a.count 0)
 known c = search handing
 
 pub returns-then-number-ne0 : goal.returns-then-number-ne0

@@ -41,35 +41,3 @@ pub returns : goal.returns
 returns c =
     let few = c.requires.few in
     all_end _ _ c.loop-i.i (omega arith) (omega arith) c.loop-i.invariant.2
-
-pub bounds-body-11 : goal.bounds-body-11
-unfolding weak_count_of
-bounds-body-11 c = search rules
-
-pub wide-count-requires : goal.wide-count-requires
-unfolding weak_count_of
-wide-count-requires c = search rules
-
-pub overflow_add-x : goal.overflow_add-x
-unfolding weak_count_of
-overflow_add-x c = search rules
-
-pub offset_bounds-body-i : goal.offset_bounds-body-i
-unfolding weak_count_of
-offset_bounds-body-i c = search rules
-
-pub bounds-body-i : goal.bounds-body-i
-unfolding weak_count_of
-bounds-body-i c = search rules
-
-pub has_bit-requires : goal.has_bit-requires
-unfolding weak_count_of
-has_bit-requires c = search rules
-
-pub overflow_add-i : goal.overflow_add-i
-unfolding weak_count_of
-overflow_add-i c = search rules
-
-pub loop-i-smaller : goal.loop-i-smaller
-unfolding weak_count_of
-loop-i-smaller c = search rules

@@ -27,7 +27,8 @@ leader_at-requires c =
 
 pub returns-then-leader_at-x : goal.returns-then-leader_at-x
 returns-then-leader_at-x c =
-    index_at c.args.state.now _ _ _ _ (id (goal.at.returns-then-leader_at-x c).Else-not-is_id) c.requires.1 c.loop-i.invariant.1 (omega (arith, c.width_of-width.ensures, c.loop-i-test.true))
+    index_at c.args.state.now _ _ _ _ (id (goal.at.returns-then-leader_at-x c).Else-not-is_id) c.requires.1 c.loop-i.invariant.1
+    (omega (arith, c.width_of-width.ensures, c.loop-i-test.true))
     c.leader_at.ensures c.if-leader_at-x.true
 
 pub loop-i-preserved : goal.loop-i-preserved

@@ -7,11 +7,11 @@ use Rattle.replica.specs.Layout.{state_size}
 use Rattle.replica.proofs.status.status.Goals as goal
 use Rattle.replica.proofs.status.status.Goals.{Else-number-ne0}
 
-known : (c : Else-number-ne0) → length (c.args.state.now) ≡ state_size
-known c = (state_ok (c.args.state.now) (cc)).0
+known : (c : Else-number-ne0) → length c.args.state.now ≡ state_size
+known c = (state_ok c.args.state.now (cc)).0
 
 pub returns-then-number-ne0 : goal.returns-then-number-ne0
-returns-then-number-ne0 c = search (head_refused (c.args.state.now))
+returns-then-number-ne0 c = search (head_refused c.args.state.now)
 
 pub bounds-state-1 : goal.bounds-state-1
 bounds-state-1 c = let k = known (goal.at.bounds-state-1 c).Else-number-ne0 in search rules
@@ -26,4 +26,4 @@ pub bounds-state-4 : goal.bounds-state-4
 bounds-state-4 c = let k = known (goal.at.bounds-state-4 c).Else-number-ne0 in search rules
 
 pub returns : goal.returns
-returns c = search (head_done (c.args.state.now))
+returns c = search (head_done c.args.state.now)

@@ -25,12 +25,15 @@ low c =
 pub returns-then-width_of-index : goal.returns-then-width_of-index
 returns-then-width_of-index c =
     let h = c.if-width_of-index.true in
-    entry_none c.args.state.now c.args.i (there (goal.at.returns-then-width_of-index c).Else-not-is_marked) (omega (arith, c.index_of-index.ensures, c.width_of.ensures, h))
+    entry_none c.args.state.now c.args.i (there (goal.at.returns-then-width_of-index c).Else-not-is_marked)
+    (omega (arith, c.index_of-index.ensures, c.width_of.ensures, h))
 
 pub returns-then-i-eq0 : goal.returns-then-i-eq0
 returns-then-i-eq0 c =
-    entry_first c.args.state.now c.args.i _ (there (goal.at.returns-then-i-eq0 c).Else-not-is_marked) (low (goal.at.returns-then-i-eq0 c).Else-width_of-index) c.if-i-eq0.true (ap (λ (x : ℕ). eqb x 0) c.index_of-index.ensures)
+    entry_first c.args.state.now c.args.i _ (there (goal.at.returns-then-i-eq0 c).Else-not-is_marked)
+    (low (goal.at.returns-then-i-eq0 c).Else-width_of-index) c.if-i-eq0.true (ap (λ (x : ℕ). eqb x 0) c.index_of-index.ensures)
 
 pub returns : goal.returns
 returns c =
-    entry_later c.args.state.now c.args.i _ (there (goal.at.returns c).Else-not-is_marked) (low (goal.at.returns c).Else-width_of-index) c.if-i-eq0.false (rw c.index_of-index.ensures at c.comes_next.ensures)
+    entry_later c.args.state.now c.args.i _ (there (goal.at.returns c).Else-not-is_marked)
+    (low (goal.at.returns c).Else-width_of-index) c.if-i-eq0.false (rw c.index_of-index.ensures at c.comes_next.ensures)

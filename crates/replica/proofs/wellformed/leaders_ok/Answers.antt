@@ -45,8 +45,8 @@ last_ok-requires c =
 pub returns : goal.returns
 unfolding leaders_ok
 returns c =
-    let e : c.loop-i.i
-    ≡ leader_count c.args.state.now = omega arith in simp (
+    let e : c.loop-i.i ≡ leader_count c.args.state.now = omega arith in
+    simp (
       le-leb _ _ (rw c.loop-i.invariant.2 at c.loop-i.invariant.3),
       rw e at c.loop-i.invariant.4,
     ) c.last_ok.ensures

@@ -9,7 +9,8 @@ use Rattle.replica.specs.WellFormed.{leader_ok}
 use Rattle.replica.proofs.wellformed.leaders_ok.Given as goal
 
 abbrev pub invariant-loop-i : goal.invariant-loop-i
-invariant-loop-i l = (l.i ≤ l.count) × (l.n ≡ member_count l.state) × (l.count ≡ leader_count l.state) × (l.count ≤ leaders_size) × (all l.i (leader_ok l.state) ≡ true)
+invariant-loop-i l =
+    (l.i ≤ l.count) × (l.n ≡ member_count l.state) × (l.count ≡ leader_count l.state) × (l.count ≤ leaders_size) × (all l.i (leader_ok l.state) ≡ true)
 
 abbrev pub decreases-loop-i : goal.decreases-loop-i
 decreases-loop-i l = l.count - l.i

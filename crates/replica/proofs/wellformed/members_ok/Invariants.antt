@@ -10,7 +10,8 @@ use Rattle.replica.specs.WellFormed.{cell_ok}
 use Rattle.replica.proofs.wellformed.members_ok.Given as goal
 
 abbrev pub invariant-loop-p : goal.invariant-loop-p
-invariant-loop-p l = (l.p ≤ l.n) × (l.at ≡ cell_at l.round l.p) × (l.terms ≡ terms_of (member_count l.state) l.round) × (all l.p (cell_ok l.state l.round) ≡ true)
+invariant-loop-p l =
+    (l.p ≤ l.n) × (l.at ≡ cell_at l.round l.p) × (l.terms ≡ terms_of (member_count l.state) l.round) × (all l.p (cell_ok l.state l.round) ≡ true)
 
 abbrev pub decreases-loop-p : goal.decreases-loop-p
 decreases-loop-p l = l.n - l.p

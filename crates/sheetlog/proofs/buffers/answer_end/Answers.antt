@@ -24,5 +24,5 @@ put_list-requires c =
 
 pub returns : goal.returns
 returns c =
-    an_end _ (c.args.state) c.hand_leaders.result c.hand_journal.result
+    an_end _ c.args.state c.hand_leaders.result c.hand_journal.result
     c.answer_rest-first.ensures c.hand_leaders.ensures c.put_list-last.ensures c.hand_journal.ensures c.put_list.ensures

@@ -5,7 +5,7 @@ use Rattle.yardbook.proofs.Laws.{part_none, HandKnown, part_known}
 use Rattle.yardbook.proofs.calls.hand_part.Goals as goal
 use Rattle.yardbook.proofs.calls.hand_part.Goals.{Else-number-ne0}
 
-known : (c : Else-number-ne0) → let a = (c.args) in HandKnown a.state.now a.k a.first (get_or a.state.now a.count 0)
+known : (c : Else-number-ne0) → let a = c.args in HandKnown a.state.now a.k a.first (get_or a.state.now a.count 0)
 known c = search part_known
 
 pub returns-then-number-ne0 : goal.returns-then-number-ne0

@@ -32,12 +32,10 @@ fn highest_passable(state: &[u32], n: u32, quorum: u32) -> u32
     requires { GroupOf state.now n quorum }
     ensures { (result ≡ highest_passable state.now rounds) × (result ≤ rounds) }
 {
-    let mut round: u32 = ROUNDS;
-    while 0 < round {
+    for round in (1..=ROUNDS).rev() {
         if is_passable(state, n, quorum, round) {
             return round;
         }
-        round -= 1;
     }
     0
 }

@@ -1,11 +1,7 @@
 use Rattle.commits.specs.Commit.{highest_passable}
 use mathlib.Core.Path.{◌≡◌}
-use Prim.Native.Nat.{◌≤◌}
 use Rattle.record.specs.Members.{rounds}
 use Rattle.commits.proofs.rounds.highest_passable.Given as goal
 
 abbrev pub invariant-loop-round : goal.invariant-loop-round
-invariant-loop-round l = (l.round ≤ rounds) × (highest_passable l.state rounds ≡ highest_passable l.state l.round)
-
-abbrev pub decreases-loop-round : goal.decreases-loop-round
-decreases-loop-round l = l.round
+invariant-loop-round l = highest_passable l.state rounds ≡ highest_passable l.state l.round

@@ -10,7 +10,7 @@ use native.Mathlib.Omega.{arith}
 use lib.Dec.{eqb, leb}
 use lib.ListN.{length, get_or, set, replicate, length-set}
 use lib.Seq.{get_or-set_same, get_or-set_other}
-use borrow.Author.Tests.{eqb-true, eq-eqb, ne_eqb, leb-true, leb-false, not-true, not-false}
+use borrow.Author.Tests.{eqb-true, eq-eqb, ne_eqb, leb-true, leb-false, not-true}
 use Rattle.record.specs.Members.{leader_at, leader, has, rounds, voted_rounds}
 use Rattle.record.proofs.Booleans.{which, never}
 use Rattle.record.proofs.Masks.{leader_at_lt, leader_lt, has_one}
@@ -210,20 +210,19 @@ pub record Walk (l : List ℕ) (n m c q : ℕ) : Type 0 where
   pub begun : (i p y : ℕ) → i ≡ q → p ≡ leader n q → y ≡ 2 ^ p → Walked n m (vertices l) c q (q - 1) (set (replicate rounds 0) i 1) y
   pub took : (t : ℕ) (runs : List ℕ) (reached b p x i y : ℕ) → c ≤ t → Walked n m (vertices l) c q t runs reached
       → b ≡ parents (vertices l) (t + 1) reached n → p ≡ leader n t → has b p ≡ true → x ≡ longest m (λ i. has b (leader_at n t i)) → i ≡ t → y ≡ 2 ^ p
-      → (runs' : List ℕ) (reached' : ℕ) → runs' ≡ set runs i x → reached' ≡ y → Walked n m (vertices l) c q (t - 1) runs' reached'
+      → Walked n m (vertices l) c q (t - 1) (set runs i x) y
   pub passed : (t : ℕ) (runs : List ℕ) (reached b p : ℕ) → c ≤ t → Walked n m (vertices l) c q t runs reached
-      → b ≡ parents (vertices l) (t + 1) reached n → p ≡ leader n t → has b p ≡ false
-      → (runs' : List ℕ) (reached' : ℕ) → runs' ≡ runs → reached' ≡ b → Walked n m (vertices l) c q (t - 1) runs' reached'
+      → b ≡ parents (vertices l) (t + 1) reached n → p ≡ leader n t → has b p ≡ false → Walked n m (vertices l) c q (t - 1) runs b
   pub done : (t : ℕ) (runs : List ℕ) (reached : ℕ) → c ≡ t + 1 → Walked n m (vertices l) c q t runs reached → TakenRuns n m (vertices l) c q runs
 
 pub walk_runs : (l : List ℕ) (n m c q : ℕ) → WalkReady l n m c q → Walk l n m c q
 walk_runs l n m c q R = record {
   begun = λ i p y a b d. rw (a, d, b) (start n m pos R.some (vertices l) W c q R.high (omega (arith, R.low, R.order)) R.order R.there);
-  took = λ t runs reached b p x i y k w eb ep h ex ei ey runs' reached' e₁ e₂.
-      rw (e₁, e₂, ei, ey, ep)
+  took = λ t runs reached b p x i y k w eb ep h ex ei ey.
+      rw (ei, ey, ep)
       (take_run n m pos R.some (vertices l) W c q R.high t runs reached b x (omega (arith, R.low)) k w eb (rw ep at h) ex);
-  passed = λ t runs reached b p k w eb ep h runs' reached' e₁ e₂.
-      rw (e₁, e₂) (pass_run n m pos R.some (vertices l) W c q R.high t runs reached b (omega (arith, R.low)) k w eb (rw ep at h));
+  passed = λ t runs reached b p k w eb ep h.
+      pass_run n m pos R.some (vertices l) W c q R.high t runs reached b (omega (arith, R.low)) k w eb (rw ep at h);
   done = finish n m pos R.some (vertices l) W c q R.high;
 }
   where
@@ -237,15 +236,6 @@ walk_runs l n m c q R = record {
 
 pub record Running (n r mask i : ℕ) : Type 0 where
   pub all : (j : ℕ) → j < i → has mask (leader_at n r j) ≡ true
-
-pub running_one : (n r mask : ℕ) → has mask (leader n r) ≡ true → Running n r mask 1
-running_one n r mask h = record { all = λ j l. let z : j ≡ 0 = omega arith in rw z h }
-
-pub running_more : (n r mask i p : ℕ) (b : Bool) → Running n r mask i → p ≡ leader_at n r i → b ≡ has mask p → not b ≡ false → Running n r mask (i + 1)
-running_more n r mask i p b R e f h = record {
-  all = λ j l. ⊎_elim (λ (d : j ≡ i). rw d (rw (← e) (sym f ∙ not-false b h))) (λ d. R.all j d)
-      (eq-or-lt_of_le (omega arith));
-}
 
 pub running_stop : (n m r mask i p : ℕ) (b : Bool) → Running n r mask i → i < m → p ≡ leader_at n r i → b ≡ has mask p → not b ≡ true
     → i ≡ longest m (λ j. has mask (leader_at n r j))

@@ -17,13 +17,11 @@ fn parents_of(state: &[u32], n: u32, round: u32, mask: u32) -> u32
     ensures { result ≡ parents (vertices state.now) round mask n }
 {
     let mut joined: u32 = 0;
-    let mut p: u32 = 0;
-    while p < n {
+    for p in 0..n {
         if has_bit(mask, p) {
             let at = cell_at(round, p);
-            joined = joined | state[at + STRONG];
+            joined |= state[at + STRONG];
         }
-        p += 1;
     }
     joined
 }
@@ -33,12 +31,10 @@ fn run_in(n: u32, m: u32, round: u32, mask: u32) -> u32
     requires { RunBegun n m round mask }
     ensures { result ≡ longest m (λ i. has mask (leader_at n round i)) }
 {
-    let mut i: u32 = 1;
-    while i < m {
+    for i in 1..m {
         if !has_bit(mask, leader_at(n, round, i)) {
             return i;
         }
-        i += 1;
     }
     m
 }
@@ -51,20 +47,16 @@ pub fn taken_runs(state: &[u32], n: u32, m: u32, low: u32, q: u32) -> [u32; MASK
 {
     let mut runs = [0u32; MASKS];
     runs[wide(q)] = 1;
-    let mut reached: u32 = power(leader_of(n, q));
-    let mut t: u32 = q - 1;
-    while low <= t {
+    let mut reached = power(leader_of(n, q));
+    for t in (low..q).rev() {
         let below = parents_of(state, n, t + 1, reached);
         let leader = leader_of(n, t);
-        if has_bit(below, leader) {
-            let run = run_in(n, m, t, below);
-            runs[wide(t)] = run;
-            let taken = power(leader);
-            reached = taken;
+        reached = if has_bit(below, leader) {
+            runs[wide(t)] = run_in(n, m, t, below);
+            power(leader)
         } else {
-            reached = below;
-        }
-        t -= 1;
+            below
+        };
     }
     runs
 }

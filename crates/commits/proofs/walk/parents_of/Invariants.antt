@@ -1,12 +1,8 @@
--- The loop's invariant: the strong masks of the members below p that the mask has are joined. The measure is how many members are left.
+-- The loop's invariant: the strong masks of the members below p that the mask has are joined.
 use Rattle.protocol.specs.Masks.{parents}
 use Rattle.replica.specs.State.{vertices}
 use mathlib.Core.Path.{◌≡◌}
-use Prim.Native.Nat.{◌≤◌, ◌-◌}
 use Rattle.commits.proofs.walk.parents_of.Given as goal
 
 abbrev pub invariant-loop-p : goal.invariant-loop-p
-invariant-loop-p l = (l.p ≤ l.n) × (l.joined ≡ parents (vertices l.state) l.round l.mask l.p)
-
-abbrev pub decreases-loop-p : goal.decreases-loop-p
-decreases-loop-p l = l.n - l.p
+invariant-loop-p l = l.joined ≡ parents (vertices l.state) l.round l.mask l.p

@@ -140,10 +140,10 @@ pub fill_none : (n : ℕ) (v : Records) (h : List ℕ) → fill n v h 0 ≡ h
 unfolding fill
 fill_none n v h = refl
 
-pub fill_step : (n : ℕ) (v : Records) (h : List ℕ) (k : ℕ) → 0 < k → fill n v h k ≡ fill n v (join_round_parents v h (k + 1) n) (k - 1)
+pub fill_step : (n : ℕ) (v : Records) (h : List ℕ) (r k : ℕ) → r ≡ k + 1 → 0 < k → fill n v h k ≡ fill n v (join_round_parents v h r n) (k - 1)
 unfolding fill
-fill_step n v h zero l = absurd (not-suc-le-zero l)
-fill_step n v h (suc k) l = rw (sub-one (suc k), add-one (suc k))
+fill_step n v h r zero e l = absurd (not-suc-le-zero l)
+fill_step n v h r (suc k) e l = rw (e, sub-one (suc k), add-one (suc k))
 
 pub join_strong : (v : Records) (h : List ℕ) (r p k s : ℕ) → k ≡ r - 1 - 1 → s ≡ strong_of (v r p)
     → join_weak (set h k (bit_or (get_or h k 0) s)) (v r p) (weak_count_of (v r p)) ≡ join_parents v h r p

@@ -27,10 +27,8 @@ fn join_weak(state: &[u32], masks: &mut [u32; MASKS], round: u32, member: u32)
 {
     let at = cell_at(round, member);
     let count = wide(state[at + WEAK_COUNT]);
-    let mut i: usize = 0;
-    while i < count {
+    for i in 0..count {
         join_id(masks, state[at + (WEAK + i)]);
-        i += 1;
     }
 }
 
@@ -41,7 +39,7 @@ fn join_parents(state: &[u32], masks: &mut [u32; MASKS], round: u32, member: u32
 {
     let at = cell_at(round, member);
     let below = wide(round - 2);
-    masks[below] = masks[below] | state[at + STRONG];
+    masks[below] |= state[at + STRONG];
     join_weak(state, masks, round, member);
 }
 
@@ -51,12 +49,10 @@ fn join_round(state: &[u32], n: u32, masks: &mut [u32; MASKS], round: u32)
     ensures { masks.new ≡ join_round_parents (vertices state.now) masks.old round n }
 {
     let mask = masks[wide(round - 1)];
-    let mut p: u32 = 0;
-    while p < n {
+    for p in 0..n {
         if has_bit(mask, p) {
             join_parents(state, masks, round, p);
         }
-        p += 1;
     }
 }
 
@@ -67,10 +63,8 @@ pub fn reach_of(state: &[u32], n: u32, round: u32, mask: u32) -> [u32; MASKS]
 {
     let mut masks = [0u32; MASKS];
     masks[wide(round - 1)] = mask;
-    let mut k: u32 = round - 1;
-    while 0 < k {
-        join_round(state, n, &mut masks, k + 1);
-        k -= 1;
+    for r in (2..=round).rev() {
+        join_round(state, n, &mut masks, r);
     }
     masks
 }

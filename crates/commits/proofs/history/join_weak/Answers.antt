@@ -21,19 +21,10 @@ weak c = (known (goal.at.In-loop-i c).After-cell_at-at).weak _ (omega arith)
 
 pub loop-i-preserved : goal.loop-i-preserved
 loop-i-preserved c =
-    (omega arith, join_weak_more _ _ _ _ _ _ c.loop-i.invariant.1 (weak (goal.at.loop-i-preserved c).In-loop-i).is c.join_id.ensures)
+    join_weak_more _ _ _ _ _ _ c.loop-i.invariant (weak (goal.at.loop-i-preserved c).In-loop-i).is c.join_id.ensures
 
 pub loop-i-init : goal.loop-i-init
-loop-i-init c = (omega arith, join_weak_none _ _)
-
-pub overflow_add-i : goal.overflow_add-i
-overflow_add-i c = let w = weak (goal.at.overflow_add-i c).In-loop-i in search rules
-
-pub overflow_add-at-in-loop-i : goal.overflow_add-at-in-loop-i
-overflow_add-at-in-loop-i c = let w = weak (goal.at.overflow_add-at-in-loop-i c).In-loop-i in search rules
-
-pub offset_bounds-state-at-in-loop-i : goal.offset_bounds-state-at-in-loop-i
-offset_bounds-state-at-in-loop-i c = let w = weak (goal.at.offset_bounds-state-at-in-loop-i c).In-loop-i in search rules
+loop-i-init c = join_weak_none _ _
 
 pub bounds-state-at-in-loop-i : goal.bounds-state-at-in-loop-i
 bounds-state-at-in-loop-i c = let w = weak (goal.at.bounds-state-at-in-loop-i c).In-loop-i in search rules

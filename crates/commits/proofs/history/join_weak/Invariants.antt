@@ -1,12 +1,8 @@
--- The loop's invariant: the first i weak parents are joined. The measure is how many are left.
+-- The loop's invariant: the first i weak parents are joined.
 use Rattle.protocol.specs.Masks.{join_weak}
 use Rattle.replica.specs.State.{vertices}
 use mathlib.Core.Path.{◌≡◌}
-use Prim.Native.Nat.{◌≤◌, ◌-◌}
 use Rattle.commits.proofs.history.join_weak.Given as goal
 
 abbrev pub invariant-loop-i : goal.invariant-loop-i
-invariant-loop-i l = (l.i ≤ l.count) × (l.masks ≡ join_weak l.initial.masks (vertices l.state l.round l.member) l.i)
-
-abbrev pub decreases-loop-i : goal.decreases-loop-i
-decreases-loop-i l = l.count - l.i
+invariant-loop-i l = l.masks ≡ join_weak l.initial.masks (vertices l.state l.round l.member) l.i

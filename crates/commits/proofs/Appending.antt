@@ -83,7 +83,6 @@ seats_size n r a b = ⊎_elim
 -- leaders a, .. i - 1 of round r have been appended
 pub record RunAppending (n r a b : ℕ) (l₀ : List ℕ) (i : ℕ) (l : List ℕ) : Type 0 where
   pub room : LeaderRoom l (b - i)
-  pub low : a ≤ i
   pub high : (i ≤ b) ⊎ (i ≡ a)
   pub same : length l ≡ length l₀
   pub is : l ≡ append_leaders l₀ (seats n r a i)
@@ -91,27 +90,22 @@ pub record RunAppending (n r a b : ℕ) (l₀ : List ℕ) (i : ℕ) (l : List �
 pub run_start : (n r a b : ℕ) (l : List ℕ) → LeaderRoom l (b - a) → RunAppending n r a b l a l
 run_start n r a b l R = record {
   room = R;
-  low = omega arith;
   high = inr refl;
   same = refl;
   is = append_none l ∙ ap (append_leaders l) (sym (seats_none n r a a (omega arith)));
 }
 
-pub run_room : (n r a b : ℕ) (l₀ : List ℕ) (i : ℕ) (l : List ℕ) → RunAppending n r a b l₀ i l → i < b → LeaderRoom l 1
-run_room n r a b l₀ i l R h = record { size = R.room.size; room = omega (arith, R.room.room) }
-
-pub run_next : (n r a b : ℕ) (l₀ : List ℕ) (i : ℕ) (l m : List ℕ) → RunAppending n r a b l₀ i l → i < b → m ≡ append_leader l (leader_id n r i)
-    → RunAppending n r a b l₀ (i + 1) m
-run_next n r a b l₀ i l m R h d = rw d (record {
+pub run_next : (n r a b : ℕ) (l₀ : List ℕ) (i : ℕ) (l m : List ℕ) → RunAppending n r a b l₀ i l → a ≤ i → i < b
+    → m ≡ append_leader l (leader_id n r i) → RunAppending n r a b l₀ (i + 1) m
+run_next n r a b l₀ i l m R low h d = rw d (record {
   room = record {
     size = append_size l (leader_id n r i) ∙ R.room.size;
     room = omega (arith, R.room.room, append_count l (leader_id n r i) R.room.size);
   };
-  low = omega (arith, R.low);
   high = inl (omega arith);
   same = append_size l (leader_id n r i) ∙ R.same;
   is = ap (λ (x : List ℕ). append_leader x (leader_id n r i)) R.is ∙ append_more l₀ (seats n r a i) (leader_id n r i)
-      ∙ ap (append_leaders l₀) (sym (ap (seats n r a) (add-one i) ∙ seats_more n r a i R.low));
+      ∙ ap (append_leaders l₀) (sym (ap (seats n r a) (add-one i) ∙ seats_more n r a i low));
 })
 
 pub run_end : (n r a b : ℕ) (l₀ : List ℕ) (i : ℕ) (l : List ℕ) → RunAppending n r a b l₀ i l → b ≤ i → l ≡ append_leaders l₀ (seats n r a b)

@@ -58,40 +58,29 @@ pub record Ordering (n : ℕ) (l₀ : List ℕ) (first i : ℕ) (l : List ℕ) :
   pub standing : Standing l
   pub room : Room l
   pub members : n ≡ member_count l
-  pub low : first ≤ i
   pub words : (j : ℕ) → j < leaders_size → leader_word l j ≡ leader_word l₀ j
   pub is : order_leaders (vertices l₀) l₀ (entries l₀ first (leader_count l₀ - first)) ≡ order_leaders (vertices l₀) l (entries l₀ i (leader_count l₀ - i))
 
 module _ (n : ℕ) (l₀ : List ℕ) (first : ℕ) (L : LeadersReady l₀ n first) where
-  pub ordering_start : Ordering n l₀ first first l₀
-  ordering_start = record {
-    alike = alike_self l₀;
-    standing = L.standing;
-    room = L.room;
-    members = L.members;
-    low = omega arith;
-    words = λ j k. refl;
-    is = refl;
-  }
-
   -- the next entry's history may be ordered
-  pub ordering_ready : (i count : ℕ) (l : List ℕ) → Ordering n l₀ first i l → count ≡ leader_count l₀ → i < count → LeaderReady l n (leader_word l i)
-  ordering_ready i count l o e h =
+  pub ordering_ready : (i count : ℕ) (l : List ℕ) → Ordering n l₀ first i l → first ≤ i → count ≡ leader_count l₀ → i < count
+      → LeaderReady l n (leader_word l i)
+  ordering_ready i count l o low e h =
       let same = o.words i (omega (arith, L.few)) in
       rw same (record {
         standing = o.standing;
         room = o.room;
         members = o.members;
-        low = L.low i o.low (omega arith);
-        high = L.high i o.low (omega arith);
-        there = rw (vertices_same o.alike) (L.there i o.low (omega arith));
+        low = L.low i low (omega arith);
+        high = L.high i low (omega arith);
+        there = rw (vertices_same o.alike) (L.there i low (omega arith));
       })
 
-  pub ordering_next : (i count : ℕ) (l m : List ℕ) → Ordering n l₀ first i l → count ≡ leader_count l₀ → i < count
+  pub ordering_next : (i count : ℕ) (l m : List ℕ) → Ordering n l₀ first i l → first ≤ i → count ≡ leader_count l₀ → i < count
       → m ≡ order_leader (vertices l) l (leader_word l i)
       → Ordering n l₀ first (i + 1) m
-  ordering_next i count l m o e h d =
-      let R = ordering_ready i count l o e h in
+  ordering_next i count l m o low e h d =
+      let R = ordering_ready i count l o low e h in
       let x = leader_word l i in
       let A = leader_alike l o.standing o.room x R.there in
       let k : leader_count l₀ - i ≡ suc (leader_count l₀ - (i + 1)) = omega arith in
@@ -100,7 +89,6 @@ module _ (n : ℕ) (l₀ : List ℕ) (first : ℕ) (L : LeadersReady l₀ n firs
         standing = standing_kept A o.standing;
         room = leader_room l o.standing o.room x R.there;
         members = o.members ∙ sym A.members;
-        low = omega (arith, o.low);
         words = λ j b. leader_words l o.standing o.room x R.there j b ∙ o.words j b;
         is = o.is ∙ ap (λ (z : ℕ). order_leaders (vertices l₀) l (entries l₀ i z)) k
             ∙ ap (order_leaders (vertices l₀) l) (entries_more l₀ i (leader_count l₀ - (i + 1)))

@@ -43,13 +43,11 @@ fn voters_for(state: &[u32], n: u32, q: u32, i: u32, voted: u32) -> Members
     let mut voters = Members {
         bits: first_voters(state, q, i),
     };
-    let mut p: u32 = 0;
-    while p < n {
+    for p in 0..n {
         let at = cell_at(q + 1, p);
         if has_bit(state[at + STRONG], voted) {
             voters = voters.with(p);
         }
-        p += 1;
     }
     voters
 }
@@ -72,12 +70,10 @@ fn lowest_committable(state: &[u32], n: u32, quorum: u32) -> u32
     requires { Standing state.now × (n ≡ member_count state.now) × QuorumOf n quorum × (committed_round state.now ≤ voted_rounds) }
     ensures { result ≡ lowest state.now }
 {
-    let mut q: u32 = state[COMMITTED_ROUND] + 1;
-    while q < ROUNDS {
+    for q in state[COMMITTED_ROUND] + 1..ROUNDS {
         if is_backed(state, n, quorum, q, 0) {
             return q;
         }
-        q += 1;
     }
     ROUNDS
 }
@@ -98,10 +94,8 @@ fn append_run(state: &mut [u32], n: u32, round: u32, a: u32, b: u32)
     requires { LeaderRoom state.old (b - a) × (0 < n) × (1 ≤ round) × (round ≤ voted_rounds) × (b ≤ most_leaders) }
     ensures { state.new ≡ append_leaders state.old (seats n round a b) }
 {
-    let mut i: u32 = a;
-    while i < b {
+    for i in a..b {
         append_leader(state, n, round, i);
-        i += 1;
     }
 }
 
@@ -134,10 +128,8 @@ fn append_runs(state: &mut [u32], n: u32, low: u32, taken: u32, q: u32, runs: [u
     requires { RunsReady state.old n low taken q runs }
     ensures { state.new ≡ append_leaders state.old (gather n low taken runs rounds) }
 {
-    let mut r: u32 = low;
-    while r <= q {
+    for r in low..=q {
         append_run(state, n, r, taken_of(r, low, taken), runs[wide(r)]);
-        r += 1;
     }
 }
 
@@ -175,10 +167,8 @@ fn order_round(state: &mut [u32], mask: u32, round: u32)
     if mask & mask_of(state, ORDERED, round) == mask {
         return;
     }
-    let mut p: u32 = 0;
-    while p < SLOTS {
+    for p in 0..SLOTS {
         order_id(state, mask, SLOTS * round + p);
-        p += 1;
     }
 }
 
@@ -189,10 +179,8 @@ fn order_leader(state: &mut [u32], n: u32, id: u32)
 {
     let round = id / SLOTS;
     let masks = history_of(state, n, round, id % SLOTS);
-    let mut r: u32 = 0;
-    while r < round {
+    for r in 0..round {
         order_round(state, masks[wide(r)], r + 1);
-        r += 1;
     }
 }
 
@@ -202,11 +190,9 @@ fn order_leaders(state: &mut [u32], n: u32, first: usize)
     ensures { state.new ≡ order_from state.old first }
 {
     let count = wide(state[LEADER_COUNT]);
-    let mut i: usize = first;
-    while i < count {
+    for i in first..count {
         let id = state[LEADERS + i];
         order_leader(state, n, id);
-        i += 1;
     }
 }
 
@@ -272,9 +258,5 @@ pub fn commit_all(state: &mut [u32], n: u32, quorum: u32)
     requires { Going state.old × (n ≡ member_count state.old) × QuorumOf n quorum }
     ensures { state.new ≡ commit_all state.old }
 {
-    loop {
-        if !commit_once(state, n, quorum) {
-            return;
-        }
-    }
+    while commit_once(state, n, quorum) {}
 }

@@ -1,22 +1,13 @@
-use Rattle.commits.proofs.Appending.{run_start, run_room, run_next, run_end}
+use Rattle.commits.proofs.Appending.{run_start, run_next, run_end}
 use native.Mathlib.Omega.{arith}
-use borrow.Author.Rules.{rules}
 use Rattle.commits.proofs.commit.append_run.Goals as goal
-
-pub append_leader-requires : goal.append_leader-requires
-append_leader-requires c =
-    let r = run_room _ _ _ _ _ _ _ c.loop-i.invariant c.loop-i-test.true in
-    search rules
 
 pub loop-i-preserved : goal.loop-i-preserved
 loop-i-preserved c =
-    run_next _ _ _ _ _ _ _ _ c.loop-i.invariant c.loop-i-test.true c.append_leader.ensures
+    run_next _ _ _ _ _ _ _ _ c.loop-i.invariant c.loop-i.auto.i c.loop-i-test.true c.append_leader.ensures
 
 pub returns : goal.returns
 returns c = run_end _ _ _ _ _ _ _ c.loop-i.invariant (omega arith)
 
 pub loop-i-init : goal.loop-i-init
 loop-i-init c = run_start _ _ _ _ _ c.requires.0
-
-pub shape_of-state : goal.shape_of-state
-shape_of-state c = c.loop-i.invariant.same

@@ -1,10 +1,6 @@
--- The loop's invariant: the leaders below i are appended. The measure is how many are left.
+-- The loop's invariant: the leaders below i are appended.
 use Rattle.commits.proofs.Appending.{RunAppending}
-use Prim.Native.Nat.{◌-◌}
 use Rattle.commits.proofs.commit.append_run.Given as goal
 
 abbrev pub invariant-loop-i : goal.invariant-loop-i
 invariant-loop-i l = RunAppending l.n l.round l.a l.b l.initial.state l.i l.state
-
-abbrev pub decreases-loop-i : goal.decreases-loop-i
-decreases-loop-i l = l.b - l.i

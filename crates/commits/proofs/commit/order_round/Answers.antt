@@ -1,6 +1,5 @@
 use Rattle.commits.proofs.Steps.{round_none, round_more, round_old}
 use Rattle.commits.proofs.Entering.{Roomy, round_kept}
-use mathlib.Core.Path.{◌≡◌, sym, ◌∙◌}
 use native.Mathlib.Omega.{arith}
 use borrow.Author.Rules.{rules}
 use borrow.Author.Tests.{eq-eqb}
@@ -10,7 +9,7 @@ use Rattle.commits.proofs.commit.order_round.Goals.{At-loop-p}
 
 known : (c : At-loop-p) → Roomy c.loop-p.state
 known c =
-    round_kept _ _ _ _ _ c.requires.1 c.requires.2 c.loop-p.invariant.0 c.requires.0 c.requires.3 c.loop-p.invariant.1
+    round_kept _ _ _ _ _ c.requires.1 c.requires.2 (omega arith) c.requires.0 c.requires.3 c.loop-p.invariant
 
 pub returns-then-mask-mask_of : goal.returns-then-mask-mask_of
 returns-then-mask-mask_of c =
@@ -18,18 +17,10 @@ returns-then-mask-mask_of c =
 
 pub loop-p-preserved : goal.loop-p-preserved
 loop-p-preserved c =
-    (omega arith, round_more _ _ _ _ _ _ c.loop-p.invariant.1 c.order_id.ensures)
-
-pub returns : goal.returns
-returns c =
-    let e : c.loop-p.p ≡ slots = omega arith in
-    rw e at c.loop-p.invariant.1
+    round_more _ _ _ _ _ _ c.loop-p.invariant c.order_id.ensures
 
 pub loop-p-init : goal.loop-p-init
-loop-p-init c = (omega arith, round_none _ _ _)
+loop-p-init c = round_none _ _ _
 
 pub order_id-requires : goal.order_id-requires
 order_id-requires c = let k = known (goal.at.order_id-requires c).At-loop-p in search rules
-
-pub shape_of-state : goal.shape_of-state
-shape_of-state c = (known (goal.at.shape_of-state c).At-loop-p).0 ∙ sym c.requires.0

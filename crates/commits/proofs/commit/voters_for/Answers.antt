@@ -11,7 +11,7 @@ use Rattle.commits.proofs.commit.voters_for.Goals.{After-cell_at-at, Start}
 
 pub loop-p-init : goal.loop-p-init
 loop-p-init c =
-    (omega arith, voters_first _ _ _ _ _ c.requires.0 c.first_voters.ensures)
+    voters_first _ _ _ _ _ c.requires.0 c.first_voters.ensures
 
 voted_small : (c : Start) → c.args.voted < 32
 voted_small c =
@@ -28,27 +28,16 @@ pub loop-p-preserved : goal.loop-p-preserved
 loop-p-preserved c =
     let k = known (goal.at.loop-p-preserved c).After-cell_at-at in
     let i = c.loop-p-test.true in
-    let e = sym (rw c.requires.1 at c.has_bit.ensures) in (
-      omega arith,
-      elim c.if-has_bit.branch [
-        | then-has_bit w ↦ voter_in _ _ _ _ _ _ k i _ _ c.loop-p.invariant.1 (e ∙ w.if-has_bit.true) (w.voters-is ∙ w.with-voters.ensures)
-        | else-has_bit w ↦ voter_out _ _ _ _ _ _ k i _ _ c.loop-p.invariant.1 (e ∙ w.if-has_bit.false) w.voters-is
-      ],
-    )
+    let e = sym (rw c.requires.1 at c.has_bit.ensures) in
+    elim c.if-has_bit.branch [
+      | then-has_bit w ↦ voter_in _ _ _ _ _ _ k i _ _ c.loop-p.invariant (e ∙ w.if-has_bit.true) (w.voters-is ∙ w.with-voters.ensures)
+      | else-has_bit w ↦ voter_out _ _ _ _ _ _ k i _ _ c.loop-p.invariant (e ∙ w.if-has_bit.false) w.voters-is
+    ]
 
 pub returns : goal.returns
 returns c =
     let e : c.loop-p.p ≡ c.args.n = omega arith in
-    voters_all _ _ _ _ _ (rw e at c.loop-p.invariant.1)
-
-pub first_voters-requires : goal.first_voters-requires
-first_voters-requires c = let L = c.requires.0 in let S = L.standing in search rules
-
-pub cell_at-at-requires : goal.cell_at-at-requires
-cell_at-at-requires c = let L = c.requires.0 in let S = L.standing in search rules
+    voters_all _ _ _ _ _ (rw e at c.loop-p.invariant)
 
 pub has_bit-requires : goal.has_bit-requires
 has_bit-requires c = let h = voted_small (goal.at.has_bit-requires c).Start in search rules
-
-pub with-voters-requires : goal.with-voters-requires
-with-voters-requires c = let L = c.requires.0 in let S = L.standing in search rules

@@ -33,10 +33,8 @@ pub fn is_zero(part: &[u32]) -> bool
     ensures { result ≡ all (length part.now) (λ i. eqb (get_or part.now i 0) 0) }
 {
     let mut joined: u32 = 0;
-    let mut i: usize = 0;
-    while i < part.len() {
-        joined = joined | part[i];
-        i += 1;
+    for word in part {
+        joined |= *word;
     }
     joined == 0
 }
@@ -94,12 +92,10 @@ fn masks_within(state: &[u32]) -> bool
     requires { length state.now ≡ state_size }
     ensures { result ≡ each_round (masks_within state.now) }
 {
-    let mut i: u32 = 0;
-    while i < ROUNDS {
+    for i in 0..ROUNDS {
         if !round_within(state, i + 1) {
             return false;
         }
-        i += 1;
     }
     true
 }
@@ -109,13 +105,11 @@ fn kind_within(state: &[u32], kind: usize, other: usize) -> bool
     requires { (length state.now ≡ state_size) × (kind < kinds) × (other < kinds) }
     ensures { result ≡ kind_within state.now kind other }
 {
-    let mut i: u32 = 0;
-    while i < ROUNDS {
+    for i in 0..ROUNDS {
         let mask = mask_of(state, kind, i + 1);
         if mask & mask_of(state, other, i + 1) != mask {
             return false;
         }
-        i += 1;
     }
     true
 }
@@ -156,14 +150,12 @@ fn members_ok(state: &[u32], n: u32, quorum: u32, round: u32) -> bool
     ensures { result ≡ all n (cell_ok state.now round) }
 {
     let terms = terms_of(n, round);
-    let mut at: usize = cell_at(round, 0);
-    let mut p: u32 = 0;
-    while p < n {
+    let mut at = cell_at(round, 0);
+    for p in 0..n {
         if !cell_ok(state, terms, quorum, round, p, at) {
             return false;
         }
         at += BODY_SIZE;
-        p += 1;
     }
     true
 }
@@ -216,12 +208,10 @@ fn cells_ok(state: &[u32]) -> bool
     ensures { result ≡ each_round (λ r. all slots (cell_ok state.now r)) }
 {
     let quorum = quorum_of(state[MEMBER_COUNT]);
-    let mut i: u32 = 0;
-    while i < ROUNDS {
+    for i in 0..ROUNDS {
         if !round_cells_ok(state, quorum, i + 1) {
             return false;
         }
-        i += 1;
     }
     true
 }
@@ -279,12 +269,10 @@ fn leaders_ok(state: &[u32]) -> bool
     if LEADERS_SIZE < count {
         return false;
     }
-    let mut i: usize = 0;
-    while i < count {
+    for i in 0..count {
         if !leader_ok(state, n, i) {
             return false;
         }
-        i += 1;
     }
     last_ok(state, count)
 }
@@ -294,12 +282,10 @@ fn all_marked(state: &[u32], marks: [u32; MASKS]) -> bool
     requires { length state.now ≡ state_size }
     ensures { result ≡ all rounds (λ i. eqb (get_or marks i 0) (ordered_mask state.now (i + 1))) }
 {
-    let mut i: u32 = 0;
-    while i < ROUNDS {
+    for i in 0..ROUNDS {
         if marks[wide(i)] != mask_of(state, ORDERED, i + 1) {
             return false;
         }
-        i += 1;
     }
     true
 }
@@ -314,8 +300,7 @@ fn journal_ok(state: &[u32]) -> bool
         return false;
     }
     let mut marks = [0u32; MASKS];
-    let mut i: usize = 0;
-    while i < count {
+    for i in 0..count {
         let x = state[JOURNAL + i];
         if !is_id(x) {
             return false;
@@ -327,7 +312,6 @@ fn journal_ok(state: &[u32]) -> bool
         }
         let more = marked.with(x % SLOTS);
         marks[at] = more.bits;
-        i += 1;
     }
     all_marked(state, marks)
 }

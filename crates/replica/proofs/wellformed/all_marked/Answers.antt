@@ -1,4 +1,4 @@
-use mathlib.Core.Path.{◌≡◌, sym}
+use mathlib.Core.Path.{sym}
 use Prim.Native.Nat.{◌+◌}
 use native.Mathlib.Omega.{arith}
 use lib.Dec.{eqb}
@@ -10,7 +10,7 @@ use Rattle.replica.specs.State.{ordered_mask}
 use Rattle.replica.proofs.wellformed.all_marked.Goals as goal
 
 pub loop-i-init : goal.loop-i-init
-loop-i-init c = (omega arith, all_none _)
+loop-i-init c = all_none _
 
 pub returns-then-marks-wide : goal.returns-then-marks-wide
 returns-then-marks-wide c =
@@ -18,12 +18,5 @@ returns-then-marks-wide c =
     (ne_eqb _ _ (rw (c.mask_of.ensures, c.wide.ensures) at c.if-marks-wide.true)))
 
 pub loop-i-preserved : goal.loop-i-preserved
-loop-i-preserved c = (
-  omega arith,
-  all_more _ _ c.loop-i.invariant.1
-      (eq-eqb _ _ (rw (c.mask_of.ensures, c.wide.ensures) at c.if-marks-wide.false)),
-)
-
-pub returns : goal.returns
-returns c =
-    let e : c.loop-i.i ≡ rounds = omega arith in sym (rw e at c.loop-i.invariant.1)
+loop-i-preserved c =
+    all_more _ _ c.loop-i.invariant (eq-eqb _ _ (rw (c.mask_of.ensures, c.wide.ensures) at c.if-marks-wide.false))

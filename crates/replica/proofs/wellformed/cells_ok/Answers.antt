@@ -1,4 +1,4 @@
-use mathlib.Core.Path.{◌∙◌, ◌≡◌, sym}
+use mathlib.Core.Path.{◌∙◌, sym}
 use Prim.Native.Nat.{◌+◌}
 use native.Mathlib.Omega.{arith}
 use Rattle.record.specs.Below.{all}
@@ -8,7 +8,7 @@ use Rattle.replica.specs.WellFormed.{cell_ok}
 use Rattle.replica.proofs.wellformed.cells_ok.Goals as goal
 
 pub loop-i-init : goal.loop-i-init
-loop-i-init c = (omega arith, all_none _)
+loop-i-init c = all_none _
 
 pub round_cells_ok-requires : goal.round_cells_ok-requires
 round_cells_ok-requires c =
@@ -21,8 +21,4 @@ returns-then-not-round_cells_ok c =
 
 pub loop-i-preserved : goal.loop-i-preserved
 loop-i-preserved c =
-    (omega arith, all_more _ _ c.loop-i.invariant.1 (sym c.round_cells_ok.ensures ∙ c.if-not-round_cells_ok.false))
-
-pub returns : goal.returns
-returns c =
-    let e : c.loop-i.i ≡ rounds = omega arith in sym (rw e at c.loop-i.invariant.1)
+    all_more _ _ c.loop-i.invariant (sym c.round_cells_ok.ensures ∙ c.if-not-round_cells_ok.false)

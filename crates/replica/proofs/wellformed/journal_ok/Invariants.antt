@@ -1,10 +1,6 @@
 -- Invariant: the first i entries are new ids, and the marks are theirs (`Reading` of `Marks`); `reading_decides` at the end.
-use Prim.Native.Nat.{◌-◌}
 use Rattle.replica.proofs.Marks.{Reading}
 use Rattle.replica.proofs.wellformed.journal_ok.Given as goal
 
 abbrev pub invariant-loop-i : goal.invariant-loop-i
 invariant-loop-i l = Reading l.state l.count l.i l.marks
-
-abbrev pub decreases-loop-i : goal.decreases-loop-i
-decreases-loop-i l = l.count - l.i

@@ -1,4 +1,4 @@
-use mathlib.Core.Path.{◌≡◌, sym}
+use mathlib.Core.Path.{sym}
 use mathlib.Core.Bool.{Bool}
 use mathlib.Core.List.{List}
 use Prim.Native.Nat.{ℕ, ◌+◌}
@@ -15,7 +15,7 @@ abbrev inside : List ℕ → ℕ → ℕ → ℕ → Bool
 inside l kind other k = subset (mask_of l kind (k + 1)) (mask_of l other (k + 1))
 
 pub loop-i-init : goal.loop-i-init
-loop-i-init c = (omega arith, all_none _)
+loop-i-init c = all_none _
 
 pub returns-then-mask-mask_of : goal.returns-then-mask-mask_of
 returns-then-mask-mask_of c =
@@ -23,12 +23,5 @@ returns-then-mask-mask_of c =
     (omega arith) (ne_eqb _ _ (rw (c.mask_of-mask.ensures, c.mask_of.ensures) at c.if-mask-mask_of.true)))
 
 pub loop-i-preserved : goal.loop-i-preserved
-loop-i-preserved c = (
-  omega arith,
-  all_more _ _ c.loop-i.invariant.1
-      (eq-eqb _ _ (rw (c.mask_of-mask.ensures, c.mask_of.ensures) at c.if-mask-mask_of.false)),
-)
-
-pub returns : goal.returns
-returns c =
-    let e : c.loop-i.i ≡ rounds = omega arith in sym (rw e at c.loop-i.invariant.1)
+loop-i-preserved c =
+    all_more _ _ c.loop-i.invariant (eq-eqb _ _ (rw (c.mask_of-mask.ensures, c.mask_of.ensures) at c.if-mask-mask_of.false))

@@ -13,40 +13,27 @@ returns-then-count-gt-LEADERS_SIZE c =
     simp (lt-leb _ _ (rw c.wide-count.ensures at c.if-count-gt-LEADERS_SIZE.true))
 
 pub loop-i-init : goal.loop-i-init
-loop-i-init c =
-    (omega arith, refl, c.wide-count.ensures, omega arith, all_none _)
+loop-i-init c = all_none _
 
 pub leader_ok-requires : goal.leader_ok-requires
 leader_ok-requires c =
-    let g = legal_range _ c.requires.1 in (c.requires.0, c.loop-i.invariant.1, omega arith, omega arith)
+    let g = legal_range _ c.requires.1 in (c.requires.0, refl, omega arith, omega arith)
 
 pub returns-then-not-leader_ok : goal.returns-then-not-leader_ok
 unfolding leaders_ok
 returns-then-not-leader_ok c =
     simp (
-      le-leb _ _ (rw c.loop-i.invariant.2 at c.loop-i.invariant.3),
+      le-leb _ _ (rw c.wide-count.ensures at c.if-count-gt-LEADERS_SIZE.false),
       all_stop _ (leader_ok c.args.state.now) c.loop-i.i
-          (rw c.loop-i.invariant.2 at c.loop-i-test.true) (sym c.leader_ok.ensures ∙ c.if-not-leader_ok.true),
+          (rw c.wide-count.ensures at c.loop-i-test.true) (sym c.leader_ok.ensures ∙ c.if-not-leader_ok.true),
     )
 
 pub loop-i-preserved : goal.loop-i-preserved
-loop-i-preserved c = (
-  omega arith,
-  c.loop-i.invariant.1,
-  c.loop-i.invariant.2,
-  c.loop-i.invariant.3,
-  all_more _ _ c.loop-i.invariant.4 (sym c.leader_ok.ensures ∙ c.if-not-leader_ok.false),
-)
-
-pub last_ok-requires : goal.last_ok-requires
-last_ok-requires c =
-    (c.requires.0, c.loop-i.invariant.2, c.loop-i.invariant.3)
+loop-i-preserved c =
+    all_more _ _ c.loop-i.invariant (sym c.leader_ok.ensures ∙ c.if-not-leader_ok.false)
 
 pub returns : goal.returns
 unfolding leaders_ok
 returns c =
     let e : c.loop-i.i ≡ leader_count c.args.state.now = omega arith in
-    simp (
-      le-leb _ _ (rw c.loop-i.invariant.2 at c.loop-i.invariant.3),
-      rw e at c.loop-i.invariant.4,
-    ) c.last_ok.ensures
+    simp (le-leb _ _ (rw c.wide-count.ensures at c.if-count-gt-LEADERS_SIZE.false), rw e at c.loop-i.invariant) c.last_ok.ensures

@@ -1,4 +1,4 @@
-use mathlib.Core.Path.{◌∙◌, ◌≡◌, sym}
+use mathlib.Core.Path.{◌∙◌, sym}
 use Prim.Native.Nat.{◌+◌}
 use native.Mathlib.Omega.{arith}
 use Rattle.record.proofs.Below.{all_none, all_more, all_stop}
@@ -7,7 +7,7 @@ use Rattle.replica.specs.WellFormed.{masks_within}
 use Rattle.replica.proofs.wellformed.masks_within.Goals as goal
 
 pub loop-i-init : goal.loop-i-init
-loop-i-init c = (omega arith, all_none _)
+loop-i-init c = all_none _
 
 pub returns-then-not-round_within : goal.returns-then-not-round_within
 returns-then-not-round_within c =
@@ -16,8 +16,4 @@ returns-then-not-round_within c =
 
 pub loop-i-preserved : goal.loop-i-preserved
 loop-i-preserved c =
-    (omega arith, all_more _ _ c.loop-i.invariant.1 (sym c.round_within.ensures ∙ c.if-not-round_within.false))
-
-pub returns : goal.returns
-returns c =
-    let e : c.loop-i.i ≡ rounds = omega arith in sym (rw e at c.loop-i.invariant.1)
+    all_more _ _ c.loop-i.invariant (sym c.round_within.ensures ∙ c.if-not-round_within.false)

@@ -4,7 +4,7 @@ use native.Mathlib.Omega.{arith}
 use Rattle.record.proofs.Below.{all_none}
 use Rattle.record.proofs.Masks.{legal_range}
 use Rattle.record.specs.Members.{slots}
-use Rattle.replica.proofs.Laws.{all_no, all_yes, all_end}
+use Rattle.replica.proofs.Laws.{all_no, all_yes}
 use Rattle.replica.proofs.wellformed.members_ok.Goals as goal
 use Rattle.replica.proofs.wellformed.members_ok.Goals.{Start}
 
@@ -15,7 +15,7 @@ pub terms_of-terms-requires : goal.terms_of-terms-requires
 terms_of-terms-requires c = let k = known (goal.at.terms_of-terms-requires c).Start in search rules
 
 pub loop-p-init : goal.loop-p-init
-loop-p-init c = (omega arith, c.cell_at-at.ensures, cc, all_none _)
+loop-p-init c = (c.cell_at-at.ensures, all_none _)
 
 pub cell_ok-requires : goal.cell_ok-requires
 cell_ok-requires c = let k = known (goal.at.cell_ok-requires c).Start in search rules
@@ -25,6 +25,3 @@ returns-then-not-cell_ok c = search all_no
 
 pub loop-p-preserved : goal.loop-p-preserved
 loop-p-preserved c = search (rules, all_yes)
-
-pub returns : goal.returns
-returns c = search all_end

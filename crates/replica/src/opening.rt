@@ -12,11 +12,7 @@ use record::refusal::Refusal;
 pub fn clear(words: &mut [u32])
     ensures { words.new ≡ replicate (length words.old) 0 }
 {
-    let mut i: usize = 0;
-    while i < words.len() {
-        words[i] = 0;
-        i += 1;
-    }
+    words.fill(0);
 }
 
 // Opens the state for a group of n members. The own word is the own member plus 1, or `WATCHER`.

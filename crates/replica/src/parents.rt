@@ -28,8 +28,7 @@ fn weak_held(state: &[u32], body: &[u32]) -> bool
     ensures { result ≡ all (weak_count_of body.now) (λ i. held_id state.now (weak_of body.now i)) }
 {
     let count = wide(body[WEAK_COUNT]);
-    let mut i: usize = 0;
-    while i < WEAK_SLOTS {
+    for i in 0..WEAK_SLOTS {
         if count <= i {
             return true;
         }
@@ -37,7 +36,6 @@ fn weak_held(state: &[u32], body: &[u32]) -> bool
         if !has_bit(mask_of(state, HELD, x / SLOTS), x % SLOTS) {
             return false;
         }
-        i += 1;
     }
     true
 }

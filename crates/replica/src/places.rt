@@ -26,12 +26,10 @@ pub fn index_of(state: &[u32], n: u32, x: u32) -> u32
     if !is_id(x) {
         return width;
     }
-    let mut i: u32 = 0;
-    while i < width {
+    for i in 0..width {
         if leader_at(n, x / SLOTS, i) == x % SLOTS {
             return i;
         }
-        i += 1;
     }
     width
 }

@@ -10,34 +10,29 @@ use Rattle.replica.proofs.ParentLaws.{weak_held_id}
 use Rattle.replica.proofs.parents.weak_held.Goals as goal
 
 pub loop-i-init : goal.loop-i-init
-unfolding weak_count_of
-loop-i-init c = (omega arith, c.wide-count.ensures, all_none _)
+loop-i-init c = (omega arith, all_none _)
 
 -- all that are used are held
 pub returns-then-count-i : goal.returns-then-count-i
+unfolding weak_count_of
 returns-then-count-i c =
-    all_end _ _ c.loop-i.i (omega arith) (omega arith) c.loop-i.invariant.2
+    all_end _ _ c.loop-i.i (omega arith) (omega arith) c.loop-i.invariant.1
 
 pub mask_of-requires : goal.mask_of-requires
-unfolding weak_of
+unfolding weak_of weak_count_of
 mask_of-requires c =
     let low = c.requires.low c.loop-i.i (omega arith) in
     let high = c.requires.high c.loop-i.i (omega arith) in
     search rules
 
 pub returns-then-not-has_bit : goal.returns-then-not-has_bit
-unfolding weak_of
+unfolding weak_of weak_count_of
 returns-then-not-has_bit c =
     let e = weak_held_id _ _ c.requires c.loop-i.i (omega arith) _ (rw c.mask_of.ensures at c.has_bit.ensures) in
     all_no _ (λ k. held_id c.args.state.now (weak_of c.args.body.now k)) _ _ (omega arith) e (ap not c.if-not-has_bit.true)
 
 pub loop-i-preserved : goal.loop-i-preserved
-unfolding weak_of
+unfolding weak_of weak_count_of
 loop-i-preserved c =
     let e = weak_held_id _ _ c.requires c.loop-i.i (omega arith) _ (rw c.mask_of.ensures at c.has_bit.ensures) in
-    (omega arith, c.loop-i.invariant.1, all_yes _ _ _ c.loop-i.invariant.2 e (ap not c.if-not-has_bit.false))
-
-pub returns : goal.returns
-returns c =
-    let few = c.requires.few in
-    all_end _ _ c.loop-i.i (omega arith) (omega arith) c.loop-i.invariant.2
+    (omega arith, all_yes _ _ _ c.loop-i.invariant.1 e (ap not c.if-not-has_bit.false))

@@ -27,20 +27,18 @@ leader_at-requires c =
 
 pub returns-then-leader_at-x : goal.returns-then-leader_at-x
 returns-then-leader_at-x c =
-    index_at c.args.state.now _ _ _ _ (id (goal.at.returns-then-leader_at-x c).Else-not-is_id) c.requires.1 c.loop-i.invariant.1
+    index_at c.args.state.now _ _ _ _ (id (goal.at.returns-then-leader_at-x c).Else-not-is_id) c.requires.1 c.loop-i.invariant
     (omega (arith, c.width_of-width.ensures, c.loop-i-test.true))
     c.leader_at.ensures c.if-leader_at-x.true
 
 pub loop-i-preserved : goal.loop-i-preserved
-loop-i-preserved c = (
-  omega (arith, c.width_of-width.ensures, c.loop-i-test.true),
-  index_more c.args.state.now _ _ _ _ c.requires.1 c.loop-i.invariant.1 c.leader_at.ensures c.if-leader_at-x.false,
-)
+loop-i-preserved c =
+    index_more c.args.state.now _ _ _ _ c.requires.1 c.loop-i.invariant c.leader_at.ensures c.if-leader_at-x.false
 
 pub returns : goal.returns
 returns c =
     let e : c.loop-i.i ≡ width c.args.state.now = omega (arith, c.width_of-width.ensures) in
-    c.width_of-width.ensures ∙ sym e ∙ index_none c.args.state.now _ _ (id (goal.at.returns c).Else-not-is_id) c.loop-i.invariant.1 e
+    c.width_of-width.ensures ∙ sym e ∙ index_none c.args.state.now _ _ (id (goal.at.returns c).Else-not-is_id) c.loop-i.invariant e
 
 pub loop-i-init : goal.loop-i-init
-loop-i-init c = (omega arith, any_false 0 _ (λ i l. absurd (omega arith)))
+loop-i-init c = any_false 0 _ (λ i l. absurd (omega arith))

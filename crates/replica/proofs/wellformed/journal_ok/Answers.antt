@@ -31,17 +31,11 @@ returns-then-not-is_id c = search reading_strange
 pub overflow_sub-x : goal.overflow_sub-x
 overflow_sub-x c = let k = known c in search rules
 
-pub offset_bounds-marks-at : goal.offset_bounds-marks-at
-offset_bounds-marks-at c = let k = known (goal.at.offset_bounds-marks-at c).Else-not-is_id in search rules
-
 pub bounds-marks-at : goal.bounds-marks-at
 bounds-marks-at c = let k = known (goal.at.bounds-marks-at c).Else-not-is_id in search rules
 
 pub returns-then-has : goal.returns-then-has
 returns-then-has c = search reading_twice
-
-pub offset_bounds-marks-at-in-loop-i : goal.offset_bounds-marks-at-in-loop-i
-offset_bounds-marks-at-in-loop-i c = let k = known (goal.at.offset_bounds-marks-at-in-loop-i c).Else-not-is_id in search rules
 
 pub bounds-marks-at-in-loop-i : goal.bounds-marks-at-in-loop-i
 bounds-marks-at-in-loop-i c = let k = known (goal.at.bounds-marks-at-in-loop-i c).Else-not-is_id in search rules

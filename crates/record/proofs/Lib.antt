@@ -8,5 +8,4 @@ pub mod Handed
 pub mod Parts
 pub mod Weak
 pub mod Composed
-pub mod Copying
 pub mod Claims

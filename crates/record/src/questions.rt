@@ -128,15 +128,13 @@ fn weak_ids_ok(n: u32, round: u32, body: &[u32], count: usize) -> bool
     requires { (length body.now ≡ body_size) × (count ≤ weak_slots) × (1 ≤ round) × (round ≤ rounds) }
     ensures { result ≡ all count (used_ok n round body.now) }
 {
-    let mut last: u32 = BEFORE_IDS;
-    let mut i: usize = 0;
-    while i < count {
+    let mut last = BEFORE_IDS;
+    for i in 0..count {
         let x = body[WEAK + i];
         if !weak_id_ok(n, round, last, x) {
             return false;
         }
         last = x;
-        i += 1;
     }
     true
 }
@@ -147,13 +145,11 @@ fn slots_zero(body: &[u32], count: usize) -> bool
     ensures { result ≡ all weak_slots (λ i. ltb i count || eqb (weak_of body.now i) 0) }
 {
     let mut joined: u32 = 0;
-    let mut i: usize = 0;
-    while i < WEAK_SLOTS {
+    for i in 0..WEAK_SLOTS {
         let word = body[WEAK + i];
         if count <= i {
-            joined = joined | word;
+            joined |= word;
         }
-        i += 1;
     }
     joined == 0
 }

@@ -6,9 +6,5 @@ pub fn copy_words(words: &mut [u32], from: &[u32])
     requires { length words.old ≡ length from.now }
     ensures { words.new ≡ from.now }
 {
-    let mut i: usize = 0;
-    while i < words.len() {
-        words[i] = from[i];
-        i += 1;
-    }
+    words.copy_from_slice(from);
 }

@@ -8,6 +8,14 @@ use native.Mathlib.Nat.{eq-or-lt_of_le, le_of_suc-le-suc, not-suc-le-zero}
 use native.Mathlib.Numerals.{add-one}
 use native.Mathlib.Omega.{arith}
 use lib.Dec.{ltb}
+use denote.Param.Members.{Mut}
+use Rattle.std.specs.Fn.{Called}
+use Rattle.std.specs.Iterator.{ChecksAll}
+use Rattle.std.specs.List.{list_all, range_with_len}
+use Rattle.std.proofs.iter.Yields.{nat_range_steps}
+use Rattle.std.proofs.lemmas.Iterator.{YieldsList-from_range}
+use Rattle.std.proofs.lemmas.Iterator.Search.{all_from_yields_List}
+use Rattle.std.specs.declared.ops.Range.{Range}
 use borrow.Author.Tests.{ltb-true, ltb-false}
 use Rattle.record.specs.Below.{all, any, count, select, least}
 use Rattle.record.proofs.Booleans.{which, and_left, and_right, and_both, and_fails_left, and_fails_right, or_cases, or_left, or_right}
@@ -59,6 +67,22 @@ all_join a b t = bool_ext
         let low : a ≤ i = ltb-false i a h in
         let k : a + (i - a) ≡ i = omega arith in
         ap t (sym k) ∙ all_elim b (λ i. t (a + i)) (and_right (all a t) _ e) (i - a) (omega arith)
+
+all_of : (k a : ℕ) (t : ℕ → Bool) → list_all t (range_with_len a k) ≡ all k (λ i. t (a + i))
+unfolding all
+all_of zero a t = refl
+all_of (suc k) a t =
+    let here : t a ≡ t (a + 0) = ap t (omega arith) in
+    let turn : all k (λ i. t (a + 1 + i)) ≡ all k (λ i. t (a + (1 + i))) = all_cong k _ _ (λ i l. ap t (omega arith)) in
+    let count : 1 + k ≡ suc k = omega arith in
+    ap₂ ◌&&◌ here (all_of k (a + 1) t ∙ turn) ∙ sym (all_join 1 k (λ i. t (a + i))) ∙ ap (λ (n : ℕ). all n (λ i. t (a + i))) count
+
+-- what the library's `all` gives over the range 0..k, with a closure that answers t of each number
+pub all_range : {F : Type 0} {g : Mut F (ℕ × Unit {0}) Bool} (k : ℕ) (t : ℕ → Bool) (u : Range ℕ) (f : F) (r : Bool)
+    → ChecksAll nat_range_steps g (record { start = 0; end = k }) f r u
+    → ((x : ℕ) (b : Bool) (q : F) → Called g f (x, tt) b q → (q ≡ f) × (b ≡ t x)) → r ≡ all k t
+all_range k t u f r ran each =
+    all_from_yields_List t u f r ran (YieldsList-from_range 0 k k refl (omega arith)) each ∙ all_of k 0 t ∙ all_cong k _ _ (λ i l. ap t (omega arith))
 
 -- ---- any
 

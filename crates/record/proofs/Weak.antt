@@ -56,9 +56,6 @@ pub risen_start : (n round : ℕ) (body : List ℕ) (count : ℕ) → Risen n ro
 risen_start n round body count = record { below = omega arith; above = omega arith; first = λ _. refl; later = λ h. absurd (omega arith); pass = all_none _ }
 
 module _ {n round : ℕ} {body : List ℕ} {count last i : ℕ} (R : Risen n round body count last i) where
-  pub risen_end : count ≤ i → true ≡ all count (used_ok n round body)
-  risen_end h = let e : i ≡ count = omega arith in sym (rw e at R.pass)
-
   module _ (low : i < count) (b : Bool) (e : b ≡ (ltb last (weak_of body i) && weak_id_ok n round (weak_of body i))) where
     slot : used_ok n round body i ≡ b
     slot = sym (e ∙ weak_slot n round body i last R.first R.later)

@@ -92,12 +92,7 @@ fn masks_within(state: &[u32]) -> bool
     requires { length state.now ≡ state_size }
     ensures { result ≡ each_round (masks_within state.now) }
 {
-    for i in 0..ROUNDS {
-        if !round_within(state, i + 1) {
-            return false;
-        }
-    }
-    true
+    (0..ROUNDS).all(|i| round_within(state, i + 1))
 }
 
 // Each round's mask of the one kind lies within that of the other.
@@ -105,13 +100,10 @@ fn kind_within(state: &[u32], kind: usize, other: usize) -> bool
     requires { (length state.now ≡ state_size) × (kind < kinds) × (other < kinds) }
     ensures { result ≡ kind_within state.now kind other }
 {
-    for i in 0..ROUNDS {
+    (0..ROUNDS).all(|i| {
         let mask = mask_of(state, kind, i + 1);
-        if mask & mask_of(state, other, i + 1) != mask {
-            return false;
-        }
-    }
-    true
+        mask & mask_of(state, other, i + 1) == mask
+    })
 }
 
 // The record passes questions 5 to 11 and 14.
@@ -208,12 +200,7 @@ fn cells_ok(state: &[u32]) -> bool
     ensures { result ≡ each_round (λ r. all slots (cell_ok state.now r)) }
 {
     let quorum = quorum_of(state[MEMBER_COUNT]);
-    for i in 0..ROUNDS {
-        if !round_cells_ok(state, quorum, i + 1) {
-            return false;
-        }
-    }
-    true
+    (0..ROUNDS).all(|i| round_cells_ok(state, quorum, i + 1))
 }
 
 // Leader `index` of x's round comes next behind the entry before x.
@@ -269,10 +256,8 @@ fn leaders_ok(state: &[u32]) -> bool
     if LEADERS_SIZE < count {
         return false;
     }
-    for i in 0..count {
-        if !leader_ok(state, n, i) {
-            return false;
-        }
+    if !(0..count).all(|i| leader_ok(state, n, i)) {
+        return false;
     }
     last_ok(state, count)
 }
@@ -282,12 +267,7 @@ fn all_marked(state: &[u32], marks: [u32; MASKS]) -> bool
     requires { length state.now ≡ state_size }
     ensures { result ≡ all rounds (λ i. eqb (get_or marks i 0) (ordered_mask state.now (i + 1))) }
 {
-    for i in 0..ROUNDS {
-        if marks[wide(i)] != mask_of(state, ORDERED, i + 1) {
-            return false;
-        }
-    }
-    true
+    (0..ROUNDS).all(|i| marks[wide(i)] == mask_of(state, ORDERED, i + 1))
 }
 
 // Each entry is an id and, in the marks of its round, new; it is marked there. In the end the marks are the ordered masks.

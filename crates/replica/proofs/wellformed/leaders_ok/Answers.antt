@@ -1,39 +1,35 @@
-use mathlib.Core.Path.{◌∙◌, sym, ◌≡◌, refl}
-use native.Mathlib.Omega.{arith}
+use mathlib.Core.Path.{◌≡◌, ◌∙◌, sym}
 use borrow.Author.Tests.{le-leb, lt-leb}
-use Rattle.record.proofs.Below.{all_none, all_more, all_stop}
+use Rattle.std.proofs.Common.{rules, tests}
+use Rattle.std.proofs.iter.Serving.{serving}
+use Rattle.record.proofs.Below.{all_range}
 use Rattle.record.proofs.Masks.{legal_range}
+use Rattle.record.specs.Below.{all}
 use Rattle.replica.specs.State.{leader_count}
 use Rattle.replica.specs.WellFormed.{leader_ok, leaders_ok}
 use Rattle.replica.proofs.wellformed.leaders_ok.Goals as goal
+use Rattle.replica.proofs.wellformed.leaders_ok.Goals.{After-all}
 
 pub returns-then-count-gt-LEADERS_SIZE : goal.returns-then-count-gt-LEADERS_SIZE
 unfolding leaders_ok
 returns-then-count-gt-LEADERS_SIZE c =
     simp (lt-leb _ _ (rw c.wide-count.ensures at c.if-count-gt-LEADERS_SIZE.true))
 
-pub loop-i-init : goal.loop-i-init
-loop-i-init c = all_none _
+pub all-requires-clause-callable : goal.all-requires-clause-callable
+all-requires-clause-callable c = let g = legal_range _ c.requires.1 in grind serving
 
-pub leader_ok-requires : goal.leader_ok-requires
-leader_ok-requires c =
-    let g = legal_range _ c.requires.1 in (c.requires.0, refl, omega arith, omega arith)
+-- whether every leader passes
+tested : (c : After-all) → c.all.result ≡ all (leader_count c.args.state.now) (leader_ok c.args.state.now)
+tested c = rw c.wide-count.ensures at (all_range _ (leader_ok c.args.state.now) _ _ _ c.all.ensures.ran (λ x b q k. search (rules, tests)))
 
-pub returns-then-not-leader_ok : goal.returns-then-not-leader_ok
+pub returns-then-not-all : goal.returns-then-not-all
 unfolding leaders_ok
-returns-then-not-leader_ok c =
-    simp (
-      le-leb _ _ (rw c.wide-count.ensures at c.if-count-gt-LEADERS_SIZE.false),
-      all_stop _ (leader_ok c.args.state.now) c.loop-i.i
-          (rw c.wide-count.ensures at c.loop-i-test.true) (sym c.leader_ok.ensures ∙ c.if-not-leader_ok.true),
-    )
-
-pub loop-i-preserved : goal.loop-i-preserved
-loop-i-preserved c =
-    all_more _ _ c.loop-i.invariant (sym c.leader_ok.ensures ∙ c.if-not-leader_ok.false)
+returns-then-not-all c =
+    let h = tested (goal.at.returns-then-not-all c).After-all in
+    simp (le-leb _ _ (rw c.wide-count.ensures at c.if-count-gt-LEADERS_SIZE.false), sym h ∙ c.if-not-all.true)
 
 pub returns : goal.returns
 unfolding leaders_ok
 returns c =
-    let e : c.loop-i.i ≡ leader_count c.args.state.now = omega arith in
-    simp (le-leb _ _ (rw c.wide-count.ensures at c.if-count-gt-LEADERS_SIZE.false), rw e at c.loop-i.invariant) c.last_ok.ensures
+    let h = tested (goal.at.returns c).After-all in
+    simp (le-leb _ _ (rw c.wide-count.ensures at c.if-count-gt-LEADERS_SIZE.false), sym h ∙ c.if-not-all.false) c.last_ok.ensures

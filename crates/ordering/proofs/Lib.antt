@@ -1,5 +1,6 @@
 pub mod Rule
 pub mod Copying
+pub mod SameWords
 pub mod Missing
 pub mod Turns
 pub mod Numbers

@@ -8,13 +8,14 @@ use native.Mathlib.Nat.{eq-or-lt_of_le}
 use native.Mathlib.Numerals.{add-one}
 use native.Mathlib.Omega.{arith}
 use lib.Dec.{ltb}
-use lib.ListN.{length, get_or}
+use lib.ListN.{length, get_or, take, drop}
+use lib.Seq.{get_or-take, get_or-drop}
 use borrow.Author.Tests.{ltb-true, ltb-false}
 use Rattle.record.specs.Below.{least}
 use Rattle.record.specs.Members.{legal, has, id_of, id_round, id_member, rounds, slots, id_limit}
 use Rattle.record.specs.Layout.{body_size, weak_slots, strong_of, weak_count_of, weak_of, strong_place, weak_count_place, weak_place}
 use Rattle.record.specs.Admitted.{Admitted}
-use Rattle.record.proofs.Booleans.{which, never, and_both, and_fails_left, and_fails_right, passed, failed}
+use Rattle.record.proofs.Booleans.{which, never, and_both, and_fails_left, and_fails_right, failed}
 use Rattle.record.proofs.Below.{any_false, least_none, least_at}
 use Rattle.record.proofs.Masks.{legal_range, has_bound}
 use Rattle.record.proofs.Turn.{admitted}
@@ -113,6 +114,15 @@ module _ (n r p : ℕ) (l body : List ℕ) (group : legal n ≡ true) (a : Admit
   none_found m c w = sym (least_none id_limit (missing l r body) (any_false id_limit (missing l r body)
       (λ y b. none_below m w y (λ s t. omega (arith, has_bound n (strong_of body) (id_member y) a.strong_low t)))))
 
+-- a weak id as the code reads it
+abbrev pub weak_word : List ℕ → ℕ → ℕ → ℕ
+weak_word body count i = get_or (take (weak_place + count - weak_place) (drop weak_place body)) i 0
+
+weak_read : (body : List ℕ) (count i : ℕ) → i < count → weak_word body count i ≡ weak_of body i
+unfolding weak_of
+weak_read body count i h =
+    get_or-take (weak_place + count - weak_place) (drop weak_place body) i 0 (omega arith) ∙ get_or-drop weak_place body i 0
+
 -- what each step of the search may use, in the terms of the code
 pub record Search (n r : ℕ) (l body : List ℕ) : Type 0 where
   pub state_long : length l ≡ state_size
@@ -122,11 +132,11 @@ pub record Search (n r : ℕ) (l body : List ℕ) : Type 0 where
   pub few : n ≤ slots
   pub used : get_or body weak_count_place 0 ≤ weak_slots
   pub start : WeakHeld l body 0
-  pub weak_more : (i : ℕ) → WeakHeld l body i → (t : Bool) → t ≡ held_id l (get_or body (weak_place + i) 0) → not t ≡ false → WeakHeld l body (i + 1)
-  pub weak_lacks : (count i : ℕ) → count ≡ get_or body weak_count_place 0 → WeakHeld l body i → i < count → (t : Bool)
-      → t ≡ held_id l (get_or body (weak_place + i) 0) → not t ≡ true
-      → get_or body (weak_place + i) 0 ≡ least id_limit (missing l r body)
-  pub weak_all : (count i : ℕ) → count ≡ get_or body weak_count_place 0 → WeakHeld l body i → count ≤ i → StrongHeld r l body 0
+  pub weak_more : (count i : ℕ) → i < count → WeakHeld l body i → (t : Bool) → t ≡ held_id l (weak_word body count i) → t ≡ true → WeakHeld l body (i + 1)
+  pub weak_lacks : (count i : ℕ) → count ≡ get_or body weak_count_place 0 → i < count → WeakHeld l body i → (t : Bool)
+      → t ≡ held_id l (weak_word body count i) → t ≡ false → weak_word body count i ≡ least id_limit (missing l r body)
+  pub weak_all : (count i : ℕ) → count ≡ get_or body weak_count_place 0 → count ≤ i → WeakHeld l body i → WeakHeld l body (weak_count_of body)
+  pub strong_none : WeakHeld l body (weak_count_of body) → StrongHeld r l body 0
   pub strong_more : (m : ℕ) → StrongHeld r l body m → (b : Bool) → b ≡ has (get_or body strong_place 0) m → (b ≡ false) ⊎ (held_id l (id_of (r - 1) m) ≡ true)
       → StrongHeld r l body (m + 1)
   pub strong_lacks : (m : ℕ) → StrongHeld r l body m → m < n → (b : Bool) → b ≡ has (get_or body strong_place 0) m → b ≡ true
@@ -147,9 +157,12 @@ searched l n r body searching =
       few = (legal_range n pre.legit).high;
       used = weak_five n r p l body pre.legit a;
       start = λ k b. absurd (omega arith);
-      weak_more = λ i w t e h. one_more (λ k. held_id l (weak_of body k) ≡ true) i w (passed e h);
-      weak_lacks = λ count i c w b t e h. weak_found n r p l body pre.legit a i (omega (arith, c)) w (failed e h);
-      weak_all = λ count i c w b. record { weak = λ k d. w k (omega (arith, c)); strong = λ k d. absurd (omega arith) };
+      weak_more = λ count i b w t e h. one_more (λ k. held_id l (weak_of body k) ≡ true) i w (ap (held_id l) (sym (weak_read body count i b)) ∙ sym e ∙ h);
+      weak_lacks = λ count i c b w t e h.
+          let d = weak_read body count i b in
+          d ∙ weak_found n r p l body pre.legit a i (omega (arith, c)) w (ap (held_id l) (sym d) ∙ sym e ∙ h);
+      weak_all = λ count i c b w k d. w k (omega (arith, c));
+      strong_none = λ w. record { weak = w; strong = λ k d. absurd (omega arith) };
       strong_more = λ m w b e h. record {
         weak = w.weak;
         strong = one_more (λ k. has (strong_of body) k ≡ true → held_id l (id_of (r - 1) k) ≡ true) m w.strong

@@ -30,14 +30,8 @@ fn same_body(state: &[u32], round: u32, member: u32, body: &[u32]) -> bool
     ensures { result ≡ same_body state.now round member body.now }
 {
     let at = cell_at(round, member);
-    let mut i: usize = 0;
-    while i < BODY_SIZE {
-        if state[at + i] != body[i] {
-            return false;
-        }
-        i += 1;
-    }
-    true
+    let end = at + BODY_SIZE;
+    &state[at..end] == body
 }
 
 // The vertex is written to its cell and marked held.

@@ -27,8 +27,7 @@ fn records_ok(buffer: &[u32], n: u32, quorum: u32) -> bool
 {
     let count = buffer[COUNT];
     let mut last: u32 = 0;
-    let mut j: u32 = 0;
-    while j < count {
+    for j in 0..count {
         let at = slot_at(j);
         let end = at + RECORD_SIZE;
         if number(check(n, quorum, &buffer[at..end])) != 0 {
@@ -39,7 +38,6 @@ fn records_ok(buffer: &[u32], n: u32, quorum: u32) -> bool
             return false;
         }
         last = id;
-        j += 1;
     }
     true
 }

@@ -16,14 +16,7 @@ fn same_record(rec: &[u32], other: &[u32]) -> bool
     requires { (length rec.now ≡ record_size) × (length other.now ≡ record_size) }
     ensures { result ≡ same_record rec.now other.now }
 {
-    let mut i: usize = 0;
-    while i < RECORD_SIZE {
-        if rec[i] != other[i] {
-            return false;
-        }
-        i += 1;
-    }
-    true
+    rec == other
 }
 
 // How many records come before the first whose id is this one or higher.
@@ -32,16 +25,14 @@ pub fn rank_of(buffer: &[u32], id: u32) -> u32
     ensures { result ≡ rank (records_in buffer.now) id }
 {
     let count = buffer[COUNT];
-    let mut j: u32 = 0;
-    while j < count {
+    for j in 0..count {
         let at = slot_at(j);
         let end = at + RECORD_SIZE;
         if id_of(&buffer[at..end]) >= id {
             return j;
         }
-        j += 1;
     }
-    j
+    count
 }
 
 // The same record waits: it does so in its place or nowhere.
@@ -86,12 +77,8 @@ pub fn copy_slot(buffer: &mut [u32], from: u32, to: u32)
     ensures { buffer.new ≡ paste buffer.old (slot_at to) (record_at buffer.old from) record_size }
 {
     let at = slot_at(from);
-    let place = slot_at(to);
-    let mut i: usize = 0;
-    while i < RECORD_SIZE {
-        buffer[place + i] = buffer[at + i];
-        i += 1;
-    }
+    let end = at + RECORD_SIZE;
+    buffer.copy_within(at..end, slot_at(to));
 }
 
 // The records from slot j on move up, and the record is put in that slot.
@@ -100,10 +87,8 @@ pub fn put_in(buffer: &mut [u32], j: u32, rec: &[u32])
     ensures { buffer.new ≡ buffer_of (put_in rec.now (records_in buffer.old)) }
 {
     let count = buffer[COUNT];
-    let mut i = count;
-    while i > j {
-        copy_slot(buffer, i - 1, i);
-        i -= 1;
+    for i in (j..count).rev() {
+        copy_slot(buffer, i, i + 1);
     }
     write_slot(buffer, j, rec);
     buffer[COUNT] = count + 1;

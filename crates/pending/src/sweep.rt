@@ -48,10 +48,8 @@ pub fn release(state: &mut [u32], buffer: &mut [u32], n: u32, quorum: u32)
 {
     let count = buffer[COUNT];
     let mut kept: u32 = 0;
-    let mut j: u32 = 0;
-    while j < count {
+    for j in 0..count {
         kept = sweep_one(state, buffer, n, quorum, j, kept);
-        j += 1;
     }
     let free = slot_at(kept);
     let end = slot_at(count);

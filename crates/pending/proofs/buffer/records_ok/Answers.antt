@@ -1,4 +1,4 @@
-use mathlib.Core.Path.{◌≡◌, refl, sym, ap, ◌∙◌}
+use mathlib.Core.Path.{◌≡◌, sym, ap, ◌∙◌}
 use Prim.Native.Nat.{ℕ, ◌+◌, ◌-◌}
 use native.Mathlib.Omega.{arith}
 use Rattle.record.specs.Refusals.{number_of}
@@ -11,7 +11,7 @@ use Rattle.pending.proofs.buffer.records_ok.Goals.{After-id_of-id, After-number}
 
 pub loop-j-init : goal.loop-j-init
 loop-j-init c =
-    (omega arith, refl, ap (records_ok c.args.n 0) (records_all c.args.buffer.now (count_of c.args.buffer.now)))
+    ap (records_ok c.args.n 0) (records_all c.args.buffer.now (count_of c.args.buffer.now))
 
 -- the questions are asked of the record in slot j
 asked : (c : After-number) → c.number.result ≡ number_of (record_refusal c.args.n (record_at c.args.buffer.now c.loop-j.j))
@@ -27,7 +27,7 @@ pub returns-then-number-ne0 : goal.returns-then-number-ne0
 returns-then-number-ne0 c =
     let m : After-number = (goal.at.returns-then-number-ne0 c).After-number in
     sym (ok_refused c.args.n c.loop-j.last c.args.buffer.now c.loop-j.j _ (omega arith) (λ d. c.if-number-ne0.true (asked m ∙ d)))
-    ∙ c.loop-j.invariant.2
+    ∙ c.loop-j.invariant
 
 pub id_of-id-requires : goal.id_of-id-requires
 id_of-id-requires c =
@@ -38,18 +38,15 @@ pub returns-then-id-last : goal.returns-then-id-last
 returns-then-id-last c =
     let i : After-id_of-id = (goal.at.returns-then-id-last c).After-id_of-id in
     sym (ok_low c.args.n c.loop-j.last c.args.buffer.now c.loop-j.j _ (omega arith) (omega (arith, known i)))
-    ∙ c.loop-j.invariant.2
+    ∙ c.loop-j.invariant
 
 pub loop-j-preserved : goal.loop-j-preserved
 loop-j-preserved c =
-    let m : After-number = (goal.at.loop-j-preserved c).After-number in let i : After-id_of-id = (goal.at.loop-j-preserved c).After-id_of-id in (
-      omega arith,
-      c.loop-j.invariant.1,
-      ap (λ (x : ℕ). records_ok c.args.n x (records_from c.args.buffer.now (c.loop-j.j + 1) (count_of c.args.buffer.now - (c.loop-j.j + 1)))) (known i)
-          ∙ ok_next c.args.n c.loop-j.last c.args.buffer.now c.loop-j.j _ (omega arith) (sym (asked m) ∙ cc) (omega (arith, known i))
-          ∙ c.loop-j.invariant.2,
-    )
+    let m : After-number = (goal.at.loop-j-preserved c).After-number in let i : After-id_of-id = (goal.at.loop-j-preserved c).After-id_of-id in
+    ap (λ (x : ℕ). records_ok c.args.n x (records_from c.args.buffer.now (c.loop-j.j + 1) (count_of c.args.buffer.now - (c.loop-j.j + 1)))) (known i)
+    ∙ ok_next c.args.n c.loop-j.last c.args.buffer.now c.loop-j.j _ (omega arith) (sym (asked m) ∙ cc) (omega (arith, known i))
+    ∙ c.loop-j.invariant
 
 pub returns : goal.returns
 returns c =
-    sym (ok_end c.args.n c.loop-j.last c.args.buffer.now c.loop-j.j _ (omega arith)) ∙ c.loop-j.invariant.2
+    sym (ok_end c.args.n c.loop-j.last c.args.buffer.now c.loop-j.j _ (omega arith)) ∙ c.loop-j.invariant

@@ -1,4 +1,4 @@
-use mathlib.Core.Path.{◌≡◌, refl, ap, ◌∙◌}
+use mathlib.Core.Path.{◌≡◌, ap, ◌∙◌}
 use native.Mathlib.Omega.{arith}
 use borrow.Author.Rules.{rules}
 use Rattle.pending.specs.Buffer.{record_id, count_of, record_at}
@@ -14,7 +14,7 @@ F s = formed _ _ s.requires.formed
 pub loop-j-init : goal.loop-j-init
 loop-j-init c =
     let e = ap (λ recs. rank recs c.args.id) (records_all c.args.buffer.now (count_of c.args.buffer.now)) in
-    (omega arith, refl, omega (arith, e))
+    omega (arith, e)
 
 pub id_of-requires : goal.id_of-requires
 id_of-requires c =
@@ -30,18 +30,18 @@ pub returns-then-id_of-id : goal.returns-then-id_of-id
 returns-then-id_of-id c =
     let i : After-id_of = (goal.at.returns-then-id_of-id c).After-id_of in
     let r = rank_here c.args.buffer.now c.loop-j.j (count_of c.args.buffer.now) c.args.id (omega arith) (omega (arith, known i)) in
-    omega (arith, r, c.loop-j.invariant.2)
+    omega (arith, r, c.loop-j.invariant)
 
 pub loop-j-preserved : goal.loop-j-preserved
 loop-j-preserved c =
     let i : After-id_of = (goal.at.loop-j-preserved c).After-id_of in
     let r = rank_next c.args.buffer.now c.loop-j.j (count_of c.args.buffer.now) c.args.id (omega arith) (omega (arith, known i)) in
-    (omega arith, c.loop-j.invariant.1, omega (arith, r, c.loop-j.invariant.2))
+    omega (arith, r, c.loop-j.invariant)
 
 pub returns : goal.returns
 returns c =
     let r = rank_none c.args.buffer.now c.loop-j.j (count_of c.args.buffer.now) c.args.id (omega arith) in
-    omega (arith, r, c.loop-j.invariant.2)
+    omega (arith, r, c.loop-j.invariant)
 
 pub bounds-buffer-0 : goal.bounds-buffer-0
 bounds-buffer-0 c = let f = F (goal.at.bounds-buffer-0 c).Start in search rules
@@ -63,9 +63,3 @@ slice_bounds-id_of-start c = let f = F (goal.at.slice_bounds-id_of-start c).Star
 
 pub slice_bounds-id_of-end : goal.slice_bounds-id_of-end
 slice_bounds-id_of-end c = let f = F (goal.at.slice_bounds-id_of-end c).Start in search rules
-
-pub overflow_add-j : goal.overflow_add-j
-overflow_add-j c = let f = F (goal.at.overflow_add-j c).Start in search rules
-
-pub loop-j-smaller : goal.loop-j-smaller
-loop-j-smaller c = let f = F (goal.at.loop-j-smaller c).Start in search rules

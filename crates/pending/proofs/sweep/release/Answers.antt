@@ -22,26 +22,23 @@ G : (s : Start) → Good s.args.n (s.args.state.now)
 G s = record { formed = formed _ s.requires.0.size s.requires.0.formed; members = sym s.requires.0.members }
 
 pub loop-j-init : goal.loop-j-init
-loop-j-init c = let s : Start = (goal.at.loop-j-init c).Start in (omega arith, refl, going_start _ _ _ (G s) (F s))
+loop-j-init c = let s : Start = (goal.at.loop-j-init c).Start in going_start _ _ _ (G s) (F s)
 
 pub sweep_one-kept-requires : goal.sweep_one-kept-requires
 sweep_one-kept-requires c =
     let s : Start = (goal.at.sweep_one-kept-requires c).Start in
     going_trying c.args.n c.args.quorum c.args.state.now c.args.buffer.now c.loop-j.state c.loop-j.buffer c.loop-j.kept c.loop-j.j (F s) c.requires.0.quorum
-    c.loop-j.invariant.2 (omega arith)
+    c.loop-j.invariant (omega arith)
 
 pub loop-j-preserved : goal.loop-j-preserved
 loop-j-preserved c =
-    let s : Start = (goal.at.loop-j-preserved c).Start in (
-      omega arith,
-      c.loop-j.invariant.1,
-      step c.args.n c.args.state.now c.args.buffer.now c.loop-j.state c.loop-j.buffer c.loop-j.kept c.loop-j.j (F s) c.loop-j.invariant.2 (omega arith) _ _ _
-          c.sweep_one-kept.ensures,
-    )
+    let s : Start = (goal.at.loop-j-preserved c).Start in
+    step c.args.n c.args.state.now c.args.buffer.now c.loop-j.state c.loop-j.buffer c.loop-j.kept c.loop-j.j (F s) c.loop-j.invariant (omega arith) _ _ _
+    c.sweep_one-kept.ensures
 
 pub slot_at-free-requires : goal.slot_at-free-requires
 slot_at-free-requires c =
-    let s : Start = (goal.at.slot_at-free-requires c).Start in omega (arith, (F s).few, c.loop-j.invariant.2.few)
+    let s : Start = (goal.at.slot_at-free-requires c).Start in omega (arith, (F s).few, c.loop-j.invariant.few)
 
 pub slot_at-end-requires : goal.slot_at-end-requires
 slot_at-end-requires c = let s : Start = (goal.at.slot_at-end-requires c).Start in (F s).few
@@ -50,35 +47,32 @@ slot_at-end-requires c = let s : Start = (goal.at.slot_at-end-requires c).Start 
 bounds : (c : After-slot_at-end) → (c.slot_at-free.result ≤ c.slot_at-end.result) × (c.slot_at-end.result ≤ length c.loop-j.buffer)
 bounds c =
     let s : Start = (goal.at.After-slot_at-end c).Start in let f = (F s).few in
-    let k = c.loop-j.invariant.2.few in
+    let k = c.loop-j.invariant.few in
     let x = c.slot_at-free.ensures in
     let y = c.slot_at-end.ensures in
-    let z = c.loop-j.invariant.2.size in
+    let z = c.loop-j.invariant.size in
     (omega arith, omega arith)
 
 pub shape_of-state : goal.shape_of-state
 shape_of-state c =
-    c.loop-j.invariant.2.good.formed.size ∙ sym c.requires.0.size
+    c.loop-j.invariant.good.formed.size ∙ sym c.requires.0.size
 
 pub shape_of-buffer : goal.shape_of-buffer
 shape_of-buffer c =
     let s : Start = (goal.at.shape_of-buffer c).Start in let at : ℕ = c.slot_at-free.result in
     let size : ℕ = c.slot_at-end.result - at in
     length-set (put_mid at size c.loop-j.buffer c.clear.new.words) count_place _
-    ∙ same_len_mid at size c.loop-j.buffer c.clear.new.words c.clear.auto.words ∙ c.loop-j.invariant.2.size ∙ sym (F s).size
+    ∙ same_len_mid at size c.loop-j.buffer c.clear.new.words c.clear.auto.words ∙ c.loop-j.invariant.size ∙ sym (F s).size
 
 pub returns : goal.returns
 returns c =
     let s : Start = (goal.at.returns c).Start in let b : After-slot_at-end = (goal.at.returns c).After-slot_at-end in
     let e : c.loop-j.j ≡ count_of c.args.buffer.now = omega arith in
-    sweep_done c.args.n c.args.state.now c.args.buffer.now c.loop-j.state c.loop-j.buffer _ _ c.loop-j.kept _ _ (F s) (G s) (rw e at c.loop-j.invariant.2)
+    sweep_done c.args.n c.args.state.now c.args.buffer.now c.loop-j.state c.loop-j.buffer _ _ c.loop-j.kept _ _ (F s) (G s) (rw e at c.loop-j.invariant)
     c.slot_at-free.ensures c.slot_at-end.ensures (cleared c.loop-j.buffer c.clear.new.words _ _ (bounds b).0 (bounds b).1 c.clear.ensures) refl
 
 pub bounds-buffer-0 : goal.bounds-buffer-0
 bounds-buffer-0 c = let f = F (goal.at.bounds-buffer-0 c).Start in search rules
-
-pub overflow_add-j : goal.overflow_add-j
-overflow_add-j c = let f = F (goal.at.overflow_add-j c).Start in search rules
 
 pub offset_bounds-buffer-free : goal.offset_bounds-buffer-free
 offset_bounds-buffer-free c = let b = bounds c in search rules

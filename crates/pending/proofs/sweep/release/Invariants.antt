@@ -1,13 +1,7 @@
 -- Invariant: the records below slot j are tried, and those of them that wait on are in the first slots.
-use mathlib.Core.Path.{◌≡◌}
-use Prim.Native.Nat.{◌≤◌, ◌-◌}
 use Rattle.pending.specs.Buffer.{count_of}
 use Rattle.pending.proofs.Swept.{Going}
 use Rattle.pending.proofs.sweep.release.Given as goal
 
 abbrev pub invariant-loop-j : goal.invariant-loop-j
-invariant-loop-j l =
-    (l.j ≤ l.count) × (l.count ≡ count_of l.initial.buffer) × Going l.n l.initial.state l.initial.buffer l.state l.buffer l.kept l.j (count_of l.initial.buffer)
-
-abbrev pub decreases-loop-j : goal.decreases-loop-j
-decreases-loop-j l = l.count - l.j
+invariant-loop-j l = Going l.n l.initial.state l.initial.buffer l.state l.buffer l.kept l.j (count_of l.initial.buffer)

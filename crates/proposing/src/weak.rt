@@ -45,10 +45,8 @@ fn offer_round(words: &mut [u32; RECORD_SIZE], most: u32, held: u32, reached: u3
     if held & reached == held {
         return;
     }
-    let mut p: u32 = 0;
-    while p < SLOTS {
+    for p in 0..SLOTS {
         offer_id(words, most, held, reached, SLOTS * round + p);
-        p += 1;
     }
 }
 
@@ -63,8 +61,7 @@ pub fn offer_rounds(
     requires { (length state.now ≡ state_size) × (most ≤ weak_slots) × (2 ≤ round) × (round ≤ rounds) }
     ensures { words.new ≡ offer_rounds words.old most state.now reached (round - 2) }
 {
-    let mut t: u32 = 0;
-    while t + 2 < round {
+    for t in 0..round - 2 {
         offer_round(
             words,
             most,
@@ -72,6 +69,5 @@ pub fn offer_rounds(
             reached[wide(t)],
             t + 1,
         );
-        t += 1;
     }
 }

@@ -6,12 +6,12 @@ use Rattle.proposing.proofs.weak.offer_rounds.Goals as goal
 
 pub loop-t-preserved : goal.loop-t-preserved
 loop-t-preserved c =
-    (omega arith, rounds_more _ _ _ _ _ _ _ _ _ c.loop-t.invariant.1 c.mask_of.ensures c.wide.ensures c.offer_round.ensures)
+    rounds_more _ _ _ _ _ _ _ _ _ c.loop-t.invariant c.mask_of.ensures c.wide.ensures c.offer_round.ensures
 
 pub returns : goal.returns
 returns c =
     let e : c.loop-t.t ≡ c.args.round - 2 = omega arith in
-    rw e at c.loop-t.invariant.1
+    rw e at c.loop-t.invariant
 
 pub loop-t-init : goal.loop-t-init
-loop-t-init c = (omega arith, rounds_none _ _ _ _)
+loop-t-init c = rounds_none _ _ _ _

@@ -4,12 +4,11 @@ use mathlib.Core.Bool.{true, false}
 use mathlib.Core.Logic.{◌⊎◌, inl, inr}
 use mathlib.Core.List.{List, [], ◌∷◌, ◌++◌, append_assoc, append-nil}
 use Prim.Native.Nat.{ℕ, zero, suc, ◌+◌, ◌-◌, ◌*◌, ◌/◌, ◌%◌, ◌≤◌, ◌<◌}
-use native.Mathlib.Nat.{add-zero}
 use native.Mathlib.Numerals.{add-one}
 use native.Mathlib.Omega.{arith}
 use lib.Dec.{eqb}
 use lib.ListN.{length, length-append, length-drop, length-set, length-take, get_or, drop, take, set}
-use lib.Seq.{drop-cons, drop-set-lt, get_or-set_same, append_snoc, take-suc, take-suc-set, take_all}
+use lib.Seq.{drop-cons, drop-set-lt, get_or-set_same, append_snoc, take-suc, take-suc-set, take_all, take_at}
 use borrow.Author.Tests.{eq-eqb, ne_eqb}
 use Rattle.transcript.specs.Text.{item_size, digits_from, decimal, items, Appended}
 use Rattle.record.proofs.Booleans.{which, cond_true, cond_false}
@@ -54,6 +53,10 @@ decimal_zero n e = sym (cond_true _ _ (eq-eqb n 0 e))
 pub decimal_more : (n : ℕ) → (n ≡ 0 → ⊥) → digits_from 10 n ≡ decimal n
 unfolding decimal
 decimal_more n h = sym (cond_false _ _ (ne_eqb n 0 h))
+
+-- where no digit is left to be put before those from i on
+pub shown : (n : ℕ) (s : List ℕ) (i rest : ℕ) → digits_from i rest ≡ [] → (n ≡ 0 → ⊥) → digits_from i rest ++ drop i s ≡ digits_from 10 n → drop i s ≡ decimal n
+shown n s i rest e h d = ap (λ (r : List ℕ). r ++ drop i s) (sym e) ∙ d ∙ decimal_more n h
 
 digits_few : (k n : ℕ) → length (digits_from k n) ≤ k
 unfolding digits_from
@@ -107,19 +110,27 @@ pub appended_fits : {d e s : List ℕ} {a b : ℕ} → Appended d a s e b → a 
 appended_fits {d} {e} {s} {a} {b} p l =
     omega (arith, p.last, ap length p.held, length-append (take a d) s, length-take a d, length-take b e)
 
--- a turn of the loop of `put_bytes`
-pub appended_start : (d : List ℕ) (at : ℕ) → Appended d at [] d (at + 0)
-appended_start d at = rw (add-zero at) (appended_none d at)
-
-pub appended_turn : {d e : List ℕ} (t : List ℕ) (at i : ℕ) → Appended d at (take i t) e (at + i) → i < length t → at + i < length e
-    → Appended d at (take (i + 1) t) (set e (at + i) (get_or t i 0)) (at + (i + 1))
-appended_turn {d} {e} t at i p l h =
-    let one : take (i + 1) t ≡ take i t ++ get_or t i 0 ∷ [] = rw (add-one i) (take-suc t i 0 l) in
-    let end : at + (i + 1) ≡ at + i + 1 = omega arith in
-    rw (one, end) (appended_then p (appended_byte e (at + i) (get_or t i 0) h))
-
-pub appended_all : {d e : List ℕ} (t : List ℕ) (at i b : ℕ) → length t ≤ i → Appended d at (take i t) e b → Appended d at t e b
-appended_all t at i b l p = rw (take_all i t l) at p
+-- a part that was lent and has come back with the text
+pub appended_part : (d t : List ℕ) (at : ℕ) → at + length t ≤ length d → (ys : List ℕ) → ys ≡ t
+    → Appended d at t (take at d ++ (ys ++ drop (at + length t - at) (drop at d))) (at + length t)
+appended_part d t at fits ys e = record {
+  size = omega (
+    arith,
+    size,
+    length-append (take at d) (ys ++ drop (at + length t - at) (drop at d)),
+    length-append ys (drop (at + length t - at) (drop at d)),
+    length-take at d,
+    length-drop at d,
+    length-drop (at + length t - at) (drop at d),
+  );
+  last = refl;
+  held = ap (take (at + length t)) (sym (append_assoc (take at d) ys (drop (at + length t - at) (drop at d))))
+      ∙ take_at (take at d ++ ys) (drop (at + length t - at) (drop at d)) (at + length t) (omega (arith, size, length-append (take at d) ys, length-take at d))
+      ∙ ap (λ (r : List ℕ). take at d ++ r) e;
+}
+  where
+    size : length ys ≡ length t
+    size = ap length e
 
 -- a turn of the loop of `put_items`: a space, and the digits of n
 pub appended_item : {d e f g : List ℕ} (t : List ℕ) (at i b c k : ℕ) → i < length t → Appended d at (items (take i t)) e b

@@ -85,13 +85,12 @@ a_numeral s p q h = sym (cond_true (value_of s) 4294967296 (and_both p (and_both
 
 -- its invariant
 pub record Counting (s : List ℕ) (value i : ℕ) : Type 0 where
-  pub inside : i ≤ length s
   pub small : value ≤ largest
   pub digits : all_digits s ≡ all_digits (drop i s)
   pub valued : value_of s ≡ value_from value (drop i s)
 
 pub counting : (s : List ℕ) → Counting s 0 0
-counting s = record { inside = omega arith; small = omega arith; digits = refl; valued = refl }
+counting s = record { small = omega arith; digits = refl; valued = refl }
 
 -- what is known of a byte that is a digit; w is the digit's value
 pub record DigitRead (s : List ℕ) (value i : ℕ) : Type 0 where
@@ -109,7 +108,7 @@ module _ (s : List ℕ) (value i : ℕ) (c : Counting s value i) where
     low = digit_low _ (passed e h);
     high = digit_high _ (passed e h);
     over = λ w d k. too_large s (omega (arith, value_turn w d, value_grows (drop (i + 1) s) (value * 10 + w)));
-    next = λ w d k. record { inside = omega arith; small = k; digits = c.digits ∙ digits_next s i l (passed e h); valued = value_turn w d };
+    next = λ w d k. record { small = k; digits = c.digits ∙ digits_next s i l (passed e h); valued = value_turn w d };
   }
     where
       value_turn : (w : ℕ) → w ≡ get_or s i 0 - zero_digit → value_of s ≡ value_from (value * 10 + w) (drop (i + 1) s)

@@ -135,7 +135,6 @@ module _ (s : List ℕ) (at j k : ℕ) (p : k ≡ suc j) (l : at < length s) whe
 
 -- its invariant
 pub record Reading (s : List ℕ) (count : ℕ) (words : List ℕ) (at i : ℕ) : Type 0 where
-  pub some : i ≤ count
   pub few : count ≤ record_size
   pub inside : at ≤ length s
   pub rest : words_ok count (drop 1 s) ≡ words_ok (count - i) (drop at s)
@@ -143,7 +142,6 @@ pub record Reading (s : List ℕ) (count : ℕ) (words : List ℕ) (at i : ℕ) 
 
 pub reading : (s : List ℕ) (count : ℕ) → count ≤ record_size → 1 ≤ length s → Reading s count (replicate record_size 0) 1 0
 reading s count few l = record {
-  some = omega arith;
   few = few;
   inside = l;
   rest = ap (λ (m : ℕ). words_ok m (drop 1 s)) (sym (sub-zero count));
@@ -192,7 +190,6 @@ module _ (s : List ℕ) (count : ℕ) (words : List ℕ) (at i : ℕ) (w : Readi
     next : at < length s → get_or s at 0 ≡ space → (end v : ℕ) → end ≡ at + 1 + length (up_to_space (drop (at + 1) s))
         → v ≡ numeral_value (up_to_space (drop (at + 1) s)) → v ≤ largest → Reading s count (set words i v) end (i + 1)
     next l q end v e d h = record {
-      some = omega arith;
       few = w.few;
       inside = fits end e l;
       rest = w.rest ∙ words_next s at _ _ one l end v e d h q;

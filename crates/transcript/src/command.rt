@@ -82,8 +82,7 @@ fn read_words(line: &[u8], count: usize) -> Words
 {
     let mut words = [0u32; RECORD_SIZE];
     let mut at: usize = 1;
-    let mut i: usize = 0;
-    while i < count {
+    for i in 0..count {
         if line.len() <= at {
             return no_words();
         }
@@ -98,7 +97,6 @@ fn read_words(line: &[u8], count: usize) -> Words
         }
         words[i] = value as u32;
         at = end;
-        i += 1;
     }
     if at != line.len() {
         return no_words();

@@ -49,17 +49,14 @@ pub fn numeral(s: &[u8]) -> u64
         return NO_NUMERAL;
     }
     let mut value: u64 = 0;
-    let mut i: usize = 0;
-    while i < s.len() {
-        let b = s[i];
-        if !is_digit(b) {
+    for b in s {
+        if !is_digit(*b) {
             return NO_NUMERAL;
         }
-        value = value * 10 + wide(b - ZERO);
+        value = value * 10 + wide(*b - ZERO);
         if LARGEST < value {
             return NO_NUMERAL;
         }
-        i += 1;
     }
     value
 }
@@ -69,12 +66,10 @@ pub fn word_end(line: &[u8], from: usize) -> usize
     requires { from ≤ length line.now }
     ensures { result ≡ from + length (up_to_space (drop from line.now)) }
 {
-    let mut i = from;
-    while i < line.len() {
+    for i in from..line.len() {
         if line[i] == SPACE {
             return i;
         }
-        i += 1;
     }
-    i
+    line.len()
 }

@@ -44,16 +44,17 @@ fn digits_of(n: u32) -> Digits
         };
     }
     let mut rest = n;
-    let mut i: usize = DIGITS;
-    while 0 < i {
+    for i in (0..DIGITS).rev() {
         if rest == 0 {
-            return Digits { bytes, start: i };
+            return Digits {
+                bytes,
+                start: i + 1,
+            };
         }
-        i -= 1;
         bytes[i] = last_digit(rest);
         rest /= 10;
     }
-    Digits { bytes, start: i }
+    Digits { bytes, start: 0 }
 }
 
 fn put_byte(out: &mut [u8], at: usize, b: u8) -> usize
@@ -69,12 +70,9 @@ fn put_bytes(out: &mut [u8], at: usize, text: &[u8]) -> usize
     requires { at + length text.now ≤ length out.old }
     ensures { Appended out.old at text.now out.new result }
 {
-    let mut i: usize = 0;
-    while i < text.len() {
-        out[at + i] = text[i];
-        i += 1;
-    }
-    at + i
+    let end = at + text.len();
+    out[at..end].copy_from_slice(text);
+    end
 }
 
 fn put_number(out: &mut [u8], at: usize, n: u32) -> usize
@@ -93,11 +91,9 @@ fn put_items(out: &mut [u8], at: usize, numbers: &[u32]) -> usize
     ensures { Appended out.old at (items numbers.now) out.new result }
 {
     let mut end = at;
-    let mut i: usize = 0;
-    while i < numbers.len() {
+    for number in numbers {
         let start = put_byte(out, end, SPACE);
-        end = put_number(out, start, numbers[i]);
-        i += 1;
+        end = put_number(out, start, *number);
     }
     end
 }

@@ -1,10 +1,6 @@
 -- `read_words` meets its contract. The loop's invariant: the line's words are those in the array and those from index `at` on. Assumes nothing.
 use Rattle.transcript.proofs.Words.{Reading}
-use Prim.Native.Nat.{◌-◌}
 use Rattle.transcript.proofs.command.read_words.Given as goal
 
 abbrev pub invariant-loop-i : goal.invariant-loop-i
 invariant-loop-i l = Reading l.line l.count l.words l.at l.i
-
-abbrev pub decreases-loop-i : goal.decreases-loop-i
-decreases-loop-i l = l.count - l.i

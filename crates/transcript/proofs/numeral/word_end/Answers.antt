@@ -4,7 +4,7 @@ use Rattle.transcript.proofs.Words.{word_stop, word_next, word_none}
 use Rattle.transcript.proofs.numeral.word_end.Goals as goal
 
 pub loop-i-init : goal.loop-i-init
-loop-i-init c = (omega arith, refl)
+loop-i-init c = refl
 
 pub returns-then-line-i-eq-SPACE : goal.returns-then-line-i-eq-SPACE
 returns-then-line-i-eq-SPACE c =
@@ -12,7 +12,7 @@ returns-then-line-i-eq-SPACE c =
 
 pub loop-i-preserved : goal.loop-i-preserved
 loop-i-preserved c =
-    (omega arith, omega (arith, word_next c.args.line.now c.loop-i.i c.loop-i-test.true c.if-line-i-eq-SPACE.false))
+    omega (arith, word_next c.args.line.now c.loop-i.i c.loop-i-test.true c.if-line-i-eq-SPACE.false)
 
 pub returns : goal.returns
 returns c =

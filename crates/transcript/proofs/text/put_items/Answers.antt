@@ -4,24 +4,23 @@ use native.Mathlib.Omega.{arith}
 use Rattle.transcript.proofs.Digits.{appended_none, appended_item, items_none, decimal_few}
 use Rattle.transcript.proofs.text.put_items.Goals as goal
 
-pub loop-i-init : goal.loop-i-init
-loop-i-init c = (omega arith, omega arith, rw items_none (appended_none _ _))
+pub loop-number-init : goal.loop-number-init
+loop-number-init c = (omega arith, rw items_none (appended_none _ _))
 
 pub put_byte-start-requires : goal.put_byte-start-requires
 put_byte-start-requires c = omega arith
 
-pub loop-i-preserved : goal.loop-i-preserved
-loop-i-preserved c = (
-  omega arith,
+pub loop-number-preserved : goal.loop-number-preserved
+loop-number-preserved c = (
   omega (
     arith,
     c.put_byte-start.ensures.last,
     c.put_number-end.ensures.last,
-    decimal_few (get_or c.args.numbers.now c.loop-i.i 0),
+    decimal_few (get_or c.args.numbers.now c.loop-number.number-index 0),
   ),
-  appended_item _ _ _ _ _ _ c.loop-i-test.true c.loop-i.invariant.2 c.put_byte-start.ensures c.put_number-end.ensures,
+  appended_item _ _ _ _ _ _ c.loop-number-test.true c.loop-number.invariant.1 c.put_byte-start.ensures c.put_number-end.ensures,
 )
 
 pub returns : goal.returns
 returns c =
-    items_all _ _ _ _ c.loop-i-test.false c.loop-i.invariant.2
+    items_all _ _ _ _ c.loop-number-test.false c.loop-number.invariant.1

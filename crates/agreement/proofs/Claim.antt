@@ -8,9 +8,8 @@ use Prim.Native.Nat.{ℕ, zero, suc, ◌+◌, ◌-◌, ◌≤◌, ◌<◌}
 use native.Mathlib.Omega.{arith}
 use borrow.Author.Tests.{not-true, ne_eqb}
 use Rattle.record.specs.Members.{legal, leader, voted_rounds}
-use Rattle.record.specs.Refusals.{number_of, first_no}
+use Rattle.record.specs.Refusals.{Verdict, number_of, first_no}
 use Rattle.record.specs.Layout.{round_of, source_of, body_of}
-use Rattle.record.specs.declared.refusal.Refusal.{Refusal}
 use Rattle.record.proofs.Booleans.{and_left, and_right}
 use Rattle.protocol.specs.Dag.{records_of, present, votes, backed, committed}
 use Rattle.protocol.proofs.Commit.{backed_cong}
@@ -163,7 +162,7 @@ module _ (n : ℕ) (a b : Model) (honest : ℕ → Bool) (g : legal n ≡ true) 
       (signed_alike l (signing_round l) w.0 w.1) f
 
   -- the model does not change
-  noted : (why : Refusal) (l after : List ℕ) (m : Model) → Follows n l m → (number_of why ≡ 0 → Follows n after m) → Follows n (outcome why l after).words m
+  noted : (why : Verdict) (l after : List ℕ) (m : Model) → Follows n l m → (number_of why ≡ 0 → Follows n after m) → Follows n (outcome why l after).words m
   noted why l after m f h = outcome_words (λ k. Follows n k m) why l after f h
 
   -- a vertex with a pending buffer
@@ -194,7 +193,7 @@ module _ (n : ℕ) (a b : Model) (honest : ℕ → Bool) (g : legal n ≡ true) 
   step (opening k own) l m ok f i j = rw (open_no l k own (not-true _ ok)) f
   step (vertex rec) l m ok f i j = go (decided why) j
     where
-      why : Refusal
+      why : Verdict
       why = first_no (vertex_questions l (round_of rec) (source_of rec) (body_of rec))
 
       after : List ℕ
@@ -208,7 +207,7 @@ module _ (n : ℕ) (a b : Model) (honest : ℕ → Bool) (g : legal n ≡ true) 
   step (vertex_with s rec) l m ok f i j = with_follows s rec l m f i j
   step (first_message rec) l m ok f i j = go (decided why) j
     where
-      why : Refusal
+      why : Verdict
       why = first_no (first_questions l (round_of rec) (source_of rec) (body_of rec))
 
       after : List ℕ

@@ -1,4 +1,5 @@
 -- The worked cases. Every call of a row but the opening is on a formed state, so a row is computed by its short run. Assumes nothing.
+use Rattle.std.specs.Prelude.{Err}
 use mathlib.Core.Path.{◌≡◌, refl, sym, ap, ap₂, ◌∙◌}
 use mathlib.Core.Bool.{Bool, true, false, ◌&&◌}
 use mathlib.Core.Logic.{⊎_elim}
@@ -12,12 +13,11 @@ use lib.ListN.{length, take, drop, length-replicate}
 use borrow.Author.Tests.{eq-eqb, le-leb}
 use Rattle.record.specs.Below.{all, any, count, select, least, longest}
 use Rattle.record.specs.Members.{legal, leader_at, has, within, meets, is_round}
-use Rattle.record.specs.Refusals.{first_no}
+use Rattle.record.specs.Refusals.{Verdict, no_refusal, first_no}
 use Rattle.record.specs.Layout.{strong_of, timeouts_of, no_votes_of, weak_count_of, weak_of}
 use Rattle.record.specs.Questions.{masks_ok, strong_ok, lacks_leader, quorum_if, timeouts_ok, no_votes_ok, weak_id_ok, rises, slot_ok, weak_ok}
 use Rattle.record.specs.Questions.{signer_questions, record_questions}
-use Rattle.record.specs.declared.refusal.Refusal.{Refusal}
-use Rattle.record.specs.declared.refusal.Refusal.TheVariants.{None, MemberCount}
+use Rattle.record.specs.declared.refusal.Refusal.TheVariants.{MemberCount}
 use Rattle.record.proofs.Booleans.{and_both}
 use Rattle.record.proofs.Turn.{next, stop, done}
 use Rattle.protocol.specs.Dag.{voter, backed}
@@ -164,11 +164,11 @@ ends = refl
 opened_seen : (n : ℕ) → legal n ≡ true
     → seen (open_state zeros n watcher) nothing ≡ record { number = 0; id = 0; given = nothing; round = 1; committed = 0; leaders = []; journal = [] }
 opened_seen n e = ap (λ (o : Outcome). seen o nothing) same
-    ∙ seen_is (outcome None zeros (opened n watcher)) nothing (unfold outcome in opened_formed n watcher e (omega arith))
+    ∙ seen_is (outcome no_refusal zeros (opened n watcher)) nothing (unfold outcome in opened_formed n watcher e (omega arith))
     ∙ unfold outcome short_seen opened in refl
   where
-    same : open_state zeros n watcher ≡ outcome None zeros (opened n watcher)
-    same = unfold open_state in ap (λ (why : Refusal). outcome why zeros (opened n watcher))
+    same : open_state zeros n watcher ≡ outcome no_refusal zeros (opened n watcher)
+    same = unfold open_state in ap (λ (why : Verdict). outcome why zeros (opened n watcher))
         (sym (next _ _ (eq-eqb _ _ zeros_size) (next _ _ e (next _ _ (le-leb watcher n (omega arith)) done))))
 
 -- and after one with another member count
@@ -176,8 +176,8 @@ refused_seen : (n : ℕ) → legal n ≡ false
     → seen (open_state zeros n watcher) nothing ≡ record { number = 2; id = 0; given = nothing; round = 0; committed = 0; leaders = []; journal = [] }
 refused_seen n e = ap (λ (o : Outcome). seen o nothing) same ∙ unfold outcome span_if first_no well_formed legal in refl
   where
-    same : open_state zeros n watcher ≡ outcome MemberCount zeros (opened n watcher)
-    same = unfold open_state in ap (λ (why : Refusal). outcome why zeros (opened n watcher)) (sym (next _ _ (eq-eqb _ _ zeros_size) (stop _ _ e)))
+    same : open_state zeros n watcher ≡ outcome (Err MemberCount) zeros (opened n watcher)
+    same = unfold open_state in ap (λ (why : Verdict). outcome why zeros (opened n watcher)) (sym (next _ _ (eq-eqb _ _ zeros_size) (stop _ _ e)))
 
 -- equal lists from equal entries
 cons : {x y : Seen} {xs ys : List Seen} → x ≡ y → xs ≡ ys → x ∷ xs ≡ y ∷ ys

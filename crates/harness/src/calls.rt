@@ -5,54 +5,69 @@ use ordering::first::take_first_message;
 use ordering::notes::{take_no_vote, take_timeout};
 use ordering::vertex::take_vertex;
 use pending::early::take_vertex_with;
-use proposing::making::{Proposal, propose};
+use proposing::making::propose;
 use proposing::signing::sign_no_vote;
-use record::layout::DIGEST_SIZE;
-use record::refusal::{missing_id, number};
-use replica::answer::{Answer, Status};
+use record::layout::{DIGEST_SIZE, RECORD_SIZE};
+use record::refusal::{Refusal, number_of};
+use replica::answer::{Added, NOTHING, Status};
 use replica::lists::{ask_journal, ask_leaders, hand_journal, hand_leaders};
 use replica::opening::open;
 use replica::status::status;
 use std::io;
 use std::io::Write;
 
+const NO_STATUS: Status = Status {
+    current_round: 0,
+    committed_round: 0,
+    leader_count: 0,
+    journal_count: 0,
+};
+
 // The number, the id, and the two counts.
-fn put_answer<W: Write>(out: &mut W, answer: Answer) -> io::Result<()> {
-    let why = answer.refusal;
-    put(out, number(why))?;
-    put(out, missing_id(why))?;
-    put(out, answer.leaders)?;
-    put(out, answer.journal)
+fn put_answer<W: Write>(out: &mut W, answer: Result<Added, Refusal>) -> io::Result<()> {
+    let id = match answer {
+        Ok(_) => 0,
+        Err(why) => why.missing_id().unwrap_or(0),
+    };
+    let added = answer.unwrap_or(NOTHING);
+    put(out, number_of(answer))?;
+    put(out, id)?;
+    put(out, added.leaders)?;
+    put(out, added.journal)
 }
 
-// The answer's four numbers, and the words of the record.
-fn put_proposal<W: Write>(out: &mut W, proposal: Proposal) -> io::Result<()> {
-    let answer = proposal.answer;
-    put_answer(out, answer)?;
-    let words = proposal.words;
-    put_words(out, &words)
+// The answer's four numbers, and the words of the record: zeros where making is refused.
+fn put_proposal<W: Write>(
+    out: &mut W,
+    proposal: Result<[u32; RECORD_SIZE], Refusal>,
+) -> io::Result<()> {
+    put_answer(out, proposal.map(|_| NOTHING))?;
+    put_words(out, &proposal.unwrap_or([0; RECORD_SIZE]))
 }
 
 // The answer's four numbers, and the checksum of the pending buffer.
-fn put_answer_with<W: Write>(out: &mut W, answer: Answer, buffer: &[u32]) -> io::Result<()> {
+fn put_answer_with<W: Write>(
+    out: &mut W,
+    answer: Result<Added, Refusal>,
+    buffer: &[u32],
+) -> io::Result<()> {
     put_answer(out, answer)?;
     put(out, checksum(buffer))
 }
 
 // The number alone: asking has no id, and adds nothing.
-fn put_number<W: Write>(out: &mut W, answer: Answer) -> io::Result<()> {
-    let why = answer.refusal;
-    put(out, number(why))
+fn put_number<W: Write>(out: &mut W, answer: Result<Added, Refusal>) -> io::Result<()> {
+    put(out, number_of(answer))
 }
 
-// The number, and the four words.
-fn put_status<W: Write>(out: &mut W, status: Status) -> io::Result<()> {
-    let why = status.refusal;
-    put(out, number(why))?;
-    put(out, status.current_round)?;
-    put(out, status.committed_round)?;
-    put(out, status.leader_count)?;
-    put(out, status.journal_count)
+// The number, and the four words: zeros where status is refused.
+fn put_status<W: Write>(out: &mut W, status: Result<Status, Refusal>) -> io::Result<()> {
+    put(out, number_of(status))?;
+    let head = status.unwrap_or(NO_STATUS);
+    put(out, head.current_round)?;
+    put(out, head.committed_round)?;
+    put(out, head.leader_count)?;
+    put(out, head.journal_count)
 }
 
 // The calls that change no word.

@@ -1,4 +1,5 @@
 -- The questions of a bundle of timeouts in turn: what stopped it, and what is known where nothing did. Assumes nothing.
+use Rattle.std.specs.Prelude.{Err}
 use mathlib.Core.Path.{◌≡◌, refl, sym, ap, ◌∙◌}
 use mathlib.Core.Bool.{Bool, true, false, not, ◌||◌, or-false}
 use mathlib.Core.Logic.{◌⊎◌, inl, inr, ⊎_elim}
@@ -9,9 +10,8 @@ use lib.ListN.{length}
 use borrow.Author.Tests.{eqb-false}
 use Rattle.record.specs.Below.{any}
 use Rattle.record.specs.Members.{is_round, rounds, has, within}
-use Rattle.record.specs.Refusals.{number_of, first_no}
-use Rattle.record.specs.declared.refusal.Refusal.{Refusal}
-use Rattle.record.specs.declared.refusal.Refusal.TheVariants.{None, Round, MaskBits, Duplicate}
+use Rattle.record.specs.Refusals.{Verdict, no_refusal, number_of, first_no}
+use Rattle.record.specs.declared.refusal.Refusal.TheVariants.{Round, MaskBits, Duplicate}
 use Rattle.record.proofs.Booleans.{which, never, or_right, passed, failed}
 use Rattle.record.proofs.Below.{any_intro, any_false}
 use Rattle.record.proofs.Masks.{has_or, mask_ext, within_lt}
@@ -58,37 +58,37 @@ some_new l S r mask low high small h = ⊎_elim (λ e. e) (λ e. absurd (h (same
 
 -- ---- the questions
 
-module _ (l : List ℕ) (r mask : ℕ) (why : Refusal) (e : why ≡ first_no (state_questions l)) (x : ℕ) (f : x ≡ number_of why) where
-  pub bundle_state : (x ≡ 0 → ⊥) → why ≡ bundle_refusal l r mask
-  bundle_state h = state_stops l why e _ (λ d. h (f ∙ d))
+module _ (l : List ℕ) (r mask : ℕ) (why : Verdict) (e : why ≡ first_no (state_questions l)) where
+  pub bundle_state : (number_of why ≡ 0 → ⊥) → why ≡ bundle_refusal l r mask
+  bundle_state h = state_stops l why e _ h
 
-  module _ (h : x ≡ 0) where
-    past : {s : Refusal} → s ≡ first_no (bundle_questions l r mask) → s ≡ bundle_refusal l r mask
-    past d = state_past l why e _ (sym f ∙ h) _ d
+  module _ (h : number_of why ≡ 0) where
+    past : {s : Verdict} → s ≡ first_no (bundle_questions l r mask) → s ≡ bundle_refusal l r mask
+    past d = state_past l why e _ h _ d
 
     S : WellFormed l
-    S = state_formed l why e (sym f ∙ h)
+    S = state_formed l why e h
 
     pub bundle_size : length l ≡ state_size
     bundle_size = S.size
 
     -- a is the code's answer to 5, b to 7, and m the timeouts of the round
     module _ (a : Bool) (ea : a ≡ is_round r) where
-      pub bundle_off : not a ≡ true → Round ≡ bundle_refusal l r mask
+      pub bundle_off : not a ≡ true → Err Round ≡ bundle_refusal l r mask
       bundle_off q = past (stop _ _ (failed ea q))
 
       module _ (pa : not a ≡ false) (b : Bool) (eb : b ≡ within (member_count l) mask) where
-        pub bundle_wide : not b ≡ true → MaskBits ≡ bundle_refusal l r mask
+        pub bundle_wide : not b ≡ true → Err MaskBits ≡ bundle_refusal l r mask
         bundle_wide q = past (next _ _ (passed ea pa) (stop _ _ (failed eb q)))
 
         module _ (pb : not b ≡ false) (m : ℕ) (em : m ≡ timeouts_mask l r) where
-          last : {s : Refusal} → s ≡ first_no ((any (member_count l) (is_new l r mask), Duplicate) ∷ []) → s ≡ bundle_refusal l r mask
+          last : {s : Verdict} → s ≡ first_no ((any (member_count l) (is_new l r mask), Duplicate) ∷ []) → s ≡ bundle_refusal l r mask
           last d = past (next _ _ (passed ea pa) (next _ _ (passed eb pb) d))
 
-          pub bundle_again : bit_or m mask ≡ m → Duplicate ≡ bundle_refusal l r mask
+          pub bundle_again : bit_or m mask ≡ m → Err Duplicate ≡ bundle_refusal l r mask
           bundle_again q = last (stop _ _ (none_new l r mask (rw em at q)))
 
-          pub bundle_new : (bit_or m mask ≡ m → ⊥) → None ≡ bundle_refusal l r mask
+          pub bundle_new : (bit_or m mask ≡ m → ⊥) → no_refusal ≡ bundle_refusal l r mask
           bundle_new q =
               let w = round_range r (passed ea pa) in
               last (next _ _ (some_new l S r mask w.0 w.1 (within_lt _ _ (passed eb pb)) (rw em at q)) done)

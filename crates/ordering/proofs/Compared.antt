@@ -10,11 +10,10 @@ use lib.ListN.{length, get_or, drop}
 use lib.Seq.{get_or-take, get_or-drop, ext_get_or}
 use borrow.Author.Tests.{eqb-true, eqb-false, eq-eqb, lt-ltb}
 use Rattle.record.specs.Members.{has, slots}
-use Rattle.record.specs.Refusals.{number_of, Question, first_no}
+use Rattle.record.specs.Refusals.{Verdict, refusal_number, number_of, Question, first_no}
 use Rattle.record.specs.Layout.{body_size, round_of, source_of, body_of}
 use Rattle.record.specs.Questions.{record_questions}
 use Rattle.record.specs.Admitted.{Admitted}
-use Rattle.record.specs.declared.refusal.Refusal.{Refusal}
 use Rattle.record.specs.declared.refusal.Refusal.TheVariants.{StateSize, Malformed, Weak, Duplicate, Conflict, MissingParent}
 use Rattle.record.proofs.Booleans.{never, and_both, cond_true}
 use Rattle.record.proofs.Below.{all_elim, all_intro}
@@ -48,17 +47,17 @@ rest_decides : (k : ℕ) (xs ys : List Question) → number_of (first_no xs) ≤
 rest_decides k xs ys few h = ⊎_elim (λ e. absurd (omega (arith, ap number_of e))) (λ w. w) (front_or_rest xs ys)
 
 -- the number of an outcome, where it is not 0
-refused_with_lem : (why : Refusal) (l after : List ℕ) (k : ℕ) → 0 < k → (outcome why l after).number ≡ k → number_of why ≡ k
+refused_with_lem : (why : Verdict) (l after : List ℕ) (k : ℕ) → 0 < k → (outcome why l after).number ≡ k → number_of why ≡ k
 refused_with_lem why l after k high e = ⊎_elim
     (λ z. absurd (omega (arith, number_yes why l after z, e)))
     (λ z. sym (number_no why l after z) ∙ e)
     (decided why)
 
-state_few : (l : List ℕ) → number_of (first_no (state_questions l)) ≤ number_of Weak
+state_few : (l : List ℕ) → number_of (first_no (state_questions l)) ≤ refusal_number Weak
 unfolding first_no
 state_few l = go (eqb (length l) state_size) (well_formed l)
   where
-    go : (a b : Bool) → number_of (first_no ((a, StateSize) ∷ (b, Malformed) ∷ [])) ≤ number_of Weak
+    go : (a b : Bool) → number_of (first_no ((a, StateSize) ∷ (b, Malformed) ∷ [])) ≤ refusal_number Weak
     go true true = omega arith
     go true false = omega arith
     go false b = omega arith
@@ -67,7 +66,7 @@ state_few l = go (eqb (length l) state_size) (well_formed l)
 
 -- which booleans give them
 twelve : (held same parents : Bool) (x : ℕ)
-    → number_of (first_no ((not (held && same), Duplicate) ∷ (not held, Conflict) ∷ (parents, MissingParent x) ∷ [])) ≡ number_of Duplicate
+    → number_of (first_no ((not (held && same), Duplicate) ∷ (not held, Conflict) ∷ (parents, MissingParent x) ∷ [])) ≡ refusal_number Duplicate
     → (held ≡ true) × (same ≡ true)
 unfolding first_no
 twelve true true parents x e = (refl, refl)
@@ -76,7 +75,7 @@ twelve false same true x e = absurd (eqb-false 0 12 refl e)
 twelve false same false x e = absurd (eqb-false 14 12 refl e)
 
 thirteen : (held same parents : Bool) (x : ℕ)
-    → number_of (first_no ((not (held && same), Duplicate) ∷ (not held, Conflict) ∷ (parents, MissingParent x) ∷ [])) ≡ number_of Conflict
+    → number_of (first_no ((not (held && same), Duplicate) ∷ (not held, Conflict) ∷ (parents, MissingParent x) ∷ [])) ≡ refusal_number Conflict
     → (held ≡ true) × (same ≡ false)
 unfolding first_no
 thirteen true true parents x e = absurd (eqb-false 12 13 refl e)
@@ -91,15 +90,15 @@ module _ (l : List ℕ) (r p : ℕ) (body : List ℕ) where
     pub admitted : Admitted (member_count l) r p body
     pub place : number_of (first_no (place_questions l r p body)) ≡ k
 
-  asked : (k : ℕ) → number_of Weak < k → (take_body l r p body).number ≡ k → Asked k
+  asked : (k : ℕ) → refusal_number Weak < k → (take_body l r p body).number ≡ k → Asked k
   unfolding take_body
   asked k high e =
       let all = vertex_questions l r p body in
       let later = admission_questions l (member_count l) r p body in
       let n : number_of (first_no all) ≡ k = refused_with_lem (first_no all) l _ k (omega arith) e in
-      let a = rest_decides (number_of Weak) (state_questions l) later (state_few l) (omega (arith, n)) in
+      let a = rest_decides (refusal_number Weak) (state_questions l) later (state_few l) (omega (arith, n)) in
       let m : number_of (first_no later) ≡ k = ap number_of (sym a.1) ∙ n in
-      let b = rest_decides (number_of Weak) (record_questions (member_count l) r p body) (place_questions l r p body)
+      let b = rest_decides (refusal_number Weak) (record_questions (member_count l) r p body) (place_questions l r p body)
       (last_number_law (member_count l) r p body) (omega (arith, m)) in
       let s = state_ok l a.0 in
       record {
@@ -135,10 +134,10 @@ module _ (l : List ℕ) (r p : ℕ) (body : List ℕ) where
 -- The claim.
 pub compares_all_words : ComparesAllWords
 compares_all_words l rec = record {
-  same = λ e. let K = known (number_of Duplicate) (omega arith) e in
+  same = λ e. let K = known (refusal_number Duplicate) (omega arith) e in
       let w = twelve _ _ _ _ K.place in
       found l r p body _ K w.0 ∙ same_words l r p body _ K w.1;
-  other = λ e d. let K = known (number_of Conflict) (omega arith) e in
+  other = λ e d. let K = known (refusal_number Conflict) (omega arith) e in
       let w = thirteen _ _ _ _ K.place in
       never (words_same l r p body _ K (sym (found l r p body _ K w.0) ∙ d)) w.1;
 }
@@ -152,5 +151,5 @@ compares_all_words l rec = record {
     body : List ℕ
     body = body_of rec
 
-    known : (k : ℕ) → number_of Weak < k → (take_body l r p body).number ≡ k → Asked l r p body k
+    known : (k : ℕ) → refusal_number Weak < k → (take_body l r p body).number ≡ k → Asked l r p body k
     known k h e = asked l r p body k h e

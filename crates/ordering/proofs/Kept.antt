@@ -10,8 +10,7 @@ use lib.Dec.{eqb, leb, ltb}
 use lib.ListN.{length}
 use borrow.Author.Tests.{eq-eqb, leb-true, ltb-true}
 use Rattle.record.specs.Members.{leader_at, leader, has, id_of, id_round, id_member, is_round, rounds, slots, voted_rounds}
-use Rattle.record.specs.Refusals.{number_of, first_no}
-use Rattle.record.specs.declared.refusal.Refusal.{Refusal}
+use Rattle.record.specs.Refusals.{Verdict, number_of, first_no}
 use Rattle.record.proofs.Booleans.{which, and_left, and_right, and_both, or_cases, or_left, or_right}
 use Rattle.record.proofs.Masks.{leader_at_lt, has_bound}
 use Rattle.record.proofs.Rounds.{round_in, id_round_lem, id_member_lem}
@@ -200,7 +199,7 @@ formed_commits (suc k) l S = go (which (is_ready l)) (formed_commits k (commit_o
 -- ---- the calls
 
 -- a call whose words would be formed where it is admitted
-pub leaves : (why : Refusal) (l after : List ℕ) → WellFormed l → (number_of why ≡ 0 → WellFormed after) → LeavesWellFormed (outcome why l after)
+pub leaves : (why : Verdict) (l after : List ℕ) → WellFormed l → (number_of why ≡ 0 → WellFormed after) → LeavesWellFormed (outcome why l after)
 leaves why l after S f = outcome_words (λ k. (length k ≡ state_size) × (well_formed k ≡ true)) why l after (good l S) (λ e. good after (f e))
   where
     good : (k : List ℕ) → WellFormed k → (length k ≡ state_size) × (well_formed k ≡ true)

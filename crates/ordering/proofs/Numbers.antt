@@ -8,9 +8,8 @@ use lib.Dec.{eqb}
 use lib.ListN.{length}
 use borrow.Author.Tests.{eqb-true, eqb-false, eq-eqb, ne_eqb, not-true}
 use Rattle.record.specs.Members.{has}
-use Rattle.record.specs.Refusals.{number_of, Question, first_no}
+use Rattle.record.specs.Refusals.{Verdict, number_of, Question, first_no}
 use Rattle.record.specs.Questions.{body_refusal}
-use Rattle.record.specs.declared.refusal.Refusal.{Refusal}
 use Rattle.record.proofs.Booleans.{which, cond_true, cond_false}
 use Rattle.record.proofs.Turn.{next, both_yes}
 use Rattle.replica.specs.Layout.{state_size}
@@ -24,7 +23,7 @@ use Rattle.ordering.proofs.Turns.{record_passed, parents_passed}
 
 -- ---- an outcome
 
-module _ (why : Refusal) (l after : List ℕ) where
+module _ (why : Verdict) (l after : List ℕ) where
   -- admitted
   pub number_yes : number_of why ≡ 0 → (outcome why l after).number ≡ 0
   unfolding outcome
@@ -46,7 +45,7 @@ module _ (why : Refusal) (l after : List ℕ) where
   words_no d = ap (λ (o : Outcome). o.words) (cond_false _ _ (ne_eqb (number_of why) 0 d))
 
 -- one or the other
-pub decided : (why : Refusal) → (number_of why ≡ 0) ⊎ (number_of why ≡ 0 → ⊥)
+pub decided : (why : Verdict) → (number_of why ≡ 0) ⊎ (number_of why ≡ 0 → ⊥)
 decided why = ⊎_elim (λ e. inl (eqb-true _ 0 e)) (λ e. inr (eqb-false _ 0 e)) (which (eqb (number_of why) 0))
 
 -- ---- the questions, all answered yes

@@ -12,11 +12,10 @@ use lib.ListN.{get_or, set}
 use borrow.Author.Tests.{eqb-true, eqb-false, eq-eqb, ne_eqb, ltb-true, lt-ltb, le-ltb, not-true, not-false}
 use Rattle.record.specs.Below.{any, select}
 use Rattle.record.specs.Members.{has, add, rounds, within, is_round}
-use Rattle.record.specs.Refusals.{number_of, Question, first_no}
+use Rattle.record.specs.Refusals.{Verdict, no_refusal, refusal_number, number_of, Question, first_no}
 use Rattle.record.specs.Questions.{signer_questions}
-use Rattle.record.specs.declared.refusal.Refusal.{Refusal}
 use Rattle.record.specs.Admitted.{Placed}
-use Rattle.record.specs.declared.refusal.Refusal.TheVariants.{None, Round, MaskBits, Duplicate}
+use Rattle.record.specs.declared.refusal.Refusal.TheVariants.{Round, MaskBits, Duplicate}
 use Rattle.record.proofs.Booleans.{which, and_fails_right, and_left, and_right, and_both, or_left, bool_ext, cond_true, cond_false}
 use Rattle.record.proofs.Below.{any_elim, any_off, any_cong}
 use Rattle.record.proofs.Masks.{has_bound, has_or, has_one, has_zero, has_add_other, mask_ext, within_lt, lt_within, within_or}
@@ -75,16 +74,16 @@ signer_passed n r p low high few rest =
 
 module _ (l : List ℕ) (S : WellFormed l) (r : ℕ) (low : 1 ≤ r) (high : r ≤ rounds) (p : ℕ) (few : p < member_count l) where
   -- what its last question finds is its answer
-  note_last : (why : Refusal) → why ≡ first_no ((not (has (timeouts_mask l r) p), Duplicate) ∷ []) → why ≡ note_refusal l r p timeouts_kind
+  note_last : (why : Verdict) → why ≡ first_no ((not (has (timeouts_mask l r) p), Duplicate) ∷ []) → why ≡ note_refusal l r p timeouts_kind
   note_last why e = e ∙ signer_passed (member_count l) r p low high few _ ∙ past_state l _ S
 
   abbrev noted : List ℕ
   noted = add_member l (timeouts_at r) p
 
-  single : has (timeouts_mask l r) p ≡ false → take_timeout l r p ≡ unchanged None (raise_round noted)
+  single : has (timeouts_mask l r) p ≡ false → take_timeout l r p ≡ unchanged no_refusal (raise_round noted)
   unfolding take_timeout
   single h = sym (calm_still (calm_then (note_calm l r timeouts_kind p low high (omega arith)) (raise_calm noted))
-      ∙ outcome_admitted None _ l _ (note_last None (next _ _ (ap not h) done)) refl)
+      ∙ outcome_admitted no_refusal _ l _ (note_last no_refusal (next _ _ (ap not h) done)) refl)
 
   noted_formed : WellFormed noted
   noted_formed = formed_note l S r p low high few timeouts_kind (omega arith) (omega arith) (λ e. omega arith)
@@ -150,10 +149,10 @@ record Fresh (l : List ℕ) (r : ℕ) (ps : List ℕ) : Type 0 where
   once : (q : ℕ) → times q ps ≤ 1
 
 -- one timeout that is admitted, and then those of the list
-then_rest : (l : List ℕ) (r p : ℕ) (ps m k : List ℕ) → take_timeout l r p ≡ unchanged None m → take_singly m r ps ≡ unchanged None k
-    → take_singly l r (p ∷ ps) ≡ unchanged None k
+then_rest : (l : List ℕ) (r p : ℕ) (ps m k : List ℕ) → take_timeout l r p ≡ unchanged no_refusal m → take_singly m r ps ≡ unchanged no_refusal k
+    → take_singly l r (p ∷ ps) ≡ unchanged no_refusal k
 unfolding take_singly followed
-then_rest l r p ps m k e d = ap (λ (o : Outcome). followed o (take_singly o.words r ps)) e ∙ ap (followed (unchanged None m)) d
+then_rest l r p ps m k e d = ap (λ (o : Outcome). followed o (take_singly o.words r ps)) e ∙ ap (followed (unchanged no_refusal m)) d
 
 -- one member is the mask of it alone
 alone : (l : List ℕ) (at p : ℕ) → add_member l at p ≡ add_members l at (2 ^ p)
@@ -179,7 +178,7 @@ module _ (r : ℕ) (low : 1 ≤ r) (high : r ≤ rounds) where
     first_members : member_count (add_member l (timeouts_at r) p) ≡ member_count l
     first_members = calm_members (note_calm l r timeouts_kind p low high (omega arith))
 
-    first_single : take_timeout l r p ≡ unchanged None (raise_round (add_member l (timeouts_at r) p))
+    first_single : take_timeout l r p ≡ unchanged no_refusal (raise_round (add_member l (timeouts_at r) p))
     first_single = single l S r low high p first_few (F.new p first_there)
 
     -- the others are new after it
@@ -219,14 +218,14 @@ module _ (r : ℕ) (low : 1 ≤ r) (high : r ≤ rounds) where
 
   -- they end as their mask at once does
   singly : (ps : List ℕ) (p : ℕ) (l : List ℕ) → WellFormed l → Fresh l r (p ∷ ps)
-      → take_singly l r (p ∷ ps) ≡ unchanged None (raise_round (add_members l (timeouts_at r) (gather (p ∷ ps))))
+      → take_singly l r (p ∷ ps) ≡ unchanged no_refusal (raise_round (add_members l (timeouts_at r) (gather (p ∷ ps))))
   unfolding take_singly gather
   singly [] p l S F = then_rest l r p [] _ _ (first_single l S p [] F)
-      (ap (λ (k : List ℕ). unchanged None (raise_round k)) (alone l (timeouts_at r) p
+      (ap (λ (k : List ℕ). unchanged no_refusal (raise_round k)) (alone l (timeouts_at r) p
       ∙ ap (add_members l (timeouts_at r)) (sym (or_zero_r (2 ^ p)))))
   singly (q ∷ ps) p l S F = then_rest l r p (q ∷ ps) _ _ (first_single l S p (q ∷ ps) F)
       (singly ps q _ (formed_raise _ (first_formed l S p (q ∷ ps) F)) (rest_fresh l S p (q ∷ ps) F)
-      ∙ ap (unchanged None) (rest_joined l S p (q ∷ ps) F))
+      ∙ ap (unchanged no_refusal) (rest_joined l S p (q ∷ ps) F))
 
 -- ---- a bundle that no question stopped
 
@@ -264,14 +263,14 @@ module _ (l : List ℕ) (r mask : ℕ) (w : BundlePassed l r mask) (ps : List �
 
 -- it ends as single timeouts of its new members, in any order
 in_any_order : (l : List ℕ) (r mask : ℕ) → BundlePassed l r mask → (ps : List ℕ) → Reordered ps (new_members l r mask)
-    → take_singly l r ps ≡ unchanged None (raise_round (add_members l (timeouts_at r) mask))
+    → take_singly l r ps ≡ unchanged no_refusal (raise_round (add_members l (timeouts_at r) mask))
 unfolding times
 in_any_order l r mask w [] R =
     let p = any_elim (member_count l) (is_new l r mask) w.some in
     absurd (omega (arith, R p.0 ∙ times_select (member_count l) (is_new l r mask) p.0 ∙ cond_true {A = ℕ} 1 0 (and_both (lt-ltb _ _ p.1) p.2)))
 in_any_order l r mask w (p ∷ ps) R =
     singly r w.low w.high ps p l w.formed (fresh l r mask w (p ∷ ps) R)
-    ∙ ap (λ (k : List ℕ). unchanged None (raise_round k)) (joined_same (same_mask l r mask w (p ∷ ps) R))
+    ∙ ap (λ (k : List ℕ). unchanged no_refusal (raise_round k)) (joined_same (same_mask l r mask w (p ∷ ps) R))
   where
     joined_same : bit_or (timeouts_mask l r) (gather (p ∷ ps)) ≡ bit_or (timeouts_mask l r) mask
         → add_members l (timeouts_at r) (gather (p ∷ ps)) ≡ add_members l (timeouts_at r) mask
@@ -342,11 +341,11 @@ pub noted_do_no_harm : NotedDoNoHarm
 unfolding take_timeouts
 noted_do_no_harm l r mask noted old = go (which (eqb (number_of why) 0))
   where
-    why : Refusal
+    why : Verdict
     why = bundle_refusal l r mask
 
     go : (eqb (number_of why) 0 ≡ true) ⊎ (eqb (number_of why) 0 ≡ false) → take_timeouts l r (bit_or mask noted) ≡ take_timeouts l r mask
-    go (inl e) = ap₂ (λ (q : Refusal) (after : List ℕ). outcome q l after) (same_refusal l r mask noted old)
+    go (inl e) = ap₂ (λ (q : Verdict) (after : List ℕ). outcome q l after) (same_refusal l r mask noted old)
         (ap raise_round (same_joined l r mask noted old (bundle_passed l r mask (eqb-true _ _ e))))
     go (inr e) =
         let stopped : number_of why ≡ 0 → ⊥ = eqb-false _ _ e in
@@ -356,7 +355,7 @@ noted_do_no_harm l r mask noted old = go (which (eqb (number_of why) 0))
 
 -- behind 1, 3 and 5 a single timeout is asked 6, which is answered yes of a member, and 12
 module _ (l : List ℕ) (r mask p : ℕ) (there : has mask p ≡ true) (some : number_of (bundle_refusal l r mask) ≡ 0 → ⊥)
-    (low_bits : number_of (bundle_refusal l r mask) ≡ number_of MaskBits → ⊥) where
+    (low_bits : number_of (bundle_refusal l r mask) ≡ refusal_number MaskBits → ⊥) where
   abbrev n : ℕ
   n = member_count l
 
@@ -403,6 +402,6 @@ unfolding take_timeout take_timeouts
 refused_as_singles l r mask p there stopped bits =
     let why = bundle_refusal l r mask in
     let some : number_of why ≡ 0 → ⊥ = λ z. stopped (ap (λ (o : Outcome). o.number) (sym (outcome_admitted why why l _ refl z))) in
-    let low : number_of why ≡ number_of MaskBits → ⊥ = λ z. bits (ap (λ (o : Outcome). o.number) (sym (outcome_refused why why l _ refl some)) ∙ z) in
+    let low : number_of why ≡ refusal_number MaskBits → ⊥ = λ z. bits (ap (λ (o : Outcome). o.number) (sym (outcome_refused why why l _ refl some)) ∙ z) in
     let e = refused_alike l r mask p there some low in
     sym (outcome_refused why _ l _ (sym e) some) ∙ outcome_refused why why l _ refl some

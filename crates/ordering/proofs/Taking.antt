@@ -1,4 +1,5 @@
 -- The calls put together: refused with the words as they were, or admitted step by step. Assumes nothing.
+use Rattle.std.specs.Prelude.{Result, Ok, Err}
 use mathlib.Core.Path.{◌≡◌, refl, sym, ap, ◌∙◌}
 use mathlib.Core.Bool.{true}
 use mathlib.Core.List.{List, [], ◌∷◌}
@@ -6,17 +7,18 @@ use Prim.Native.Nat.{ℕ, ◌+◌, ◌≤◌, ◌<◌}
 use native.Mathlib.Omega.{arith}
 use lib.ListN.{length, take, drop, get_or, length-drop}
 use lib.Seq.{take_all, get_or-drop}
-use Rattle.record.specs.Refusals.{number_of, first_no}
+use Rattle.record.specs.Refusals.{Verdict, number_of, first_no}
 use Rattle.record.specs.Layout.{round_of, source_of, body_of, strong_of, timeouts_of, record_size, body_size, body_place, strong_place}
 use Rattle.record.specs.Layout.{timeouts_place}
 use Rattle.record.specs.Admitted.{Admitted}
 use Rattle.record.specs.declared.refusal.Refusal.{Refusal}
 use Rattle.record.specs.Members.{rounds, slots}
+use Rattle.record.proofs.Turn.{was_err}
 use Rattle.replica.specs.Layout.{state_size, masks_at, timeouts_at, kinds, leader_count_at, journal_count_at, timeouts_kind}
 use Rattle.replica.specs.State.{member_count, add_member, add_members}
 use Rattle.replica.specs.WellFormed.{well_formed}
-use Rattle.replica.specs.Outcome.{Outcome, told, nothing_added, admitted}
-use Rattle.replica.specs.declared.answer.Answer.{Answer}
+use Rattle.replica.specs.Outcome.{Outcome, told, unchanged, admitted}
+use Rattle.replica.specs.declared.answer.Added.{Added}
 use Rattle.replica.proofs.Formed.{WellFormed, well_formed_lem}
 use Rattle.commits.specs.Commit.{raise_round, commit_all}
 use Rattle.ordering.specs.Calls.{vertex_questions, put_vertex, carry_timeouts, take_body, take_vertex, first_questions, hear}
@@ -31,8 +33,8 @@ use Rattle.ordering.proofs.Bundled.{bundle_passed}
 use Rattle.ordering.proofs.Carried.{written, VertexWritten, vertex_written}
 
 -- an answer with a refusal, where the words stay
-told_refused : (l : List ℕ) (a : Answer) (why : Refusal) → a ≡ nothing_added why → told a l ≡ told (nothing_added why) l
-told_refused l a why e = ap (λ (x : Answer). told x l) e
+pub told_refused : (l : List ℕ) (a : Result Added Refusal) (v : Verdict) (why : Refusal) → v ≡ Err why → a ≡ Err why → told a l ≡ unchanged v l
+told_refused l a v why d e = ap (λ (x : Result Added Refusal). told x l) e ∙ sym (ap (λ (x : Verdict). unchanged x l) d)
 
 -- the counts after a calm change
 calm_growth : {l m : List ℕ} → Calm l m → (after : List ℕ) → admitted m after ≡ admitted l after
@@ -77,10 +79,10 @@ pub record VertexTaken (l rec : List ℕ) : Type 0 where
   pub advanced : (m r : List ℕ) → Put l rec m → Advanced rec m r → Ready (member_count l) r
   pub done : (m r : List ℕ) (o : Outcome) → Put l rec m → Advanced rec m r → o ≡ admitted r (commit_all r) → o ≡ take_vertex l rec
 
-module _ (l rec : List ℕ) (why : Refusal) (e : why ≡ first_no (vertex_questions l (round_of rec) (source_of rec) (body_of rec))) where
-  pub vertex_refused : (number_of why ≡ 0 → ⊥) → (a : Answer) → a ≡ nothing_added why → told a l ≡ take_vertex l rec
+module _ (l rec : List ℕ) (why : Verdict) (e : why ≡ first_no (vertex_questions l (round_of rec) (source_of rec) (body_of rec))) where
+  pub vertex_refused : (w : Refusal) → why ≡ Err w → (a : Result Added Refusal) → a ≡ Err w → told a l ≡ take_vertex l rec
   unfolding take_body
-  vertex_refused h a d = told_refused l a why d ∙ outcome_refused why _ l _ e h
+  vertex_refused w h a d = told_refused l a why w h d ∙ outcome_refused why _ l _ e (was_err h)
 
   module _ (h : number_of why ≡ 0) where
     passed : VertexWritten l (round_of rec) (source_of rec) (body_of rec)
@@ -128,10 +130,10 @@ pub record FirstTaken (l rec : List ℕ) : Type 0 where
       → o ≡ admitted m (commit_all m)
       → o ≡ take_first_message l rec
 
-module _ (l rec : List ℕ) (why : Refusal) (e : why ≡ first_no (first_questions l (round_of rec) (source_of rec) (body_of rec))) where
-  pub first_refused : (number_of why ≡ 0 → ⊥) → (a : Answer) → a ≡ nothing_added why → told a l ≡ take_first_message l rec
+module _ (l rec : List ℕ) (why : Verdict) (e : why ≡ first_no (first_questions l (round_of rec) (source_of rec) (body_of rec))) where
+  pub first_refused : (w : Refusal) → why ≡ Err w → (a : Result Added Refusal) → a ≡ Err w → told a l ≡ take_first_message l rec
   unfolding take_first_body
-  first_refused h a d = told_refused l a why d ∙ outcome_refused why _ l _ e h
+  first_refused w h a d = told_refused l a why w h d ∙ outcome_refused why _ l _ e (was_err h)
 
   module _ (h : number_of why ≡ 0) where
     first_passed : WellFormed l × Admitted (member_count l) (round_of rec) (source_of rec) (body_of rec)
@@ -178,13 +180,12 @@ pub record NoteTaken (l : List ℕ) (r p i : ℕ) : Type 0 where
   pub done : (at : ℕ) (m : List ℕ) → at ≡ masks_at r → m ≡ add_member l (at + i) p
       → record { number = 0; id = 0; leaders = 0; journal = 0; words = m } ≡ take_note l r p i
 
-module _ (l : List ℕ) (r p i : ℕ) (why : Refusal) (e : why ≡ note_refusal l r p i) (x : ℕ) (f : x ≡ number_of why) where
-  pub note_refused : (x ≡ 0 → ⊥) → (a : Answer) → a ≡ nothing_added why → told a l ≡ take_note l r p i
-  note_refused h a d = told_refused l a why d ∙ outcome_refused why _ l _ e (λ z. h (f ∙ z))
+module _ (l : List ℕ) (r p i : ℕ) (why : Verdict) (e : why ≡ note_refusal l r p i) where
+  pub note_refused : (w : Refusal) → why ≡ Err w → (a : Result Added Refusal) → a ≡ Err w → told a l ≡ take_note l r p i
+  note_refused w h a d = told_refused l a why w h d ∙ outcome_refused why _ l _ e (was_err h)
 
-  pub note_taken : i < kinds → x ≡ 0 → NoteTaken l r p i
-  note_taken to z =
-      let h : number_of why ≡ 0 = sym f ∙ z in
+  pub note_taken : i < kinds → number_of why ≡ 0 → NoteTaken l r p i
+  note_taken to h =
       let w = note_passed l r p _ (sym (ap number_of e) ∙ h) in
       let C = note_calm l r i p w.1 w.2 to in
       record {
@@ -199,30 +200,30 @@ module _ (l : List ℕ) (r p i : ℕ) (why : Refusal) (e : why ≡ note_refusal 
 -- ---- a timeout: the round rule after a note that was admitted
 
 -- what the round rule may use of the words m that the note left
-pub record TimeoutTaken (l : List ℕ) (r p : ℕ) (a : Answer) (m : List ℕ) : Type 0 where
+pub record TimeoutTaken (l : List ℕ) (r p : ℕ) (a : Result Added Refusal) (m : List ℕ) : Type 0 where
   pub size : length m ≡ state_size
   pub some : 0 < member_count m
   pub done : (o : List ℕ) → o ≡ raise_round m → told a o ≡ take_timeout l r p
 
-module _ (l : List ℕ) (r p : ℕ) (a : Answer) (m : List ℕ) (e : told a m ≡ take_note l r p timeouts_kind) (x : ℕ) (f : x ≡ number_of a.refusal) where
-  why : Refusal
+module _ (l : List ℕ) (r p : ℕ) (a : Result Added Refusal) (m : List ℕ) (e : told a m ≡ take_note l r p timeouts_kind) where
+  why : Verdict
   why = note_refusal l r p timeouts_kind
 
   noted : List ℕ
   noted = add_member l (timeouts_at r) p
 
-  pub timeout_refused : (x ≡ 0 → ⊥) → told a m ≡ take_timeout l r p
+  pub timeout_refused : (w : Refusal) → a ≡ Err w → (b : Result Added Refusal) → b ≡ Err w → told b m ≡ take_timeout l r p
   unfolding take_timeout why
-  timeout_refused h = e ∙ sym (outcome_refused why why l _ refl stopped) ∙ outcome_refused why why l _ refl stopped
+  timeout_refused w h b d = ap (λ (x : Result Added Refusal). told x m) (d ∙ sym h) ∙ e ∙ sym (outcome_refused why why l _ refl stopped) ∙ outcome_refused why why l _ refl stopped
     where
       stopped : number_of why ≡ 0 → ⊥
-      stopped z = h (f ∙ ap (λ (o : Outcome). o.number) (e ∙ sym (outcome_admitted why why l _ refl z)))
+      stopped z = was_err h (ap (λ (o : Outcome). o.number) (e ∙ sym (outcome_admitted why why l _ refl z)))
 
-  pub timeout_taken : x ≡ 0 → TimeoutTaken l r p a m
+  pub timeout_taken : number_of a ≡ 0 → TimeoutTaken l r p a m
   unfolding take_timeout why noted
   timeout_taken z =
-      let h = outcome_zero why l noted (ap (λ (o : Outcome). o.number) (sym e) ∙ sym f ∙ z) in
-      let k = note_taken l r p timeouts_kind why refl 0 (sym h) (omega arith) refl in
+      let h = outcome_zero why l noted (ap (λ (o : Outcome). o.number) (sym e) ∙ z) in
+      let k = note_taken l r p timeouts_kind why refl (omega arith) h in
       let d = e ∙ sym (k.done _ noted refl refl) in
       let w = ap (λ (o : Outcome). o.words) d in
       record {
@@ -244,15 +245,14 @@ pub record BundleTaken (l : List ℕ) (r mask : ℕ) : Type 0 where
   pub done : (at : ℕ) (m o : List ℕ) → at ≡ masks_at r → m ≡ add_members l (at + timeouts_kind) mask → o ≡ raise_round m
       → record { number = 0; id = 0; leaders = 0; journal = 0; words = o } ≡ take_timeouts l r mask
 
-module _ (l : List ℕ) (r mask : ℕ) (why : Refusal) (e : why ≡ bundle_refusal l r mask) (x : ℕ) (f : x ≡ number_of why) where
-  pub bundle_refused : (x ≡ 0 → ⊥) → (a : Answer) → a ≡ nothing_added why → told a l ≡ take_timeouts l r mask
+module _ (l : List ℕ) (r mask : ℕ) (why : Verdict) (e : why ≡ bundle_refusal l r mask) where
+  pub bundle_refused : (w : Refusal) → why ≡ Err w → (a : Result Added Refusal) → a ≡ Err w → told a l ≡ take_timeouts l r mask
   unfolding take_timeouts
-  bundle_refused h a d = told_refused l a why d ∙ outcome_refused why _ l _ e (λ z. h (f ∙ z))
+  bundle_refused w h a d = told_refused l a why w h d ∙ outcome_refused why _ l _ e (was_err h)
 
-  pub bundle_taken : x ≡ 0 → BundleTaken l r mask
+  pub bundle_taken : number_of why ≡ 0 → BundleTaken l r mask
   unfolding take_timeouts
-  bundle_taken z =
-      let h : number_of why ≡ 0 = sym f ∙ z in
+  bundle_taken h =
       let w = bundle_passed l r mask (sym (ap number_of e) ∙ h) in
       let C = join_calm l r timeouts_kind mask w.low w.high (omega arith) in
       record {

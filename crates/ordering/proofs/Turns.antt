@@ -1,4 +1,5 @@
 -- The questions of a call in turn: what stopped it, and what is known where nothing did. Assumes nothing.
+use Rattle.std.specs.Prelude.{Err}
 use mathlib.Core.Path.{◌≡◌, refl, sym, ap, ◌∙◌}
 use mathlib.Core.Bool.{true, false, not}
 use mathlib.Core.Logic.{◌⊎◌, inl, inr, ⊎_elim}
@@ -11,11 +12,10 @@ use lib.Seq.{take_all}
 use borrow.Author.Tests.{eqb-true, eqb-false, eq-eqb, ne_eqb}
 use Rattle.record.specs.Below.{least}
 use Rattle.record.specs.Members.{rounds, slots, legal, has, id_limit}
-use Rattle.record.specs.Refusals.{number_of, Question, first_no, numbered}
+use Rattle.record.specs.Refusals.{Verdict, no_refusal, number_of, Question, first_no, numbered}
 use Rattle.record.specs.Layout.{round_of, source_of, body_of, record_size, body_size, body_place}
 use Rattle.record.specs.Questions.{signer_questions, record_questions, signer_refusal, body_refusal, record_refusal}
-use Rattle.record.specs.declared.refusal.Refusal.{Refusal}
-use Rattle.record.specs.declared.refusal.Refusal.TheVariants.{None, Duplicate, Conflict, MissingParent}
+use Rattle.record.specs.declared.refusal.Refusal.TheVariants.{Duplicate, Conflict, MissingParent}
 use Rattle.record.proofs.Booleans.{which, and_both, and_fails_left, and_fails_right}
 use Rattle.record.proofs.Below.{any_intro, any_false, least_sat, least_off}
 use Rattle.record.proofs.Masks.{legal_range}
@@ -24,7 +24,7 @@ use Rattle.record.proofs.Turn as turn
 use Rattle.replica.specs.Layout.{state_size}
 use Rattle.replica.specs.State.{member_count, held_mask}
 use Rattle.replica.specs.Parents.{missing, parents_held}
-use Rattle.replica.specs.Outcome.{told, nothing_added, admitted, outcome}
+use Rattle.replica.specs.Outcome.{unchanged, admitted, outcome}
 use Rattle.replica.specs.Status.{state_questions}
 use Rattle.replica.proofs.StatusLaws.{state_numbered, state_ok}
 use Rattle.replica.proofs.Formed.{WellFormed, formed}
@@ -33,23 +33,23 @@ use Rattle.ordering.specs.Calls.{same_body, place_questions, note_questions}
 
 -- ---- questions asked before others: they stop the call, or the rest decide
 
-module _ (asked rest : List Question) (why : Refusal) (e : why ≡ first_no asked) where
+module _ (asked rest : List Question) (why : Verdict) (e : why ≡ first_no asked) where
   stops : (number_of why ≡ 0 → ⊥) → why ≡ first_no (asked ++ rest)
   stops h = e ∙ front_no asked rest (λ d. h (ap number_of e ∙ d))
 
-  past : numbered asked ≡ true → number_of why ≡ 0 → (r : Refusal) → r ≡ first_no rest → r ≡ first_no (asked ++ rest)
+  past : numbered asked ≡ true → number_of why ≡ 0 → (r : Verdict) → r ≡ first_no rest → r ≡ first_no (asked ++ rest)
   past n h r d = d ∙ front_yes asked rest n (sym (ap number_of e) ∙ h)
 
 -- those of the state, which come first
-module _ (l : List ℕ) (why : Refusal) (e : why ≡ first_no (state_questions l)) (rest : List Question) where
+module _ (l : List ℕ) (why : Verdict) (e : why ≡ first_no (state_questions l)) (rest : List Question) where
   pub state_stops : (number_of why ≡ 0 → ⊥) → why ≡ first_no (state_questions l ++ rest)
   state_stops = stops (state_questions l) rest why e
 
-  pub state_past : number_of why ≡ 0 → (r : Refusal) → r ≡ first_no rest → r ≡ first_no (state_questions l ++ rest)
+  pub state_past : number_of why ≡ 0 → (r : Verdict) → r ≡ first_no rest → r ≡ first_no (state_questions l ++ rest)
   state_past = past (state_questions l) rest why e (state_numbered l)
 
 -- and what they leave known
-pub state_formed : (l : List ℕ) (why : Refusal) → why ≡ first_no (state_questions l) → number_of why ≡ 0 → WellFormed l
+pub state_formed : (l : List ℕ) (why : Verdict) → why ≡ first_no (state_questions l) → number_of why ≡ 0 → WellFormed l
 state_formed l why e h = let s = state_ok l (sym (ap number_of e) ∙ h) in formed l s.0 s.1
 
 -- what is known of a record that its own questions pass, among n members; rest are the questions after them
@@ -58,9 +58,9 @@ pub record RecordKnown (n : ℕ) (rec : List ℕ) (rest : List Question) : Type 
   pub long : length rec ≡ record_size
   pub whole : take body_size (drop body_place rec) ≡ body_of rec
   pub body : number_of (body_refusal n (round_of rec) (source_of rec) (take body_size (drop body_place rec))) ≡ 0
-  pub last : (s : Refusal) → s ≡ first_no rest → s ≡ first_no (record_questions n (round_of rec) (source_of rec) (body_of rec) ++ rest)
+  pub last : (s : Verdict) → s ≡ first_no rest → s ≡ first_no (record_questions n (round_of rec) (source_of rec) (body_of rec) ++ rest)
 
-module _ (n : ℕ) (rec : List ℕ) (rest : List Question) (why : Refusal) (e : why ≡ record_refusal n rec) where
+module _ (n : ℕ) (rec : List ℕ) (rest : List Question) (why : Verdict) (e : why ≡ record_refusal n rec) where
   -- they stop the call
   pub record_stops : (number_of why ≡ 0 → ⊥) → why ≡ first_no (record_questions n (round_of rec) (source_of rec) (body_of rec) ++ rest)
   record_stops = stops _ rest why e
@@ -95,11 +95,11 @@ none_lacking l r body h = ap not (any_false id_limit (missing l r body) (λ y k.
 pub record PlaceKnown (l : List ℕ) (n r p : ℕ) (body : List ℕ) : Type 0 where
   pub admit : Admitted n r p body
   pub few : p < slots
-  pub same : has (held_mask l r) p ≡ true → same_body l r p body ≡ true → Duplicate ≡ first_no (place_questions l r p body)
-  pub other : has (held_mask l r) p ≡ true → same_body l r p body ≡ false → Conflict ≡ first_no (place_questions l r p body)
+  pub same : has (held_mask l r) p ≡ true → same_body l r p body ≡ true → Err Duplicate ≡ first_no (place_questions l r p body)
+  pub other : has (held_mask l r) p ≡ true → same_body l r p body ≡ false → Err Conflict ≡ first_no (place_questions l r p body)
   pub lacking : (x : ℕ) → has (held_mask l r) p ≡ false → x ≡ least id_limit (missing l r body) → x < id_limit
-      → MissingParent x ≡ first_no (place_questions l r p body)
-  pub free : has (held_mask l r) p ≡ false → id_limit ≤ least id_limit (missing l r body) → None ≡ first_no (place_questions l r p body)
+      → Err (MissingParent x) ≡ first_no (place_questions l r p body)
+  pub free : has (held_mask l r) p ≡ false → id_limit ≤ least id_limit (missing l r body) → no_refusal ≡ first_no (place_questions l r p body)
 
 pub place_known : (l : List ℕ) (n r p : ℕ) (body : List ℕ) → legal n ≡ true → number_of (body_refusal n r p body) ≡ 0 → PlaceKnown l n r p body
 place_known l n r p body g e =
@@ -109,26 +109,26 @@ place_known l n r p body g e =
       few = omega (arith, a.source_low, (legal_range n g).high);
       same = λ h d. stop _ _ (ap not (and_both h d));
       other = λ h d. next _ _ (ap not (and_fails_right (has (held_mask l r) p) d)) (stop _ _ (ap not h));
-      lacking = λ x h d k. ap MissingParent d ∙ new h (stop _ _ (missing_found l r body x d k));
+      lacking = λ x h d k. ap (λ (y : ℕ). Err (MissingParent y)) d ∙ new h (stop _ _ (missing_found l r body x d k));
       free = λ h k. new h (next _ _ (none_lacking l r body k) done);
     }
   where
-    new : {s : Refusal} → has (held_mask l r) p ≡ false → s ≡ first_no ((parents_held l r body, MissingParent (least id_limit (missing l r body))) ∷ [])
+    new : {s : Verdict} → has (held_mask l r) p ≡ false → s ≡ first_no ((parents_held l r body, MissingParent (least id_limit (missing l r body))) ∷ [])
         → s ≡ first_no (place_questions l r p body)
     new h d = next _ _ (ap not (and_fails_left (same_body l r p body) h)) (next _ _ (ap not h) d)
 
 -- ---- the last question of a first message, and those of a note
 
-pub heard_before : (mask p : ℕ) → has mask p ≡ true → Duplicate ≡ first_no ((not (has mask p), Duplicate) ∷ [])
+pub heard_before : (mask p : ℕ) → has mask p ≡ true → Err Duplicate ≡ first_no ((not (has mask p), Duplicate) ∷ [])
 heard_before mask p h = stop _ _ (ap not h)
 
-pub heard_first : (mask p : ℕ) → has mask p ≡ false → None ≡ first_no ((not (has mask p), Duplicate) ∷ [])
+pub heard_first : (mask p : ℕ) → has mask p ≡ false → no_refusal ≡ first_no ((not (has mask p), Duplicate) ∷ [])
 heard_first mask p h = next _ _ (ap not h) done
 
 -- what is known of a note where the state's questions are passed
 pub record NoteKnown (l : List ℕ) (r p mask : ℕ) : Type 0 where
   pub size : length l ≡ state_size
-  pub stopped : (s : Refusal) → s ≡ signer_refusal (member_count l) r p → (number_of s ≡ 0 → ⊥) → s ≡ first_no (note_questions l r p mask)
+  pub stopped : (s : Verdict) → s ≡ signer_refusal (member_count l) r p → (number_of s ≡ 0 → ⊥) → s ≡ first_no (note_questions l r p mask)
 
 -- and where 5 and 6 are
 pub record SignerKnown (l : List ℕ) (r p mask : ℕ) : Type 0 where
@@ -136,10 +136,10 @@ pub record SignerKnown (l : List ℕ) (r p mask : ℕ) : Type 0 where
   pub low : 1 ≤ r
   pub high : r ≤ rounds
   pub few : p < slots
-  pub again : has mask p ≡ true → Duplicate ≡ first_no (note_questions l r p mask)
-  pub new : has mask p ≡ false → None ≡ first_no (note_questions l r p mask)
+  pub again : has mask p ≡ true → Err Duplicate ≡ first_no (note_questions l r p mask)
+  pub new : has mask p ≡ false → no_refusal ≡ first_no (note_questions l r p mask)
 
-module _ (l : List ℕ) (r p mask : ℕ) (why : Refusal) (e : why ≡ first_no (state_questions l)) where
+module _ (l : List ℕ) (r p mask : ℕ) (why : Verdict) (e : why ≡ first_no (state_questions l)) where
   pub note_state : (number_of why ≡ 0 → ⊥) → why ≡ first_no (note_questions l r p mask)
   note_state = state_stops l why e _
 
@@ -150,7 +150,7 @@ module _ (l : List ℕ) (r p mask : ℕ) (why : Refusal) (e : why ≡ first_no (
       stopped = λ s d k. state_past l why e _ h s (stops (signer_questions (member_count l) r p) _ s d k);
     }
 
-    pub signer_known : (s : Refusal) → s ≡ signer_refusal (member_count l) r p → number_of s ≡ 0 → SignerKnown l r p mask
+    pub signer_known : (s : Verdict) → s ≡ signer_refusal (member_count l) r p → number_of s ≡ 0 → SignerKnown l r p mask
     signer_known s d k =
         let S = state_formed l why e h in
         let w = placed (member_count l) r p (sym (ap number_of d) ∙ k) in
@@ -160,22 +160,22 @@ module _ (l : List ℕ) (r p mask : ℕ) (why : Refusal) (e : why ≡ first_no (
           low = w.round_low;
           high = w.round_high;
           few = omega (arith, w.member_low, S.front.high);
-          again = λ f. state_past l why e _ h Duplicate (last Duplicate (heard_before mask p f));
-          new = λ f. state_past l why e _ h None (last None (heard_first mask p f));
+          again = λ f. state_past l why e _ h (Err Duplicate) (last (Err Duplicate) (heard_before mask p f));
+          new = λ f. state_past l why e _ h no_refusal (last no_refusal (heard_first mask p f));
         }
 
 -- ---- outcomes
 
-pub outcome_refused : (why q : Refusal) (l after : List ℕ) → why ≡ q → (number_of why ≡ 0 → ⊥) → told (nothing_added why) l ≡ outcome q l after
+pub outcome_refused : (why q : Verdict) (l after : List ℕ) → why ≡ q → (number_of why ≡ 0 → ⊥) → unchanged why l ≡ outcome q l after
 unfolding outcome
 outcome_refused why q l after e h = rw (← e, ne_eqb (number_of why) 0 h)
 
-pub outcome_admitted : (why q : Refusal) (l after : List ℕ) → why ≡ q → number_of why ≡ 0 → admitted l after ≡ outcome q l after
+pub outcome_admitted : (why q : Verdict) (l after : List ℕ) → why ≡ q → number_of why ≡ 0 → admitted l after ≡ outcome q l after
 unfolding outcome
 outcome_admitted why q l after e h = rw (← e, eq-eqb (number_of why) 0 h)
 
 -- what holds of the words before a call, and of the new ones where it is admitted, holds of those that it leaves
-pub outcome_words : (P : List ℕ → Type 0) (why : Refusal) (l after : List ℕ) → P l → (number_of why ≡ 0 → P after) → P (outcome why l after).words
+pub outcome_words : (P : List ℕ → Type 0) (why : Verdict) (l after : List ℕ) → P l → (number_of why ≡ 0 → P after) → P (outcome why l after).words
 unfolding outcome
 outcome_words P why l after p f = go (which (eqb (number_of why) 0))
   where
@@ -184,7 +184,7 @@ outcome_words P why l after p f = go (which (eqb (number_of why) 0))
     go (inr e) = rw e p
 
 -- an outcome has the number 0 only where no question stopped the call
-pub outcome_zero : (why : Refusal) (l after : List ℕ) → (outcome why l after).number ≡ 0 → number_of why ≡ 0
+pub outcome_zero : (why : Verdict) (l after : List ℕ) → (outcome why l after).number ≡ 0 → number_of why ≡ 0
 unfolding outcome
 outcome_zero why l after h = ⊎_elim (λ e. eqb-true (number_of why) 0 e) (λ e. rw e at h) (which (eqb (number_of why) 0))
 

@@ -3,8 +3,8 @@ use Rattle.std.specs.Prelude.{◌≡◌, true, cond, List, [], ◌∷◌, ℕ, �
 use Rattle.std.specs.Int.Bits.{bit_or}
 use Rattle.record.specs.Below.{select}
 use Rattle.record.specs.Members.{has}
-use Rattle.record.specs.Refusals.{number_of}
-use Rattle.record.specs.declared.refusal.Refusal.TheVariants.{None, MaskBits}
+use Rattle.record.specs.Refusals.{no_refusal, refusal_number}
+use Rattle.record.specs.declared.refusal.Refusal.TheVariants.{MaskBits}
 use Rattle.replica.specs.State.{member_count, timeouts_mask}
 use Rattle.replica.specs.WellFormed.{subset}
 use Rattle.replica.specs.Outcome.{Outcome, unchanged}
@@ -24,7 +24,7 @@ followed o next = cond (eqb o.number 0) (record {
 
 -- a single timeout of round r by each of these signers, in turn
 unfoldable pub take_singly : List ℕ → ℕ → List ℕ → Outcome
-take_singly l r [] = unchanged None l
+take_singly l r [] = unchanged no_refusal l
 take_singly l r (p ∷ ps) = followed (take_timeout l r p) (take_singly (take_timeout l r p).words r ps)
 
 -- ---- an admitted bundle
@@ -60,5 +60,5 @@ NotedDoNoHarm = (l : List ℕ) (r mask noted : ℕ) → subset noted (timeouts_m
 -- unless it is with 7, a single timeout of any of its members ends as the bundle does
 abbrev pub RefusedAsSingles : Type 0
 RefusedAsSingles = (l : List ℕ) (r mask p : ℕ) → has mask p ≡ true
-    → ((take_timeouts l r mask).number ≡ 0 → ⊥) → ((take_timeouts l r mask).number ≡ number_of MaskBits → ⊥)
+    → ((take_timeouts l r mask).number ≡ 0 → ⊥) → ((take_timeouts l r mask).number ≡ refusal_number MaskBits → ⊥)
     → take_timeout l r p ≡ take_timeouts l r mask

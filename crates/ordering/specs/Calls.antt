@@ -3,10 +3,9 @@ use Rattle.std.specs.Prelude.{Bool, cond, not, ◌&&◌, List, [], ◌∷◌, �
 use Rattle.std.proofs.Math.Seq.{paste}
 use Rattle.record.specs.Below.{all, any, least}
 use Rattle.record.specs.Members.{is_round, has, within, id_limit}
-use Rattle.record.specs.Refusals.{Question, first_no}
+use Rattle.record.specs.Refusals.{Verdict, Question, first_no}
 use Rattle.record.specs.Layout.{body_size, round_of, source_of, body_of, timeouts_of}
 use Rattle.record.specs.Questions.{signer_questions, record_questions}
-use Rattle.record.specs.declared.refusal.Refusal.{Refusal}
 use Rattle.record.specs.declared.refusal.Refusal.TheVariants.{Round, MaskBits, Duplicate, Conflict, MissingParent}
 use Rattle.protocol.specs.Dag.{votes}
 use Rattle.replica.specs.Layout.{held_at, heard_at, votes_at, timeouts_at, cell_at, timeouts_kind, no_votes_kind, mask_at}
@@ -76,7 +75,7 @@ abbrev pub note_questions : List ℕ → ℕ → ℕ → ℕ → List Question
 note_questions l r p mask = state_questions l ++ (signer_questions (member_count l) r p ++ ((not (has mask p), Duplicate) ∷ []))
 
 -- of the mask of that kind of its round
-abbrev pub note_refusal : List ℕ → ℕ → ℕ → ℕ → Refusal
+abbrev pub note_refusal : List ℕ → ℕ → ℕ → ℕ → Verdict
 note_refusal l r p kind = first_no (note_questions l r p (mask_of l kind r))
 
 -- the signer joins that mask
@@ -103,7 +102,7 @@ bundle_questions l r mask =
     ∷ (any (member_count l) (is_new l r mask), Duplicate)
     ∷ []
 
-abbrev pub bundle_refusal : List ℕ → ℕ → ℕ → Refusal
+abbrev pub bundle_refusal : List ℕ → ℕ → ℕ → Verdict
 bundle_refusal l r mask = first_no (state_questions l ++ bundle_questions l r mask)
 
 -- the whole mask joins the timeouts of the round, and then comes the round rule

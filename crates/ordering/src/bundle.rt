@@ -5,50 +5,40 @@ ghost use Rattle.ordering.specs.Calls.{bundle_refusal, take_timeouts};
 
 use commits::rounds::raise_round;
 use record::members::{is_round, is_within, quorum_of};
-use record::refusal::{Refusal, number};
-use replica::answer::{Answer, refuse};
+use record::refusal::Refusal;
+use replica::answer::{Added, NOTHING};
 use replica::layout::{MEMBER_COUNT, TIMEOUTS, masks_at};
 use replica::masks::{add_members, mask_of};
 use replica::status::check_state;
 
 // All questions of a bundle.
-fn check_bundle(state: &[u32], round: u32, mask: u32) -> Refusal
+fn check_bundle(state: &[u32], round: u32, mask: u32) -> Result<(), Refusal>
     ensures { result ≡ bundle_refusal state.now round mask }
 {
-    let why = check_state(state);
-    if number(why) != 0 {
-        return why;
-    }
+    check_state(state)?;
     if !is_round(round) {
-        return Refusal::Round;
+        return Err(Refusal::Round);
     }
     let n = state[MEMBER_COUNT];
     if !is_within(n, mask) {
-        return Refusal::MaskBits;
+        return Err(Refusal::MaskBits);
     }
     let noted = mask_of(state, TIMEOUTS, round);
     if noted | mask == noted {
-        return Refusal::Duplicate;
+        return Err(Refusal::Duplicate);
     }
-    Refusal::None
+    Ok(())
 }
 
 // Takes a bundle: one word is written, and then the round rule.
-pub fn take_timeouts(state: &mut [u32], round: u32, mask: u32) -> Answer
+pub fn take_timeouts(state: &mut [u32], round: u32, mask: u32) -> Result<Added, Refusal>
     ensures { told result state.new ≡ take_timeouts state.old round mask }
 {
-    let why = check_bundle(state, round, mask);
-    if number(why) != 0 {
-        return refuse(why);
-    }
+    check_bundle(state, round, mask)?;
     let at = masks_at(round) + TIMEOUTS;
     add_members(state, at, mask);
     let n = state[MEMBER_COUNT];
     let quorum = quorum_of(n);
     raise_round(state, n, quorum);
-    Answer {
-        refusal: Refusal::None,
-        leaders: 0,
-        journal: 0,
-    }
+    Ok(NOTHING)
 }

@@ -12,25 +12,22 @@ use super::steps::settle;
 use record::layout::{BODY, ROUND, SOURCE, STRONG};
 use record::members::{has_bit, leader_of, quorum_of};
 use record::questions::check;
-use record::refusal::{Refusal, number};
-use replica::answer::{Answer, refuse};
+use record::refusal::Refusal;
+use replica::answer::Added;
 use replica::layout::{HEARD, MEMBER_COUNT, VOTES, masks_at};
 use replica::masks::{add_member, mask_of};
 use replica::status::check_state;
 
 // Questions 4 to 12, of a first message for a state whose own questions are passed.
-fn check_first(state: &[u32], n: u32, quorum: u32, rec: &[u32]) -> Refusal
+fn check_first(state: &[u32], n: u32, quorum: u32, rec: &[u32]) -> Result<(), Refusal>
     requires { (length state.now ≡ state_size) × (legal n ≡ true) × QuorumOf n quorum }
     ensures { result ≡ first_no (hearing_questions state.now n rec.now) }
 {
-    let why = check(n, quorum, rec);
-    if number(why) != 0 {
-        return why;
-    }
+    check(n, quorum, rec)?;
     if has_bit(mask_of(state, HEARD, rec[ROUND]), rec[SOURCE]) {
-        return Refusal::Duplicate;
+        return Err(Refusal::Duplicate);
     }
-    Refusal::None
+    Ok(())
 }
 
 // The source is heard, and in votes if the record votes for the previous round's leader.
@@ -49,19 +46,13 @@ fn hear_record(state: &mut [u32], n: u32, round: u32, source: u32, strong: u32)
 }
 
 // Takes a first message. The quorum is worked out once, for the questions and the commits.
-pub fn take_first_message(state: &mut [u32], rec: &[u32]) -> Answer
+pub fn take_first_message(state: &mut [u32], rec: &[u32]) -> Result<Added, Refusal>
     ensures { told result state.new ≡ take_first_message state.old rec.now }
 {
-    let why = check_state(state);
-    if number(why) != 0 {
-        return refuse(why);
-    }
+    check_state(state)?;
     let n = state[MEMBER_COUNT];
     let quorum = quorum_of(n);
-    let refused = check_first(state, n, quorum, rec);
-    if number(refused) != 0 {
-        return refuse(refused);
-    }
+    check_first(state, n, quorum, rec)?;
     hear_record(state, n, rec[ROUND], rec[SOURCE], rec[BODY + STRONG]);
-    settle(state, n, quorum)
+    Ok(settle(state, n, quorum))
 }

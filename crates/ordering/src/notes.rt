@@ -7,67 +7,50 @@ ghost use Rattle.replica.specs.Layout.{kinds};
 use commits::rounds::raise_round;
 use record::members::{has_bit, quorum_of};
 use record::questions::check_signer;
-use record::refusal::{Refusal, number};
-use replica::answer::{Answer, refuse};
+use record::refusal::Refusal;
+use replica::answer::{Added, NOTHING};
 use replica::layout::{MEMBER_COUNT, NO_VOTES, TIMEOUTS, masks_at};
 use replica::masks::{add_member, mask_of};
 use replica::status::check_state;
 
 // All questions of a timeout or a no-vote, whose mask is the one of that kind of its round.
-fn check_note(state: &[u32], round: u32, signer: u32, kind: usize) -> Refusal
+fn check_note(state: &[u32], round: u32, signer: u32, kind: usize) -> Result<(), Refusal>
     requires { kind < kinds }
     ensures { result ≡ note_refusal state.now round signer kind }
 {
-    let why = check_state(state);
-    if number(why) != 0 {
-        return why;
-    }
+    check_state(state)?;
     let n = state[MEMBER_COUNT];
-    let refused = check_signer(n, round, signer);
-    if number(refused) != 0 {
-        return refused;
-    }
+    check_signer(n, round, signer)?;
     if has_bit(mask_of(state, kind, round), signer) {
-        return Refusal::Duplicate;
+        return Err(Refusal::Duplicate);
     }
-    Refusal::None
+    Ok(())
 }
 
 // Takes a timeout or a no-vote: the signer joins the mask of that kind.
-fn take_note(state: &mut [u32], round: u32, signer: u32, kind: usize) -> Answer
+fn take_note(state: &mut [u32], round: u32, signer: u32, kind: usize) -> Result<Added, Refusal>
     requires { kind < kinds }
     ensures { told result state.new ≡ take_note state.old round signer kind }
 {
-    let why = check_note(state, round, signer, kind);
-    if number(why) != 0 {
-        return refuse(why);
-    }
+    check_note(state, round, signer, kind)?;
     let at = masks_at(round) + kind;
     add_member(state, at, signer);
-    Answer {
-        refusal: Refusal::None,
-        leaders: 0,
-        journal: 0,
-    }
+    Ok(NOTHING)
 }
 
 // Takes a timeout.
-pub fn take_timeout(state: &mut [u32], round: u32, signer: u32) -> Answer
+pub fn take_timeout(state: &mut [u32], round: u32, signer: u32) -> Result<Added, Refusal>
     ensures { told result state.new ≡ take_timeout state.old round signer }
 {
-    let answer = take_note(state, round, signer, TIMEOUTS);
-    let why = answer.refusal;
-    if number(why) != 0 {
-        return answer;
-    }
+    let added = take_note(state, round, signer, TIMEOUTS)?;
     let n = state[MEMBER_COUNT];
     let quorum = quorum_of(n);
     raise_round(state, n, quorum);
-    answer
+    Ok(added)
 }
 
 // Takes a no-vote.
-pub fn take_no_vote(state: &mut [u32], round: u32, signer: u32) -> Answer
+pub fn take_no_vote(state: &mut [u32], round: u32, signer: u32) -> Result<Added, Refusal>
     ensures { told result state.new ≡ take_no_vote state.old round signer }
 {
     take_note(state, round, signer, NO_VOTES)

@@ -1,5 +1,5 @@
 // What a vertex and a first message share: the commits that follow an admitted record.
-ghost use Rattle.std.specs.Prelude.{◌≡◌, true, length};
+ghost use Rattle.std.specs.Prelude.{◌≡◌, true, length, Ok};
 ghost use Rattle.record.specs.Handed.{QuorumOf};
 ghost use Rattle.replica.specs.Layout.{state_size};
 ghost use Rattle.replica.specs.State.{member_count};
@@ -8,20 +8,18 @@ ghost use Rattle.replica.specs.Outcome.{told, admitted};
 ghost use Rattle.commits.specs.Commit.{commit_all};
 
 use commits::commit::commit_all;
-use record::refusal::Refusal;
-use replica::answer::Answer;
+use replica::answer::Added;
 use replica::layout::{JOURNAL_COUNT, LEADER_COUNT};
 
-// The commits that follow an admitted record, and the answer.
-pub fn settle(state: &mut [u32], n: u32, quorum: u32) -> Answer
+// The commits that follow an admitted record, and what they add.
+pub fn settle(state: &mut [u32], n: u32, quorum: u32) -> Added
     requires { (length state.old ≡ state_size) × (well_formed state.old ≡ true) × (n ≡ member_count state.old) × QuorumOf n quorum }
-    ensures { told result state.new ≡ admitted state.old (commit_all state.old) }
+    ensures { told (Ok result) state.new ≡ admitted state.old (commit_all state.old) }
 {
     let leaders = state[LEADER_COUNT];
     let journal = state[JOURNAL_COUNT];
     commit_all(state, n, quorum);
-    Answer {
-        refusal: Refusal::None,
+    Added {
         leaders: state[LEADER_COUNT] - leaders,
         journal: state[JOURNAL_COUNT] - journal,
     }

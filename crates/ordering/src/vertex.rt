@@ -1,5 +1,5 @@
 // Taking a vertex.
-ghost use Rattle.std.specs.Prelude.{◌≡◌, true, ◌<◌, ◌≤◌, length};
+ghost use Rattle.std.specs.Prelude.{◌≡◌, true, ◌<◌, ◌≤◌, length, Ok};
 ghost use Rattle.record.specs.Refusals.{first_no};
 ghost use Rattle.record.specs.Members.{rounds, slots, legal};
 ghost use Rattle.record.specs.Handed.{QuorumOf};
@@ -17,9 +17,9 @@ use commits::rounds::raise_round;
 use record::layout::{BODY, BODY_SIZE, RECORD_SIZE, ROUND, SOURCE, TIMEOUTS as RECORD_TIMEOUTS};
 use record::members::{has_bit, quorum_of};
 use record::questions::check;
-use record::refusal::{Refusal, number};
+use record::refusal::Refusal;
 use record::words::copy_words;
-use replica::answer::{Answer, refuse};
+use replica::answer::Added;
 use replica::layout::{HELD, MEMBER_COUNT, TIMEOUTS, cell_at, masks_at};
 use replica::masks::{add_member, add_members, mask_of};
 use replica::status::check_state;
@@ -68,41 +68,44 @@ fn advance(state: &mut [u32], n: u32, quorum: u32, round: u32, mask: u32)
 }
 
 // Questions 12 to 14, of a vertex that the record's questions admit.
-pub fn check_place(state: &[u32], n: u32, round: u32, source: u32, body: &[u32]) -> Refusal
+pub fn check_place(
+    state: &[u32],
+    n: u32,
+    round: u32,
+    source: u32,
+    body: &[u32],
+) -> Result<(), Refusal>
     requires { Placing state.now n round source body.now }
     ensures { result ≡ first_no (place_questions state.now round source body.now) }
 {
     if has_bit(mask_of(state, HELD, round), source) {
         if same_body(state, round, source, body) {
-            return Refusal::Duplicate;
+            return Err(Refusal::Duplicate);
         }
-        return Refusal::Conflict;
+        return Err(Refusal::Conflict);
     }
     let id = first_missing(state, n, round, body);
     let lacks = id < NONE;
     if lacks {
-        return Refusal::MissingParent(id);
+        return Err(Refusal::MissingParent(id));
     }
-    Refusal::None
+    Ok(())
 }
 
 // Questions 4 to 14, of a vertex for a state whose own questions are passed.
-pub fn check_vertex(state: &[u32], n: u32, quorum: u32, rec: &[u32]) -> Refusal
+pub fn check_vertex(state: &[u32], n: u32, quorum: u32, rec: &[u32]) -> Result<(), Refusal>
     requires { (length state.now ≡ state_size) × (legal n ≡ true) × QuorumOf n quorum }
     ensures { result ≡ first_no (admission_questions state.now n
         (round_of rec.now) (source_of rec.now) (body_of rec.now)) }
 {
-    let why = check(n, quorum, rec);
-    if number(why) != 0 {
-        return why;
-    }
+    check(n, quorum, rec)?;
     check_place(state, n, rec[ROUND], rec[SOURCE], &rec[BODY..RECORD_SIZE])
 }
 
 // What follows when no question stops a vertex.
-pub fn admit_vertex(state: &mut [u32], n: u32, quorum: u32, rec: &[u32]) -> Answer
+pub fn admit_vertex(state: &mut [u32], n: u32, quorum: u32, rec: &[u32]) -> Added
     requires { Unstopped state.old n quorum rec.now }
-    ensures { told result state.new ≡ take_vertex state.old rec.now }
+    ensures { told (Ok result) state.new ≡ take_vertex state.old rec.now }
 {
     put_vertex(state, rec[ROUND], rec[SOURCE], &rec[BODY..RECORD_SIZE]);
     advance(state, n, quorum, rec[ROUND], rec[BODY + RECORD_TIMEOUTS]);
@@ -110,18 +113,12 @@ pub fn admit_vertex(state: &mut [u32], n: u32, quorum: u32, rec: &[u32]) -> Answ
 }
 
 // Takes a vertex. The quorum is worked out once, for the questions, the round rule and the commits.
-pub fn take_vertex(state: &mut [u32], rec: &[u32]) -> Answer
+pub fn take_vertex(state: &mut [u32], rec: &[u32]) -> Result<Added, Refusal>
     ensures { told result state.new ≡ take_vertex state.old rec.now }
 {
-    let why = check_state(state);
-    if number(why) != 0 {
-        return refuse(why);
-    }
+    check_state(state)?;
     let n = state[MEMBER_COUNT];
     let quorum = quorum_of(n);
-    let refused = check_vertex(state, n, quorum, rec);
-    if number(refused) != 0 {
-        return refuse(refused);
-    }
-    admit_vertex(state, n, quorum, rec)
+    check_vertex(state, n, quorum, rec)?;
+    Ok(admit_vertex(state, n, quorum, rec))
 }

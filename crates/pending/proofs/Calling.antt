@@ -1,4 +1,5 @@
 -- The call put together: its questions, a record whose parent is missing, and an admission. Assumes nothing.
+use Rattle.std.specs.Prelude.{Result, Ok, Err}
 use mathlib.Core.Path.{◌≡◌, refl, sym, ap, ap₂, ◌∙◌}
 use mathlib.Core.Bool.{Bool, true, false, not, ◌||◌}
 use mathlib.Core.Logic.{◌⊎◌, inl, inr, ⊎_elim}
@@ -9,20 +10,20 @@ use lib.Dec.{eqb, ltb}
 use lib.ListN.{length, get_or, drop}
 use borrow.Author.Tests.{eqb-true, eqb-false, eq-eqb, ne_eqb, ltb-true, ltb-false, lt-ltb, le-ltb}
 use Rattle.record.specs.Members.{id_of}
-use Rattle.record.specs.Refusals.{number_of, is_missing, first_no}
+use Rattle.record.specs.Refusals.{Verdict, number_of, is_missing, first_no}
 use Rattle.record.specs.Layout.{record_size, round_of, source_of, body_of, round_place, source_place}
 use Rattle.record.specs.Questions.{record_refusal}
 use Rattle.record.specs.declared.refusal.Refusal.{Refusal}
-use Rattle.record.specs.declared.refusal.Refusal.TheVariants.{None, StateSize, Malformed, Duplicate, Conflict, Buffer, BufferFull}
+use Rattle.record.specs.declared.refusal.Refusal.TheVariants.{StateSize, Malformed, Duplicate, Conflict, Buffer, BufferFull}
 use Rattle.record.proofs.Booleans.{which, never, cond_true, cond_false}
 use Rattle.record.proofs.Below.{all_elim}
-use Rattle.record.proofs.Turn.{next, stop, both_yes, last_number_law}
+use Rattle.record.proofs.Turn.{never_zero, next, stop, both_yes, last_number_law}
 use Rattle.replica.specs.Layout.{state_size}
 use Rattle.replica.specs.State.{member_count, leader_count, journal_count}
 use Rattle.replica.specs.WellFormed.{well_formed}
-use Rattle.replica.specs.Outcome.{Outcome, told, nothing_added}
+use Rattle.replica.specs.Outcome.{Outcome, told, unchanged}
 use Rattle.replica.specs.Status.{state_questions}
-use Rattle.replica.specs.declared.answer.Answer.{Answer}
+use Rattle.replica.specs.declared.answer.Added.{Added}
 use Rattle.replica.proofs.Formed.{WellFormed, well_formed_lem}
 use Rattle.ordering.specs.Calls.{vertex_questions, take_vertex}
 use Rattle.ordering.specs.Inner.{Unstopped}
@@ -116,33 +117,33 @@ module _ (s rec : List ℕ) (why : Refusal) where
   recs = records_in s
 
   -- a refusal with another number stays
-  pub early_other : is_missing why ≡ false → refused_in why s ≡ keep_early s rec why
+  pub early_other : is_missing (Err why) ≡ false → refused_in (Err why) s ≡ keep_early s rec (Err why)
   unfolding in_place
   early_other h = rw (h, h)
 
-  module _ (h : is_missing why ≡ true) where
-    answered : (x : Refusal) → x ≡ first_no (early_questions recs rec why) → is_missing x ≡ false → refused_in x s ≡ keep_early s rec why
+  module _ (h : is_missing (Err why) ≡ true) where
+    answered : (x : Refusal) → Err x ≡ first_no (early_questions recs rec why) → is_missing (Err x) ≡ false → refused_in (Err x) s ≡ keep_early s rec (Err why)
     unfolding in_place
     answered x d e = rw (h, ← d, e)
 
-    pub early_same : some (same_record rec) recs ≡ true → refused_in Duplicate s ≡ keep_early s rec why
+    pub early_same : some (same_record rec) recs ≡ true → refused_in (Err Duplicate) s ≡ keep_early s rec (Err why)
     early_same a = answered Duplicate (stop _ _ (ap not a)) refl
 
     module _ (a : some (same_record rec) recs ≡ false) where
-      pub early_id : some (same_id rec) recs ≡ true → refused_in Conflict s ≡ keep_early s rec why
+      pub early_id : some (same_id rec) recs ≡ true → refused_in (Err Conflict) s ≡ keep_early s rec (Err why)
       early_id b = answered Conflict (next _ _ (ap not a) (stop _ _ (ap not b))) refl
 
       module _ (b : some (same_id rec) recs ≡ false) where
         pub early_full : buffer_slots ≤ count_of s
-            → refused_in BufferFull s ≡ keep_early s rec why
+            → refused_in (Err BufferFull) s ≡ keep_early s rec (Err why)
         early_full k =
             let off : ltb (length recs) buffer_slots ≡ false = le-ltb (length recs) buffer_slots (omega (arith, records_length s 0 (count_of s))) in
             answered BufferFull (next _ _ (ap not a) (next _ _ (ap not b) (stop _ _ off))) refl
 
-        pub early_put : count_of s < buffer_slots → (t : List ℕ) → t ≡ buffer_of (put_in rec recs) → refused_in why t ≡ keep_early s rec why
+        pub early_put : count_of s < buffer_slots → (t : List ℕ) → t ≡ buffer_of (put_in rec recs) → refused_in (Err why) t ≡ keep_early s rec (Err why)
         unfolding in_place
         early_put k t e =
-            let f : why ≡ first_no (early_questions recs rec why) = next _ _ (ap not a) (next _ _ (ap not b)
+            let f : Err why ≡ first_no (early_questions recs rec why) = next _ _ (ap not a) (next _ _ (ap not b)
             (next _ _ (lt-ltb (length recs) buffer_slots (omega (arith, records_length s 0 (count_of s)))) (stop _ _ refl))) in
             rw (h, ← f, h, e)
 
@@ -165,9 +166,10 @@ record_no_parent n rec =
     ne_eqb (number_of (record_refusal n rec)) 14 (λ e. omega (arith, a, e))
 
 -- in place of any other number than 0 comes no 0
-pub in_place_number : (recs : List (List ℕ)) (rec : List ℕ) (why : Refusal) → (number_of why ≡ 0 → ⊥) → number_of (in_place recs rec why) ≡ 0 → ⊥
+pub in_place_number : (recs : List (List ℕ)) (rec : List ℕ) (why : Verdict) → (number_of why ≡ 0 → ⊥) → number_of (in_place recs rec why) ≡ 0 → ⊥
 unfolding in_place first_no
-in_place_number recs rec why h = go (which (is_missing why))
+in_place_number recs rec (Ok passed) h = h
+in_place_number recs rec (Err why) h = go (which (is_missing (Err why)))
   where
     early : (a b c : Bool) → number_of (first_no ((a, Duplicate) ∷ (b, Conflict) ∷ (c, BufferFull) ∷ (false, why) ∷ [])) ≡ 0 → ⊥
     early false b c e = eqb-false 12 0 refl e
@@ -175,25 +177,26 @@ in_place_number recs rec why h = go (which (is_missing why))
     early true true false e = eqb-false 20 0 refl e
     early true true true e = h e
 
-    go : (is_missing why ≡ true) ⊎ (is_missing why ≡ false) → number_of (in_place recs rec why) ≡ 0 → ⊥
+    go : (is_missing (Err why) ≡ true) ⊎ (is_missing (Err why) ≡ false) → number_of (in_place recs rec (Err why)) ≡ 0 → ⊥
     go (inl m) e = early (not (some (same_record rec) recs)) (not (some (same_id rec) recs)) (ltb (length recs) buffer_slots) (rw m at e)
     go (inr m) e = h (rw m at e)
 
 -- 0 stays 0
-in_place_zero : (recs : List (List ℕ)) (rec : List ℕ) (why : Refusal) → number_of why ≡ 0 → in_place recs rec why ≡ why
+in_place_zero : (recs : List (List ℕ)) (rec : List ℕ) (why : Verdict) → number_of why ≡ 0 → in_place recs rec why ≡ why
 unfolding in_place
-in_place_zero recs rec why e = let m : is_missing why ≡ false = rw e in rw m
+in_place_zero _ rec (Ok passed) e = refl
+in_place_zero _ rec (Err why) e = absurd (never_zero why e)
 
 -- ---- what the call ends in
 
-module _ (l s rec : List ℕ) (why : Refusal) (e : why ≡ first_no (buffered_questions l s rec)) where
-  pub with_refused : (number_of why ≡ 0 → ⊥) → (x : Refusal) (t : List ℕ) → refused_in x t ≡ keep_early s rec why → (a : Answer) → a ≡ nothing_added x
+module _ (l s rec : List ℕ) (why : Verdict) (e : why ≡ first_no (buffered_questions l s rec)) where
+  pub with_refused : (number_of why ≡ 0 → ⊥) → (x : Refusal) (t : List ℕ) → refused_in (Err x) t ≡ keep_early s rec why → (a : Result Added Refusal) → a ≡ Err x
       → told_with a l t ≡ take_vertex_with l s rec
   unfolding take_vertex_with
   with_refused h x t d a f =
       let z : (number_of (refusal_with l s rec) ≡ 0 → ⊥) = rw (← e) (in_place_number (records_in s) rec why h) in
       let k : keep_early s rec why ≡ keep_early s rec (first_no (buffered_questions l s rec)) = ap (keep_early s rec) e in
-      ap (λ (b : Answer). told_with b l t) f ∙ ap (λ (r : Refused). told_with (nothing_added r.why) l r.buffer) (d ∙ k)
+      ap (λ (b : Result Added Refusal). told_with b l t) f ∙ ap (λ (r : Refused). record { outcome = unchanged r.why l; buffer = r.buffer }) (d ∙ k)
       ∙ sym (cond_false _ _ (ne_eqb _ 0 z))
 
   pub with_admitted : number_of why ≡ 0 → admitted_with l (release_after l s rec) ≡ take_vertex_with l s rec
@@ -205,14 +208,14 @@ module _ (l s rec : List ℕ) (why : Refusal) (e : why ≡ first_no (buffered_qu
 -- ---- where no question of the state stops it
 
 -- what is known of the questions after the state's
-pub record Asked (l s rec : List ℕ) (why : Refusal) : Type 0 where
+pub record Asked (l s rec : List ℕ) (why : Verdict) : Type 0 where
   -- with 14 the buffer is well formed and the record passes its own questions
-  pub early : Keepable s rec why
+  pub early : (w : Refusal) → why ≡ Err w → Keepable s rec w
   -- with 0 the buffer is well formed, and a plain vertex call admits the record
   pub buffer : number_of why ≡ 0 → buffer_ok (member_count l) s ≡ true
   pub passes : number_of why ≡ 0 → number_of (first_no (vertex_questions l (round_of rec) (source_of rec) (body_of rec))) ≡ 0
 
-module _ (l s rec : List ℕ) (S : WellFormed l) (why : Refusal)
+module _ (l s rec : List ℕ) (S : WellFormed l) (why : Verdict)
     (e : why ≡ first_no (later_questions l s (member_count l) rec)) where
   -- 14 is neither the buffer's nor the record's own
   pub from_parent : is_missing why ≡ true → (buffer_ok (member_count l) s ≡ true) × (number_of (record_refusal (member_count l) rec) ≡ 0)
@@ -226,13 +229,13 @@ module _ (l s rec : List ℕ) (S : WellFormed l) (why : Refusal)
       go (inl b) (inr r) =
           let f : why ≡ record_refusal (member_count l) rec = e ∙ rw b (sym (record_stops (member_count l) rec _ _ refl r)) in
           never m (ap is_missing f ∙ record_no_parent (member_count l) rec)
-      go (inr b) r = let f : why ≡ Buffer = e ∙ rw b in never m (ap is_missing f)
+      go (inr b) r = let f : why ≡ Err Buffer = e ∙ rw b in never m (ap is_missing f)
 
   pub asked : Asked l s rec why
   asked = record {
-    early = record {
-      sound = λ m. record { members = member_count l; legit = S.front.members; formed = (from_parent m).0 };
-      bounded = λ m. bounded (member_count l) rec S.front.members (from_parent m).1;
+    early = λ w d. record {
+      sound = λ m. record { members = member_count l; legit = S.front.members; formed = (from_parent (ap is_missing d ∙ m)).0 };
+      bounded = λ m. bounded (member_count l) rec S.front.members (from_parent (ap is_missing d ∙ m)).1;
     };
     buffer = λ h. (both_yes _ _ _ (eqb-false 19 0 refl) (sym (ap number_of e) ∙ h)).0;
     passes = λ h. ap number_of (sym (past_state l _ S)) ∙ (both_yes _ _ _ (eqb-false 19 0 refl) (sym (ap number_of e) ∙ h)).1;
@@ -245,10 +248,10 @@ pub record Admitting (l s rec : List ℕ) (n q : ℕ) (m : List ℕ) : Type 0 wh
   pub standing : Standing m n q
   pub grown : (k t : List ℕ) → both k t ≡ release_in m s → Later l k
   pub done : (k t : List ℕ) → both k t ≡ release_in m s
-      → told_with (record { refusal = None; leaders = leader_count k - leader_count l; journal = journal_count k - journal_count l }) k t
+      → told_with (Ok (record { leaders = leader_count k - leader_count l; journal = journal_count k - journal_count l })) k t
       ≡ admitted_with l (release_after l s rec)
 
-pub admitting : (l s rec : List ℕ) (n q : ℕ) (m : List ℕ) (a : Answer) → Unstopped l n q rec → buffer_ok n s ≡ true → told a m ≡ take_vertex l rec
+pub admitting : (l s rec : List ℕ) (n q : ℕ) (m : List ℕ) (a : Added) → Unstopped l n q rec → buffer_ok n s ≡ true → told (Ok a) m ≡ take_vertex l rec
     → Admitting l s rec n q m
 admitting l s rec n q m a U b e =
     let w : m ≡ (take_vertex l rec).words = ap (λ (o : Outcome). o.words) e in
@@ -261,9 +264,8 @@ admitting l s rec n q m a U b e =
       standing = record { size = L.formed.size; formed = well_formed_lem m L.formed; members = sym N; quorum = U.quorum };
       grown = λ k t d. later_then L (rw (ap (λ (x : Both). x.state) d ∙ ap (λ (p : Passed (List ℕ)). p.after) (one_pass n m (records_in s) G 0 F.records))
           (pass_later n 0 m (records_in s) G F.records));
-      done = λ k t d. ap (λ (x : Both). told_with (record {
-        refusal = None;
+      done = λ k t d. ap (λ (x : Both). told_with (Ok (record {
         leaders = leader_count x.state - leader_count l;
         journal = journal_count x.state - journal_count l;
-      }) x.state x.buffer) (d ∙ ap (λ (x : List ℕ). release_in x s) w);
+      })) x.state x.buffer) (d ∙ ap (λ (x : List ℕ). release_in x s) w);
     }

@@ -1,4 +1,5 @@
 -- The claims about a vertex taken with a pending buffer. Assumes nothing.
+use Rattle.std.specs.Prelude.{Ok, Err}
 use mathlib.Core.Path.{◌≡◌, refl, sym, ap, ◌∙◌}
 use mathlib.Core.Bool.{Bool, true, false, not}
 use mathlib.Core.Logic.{◌⊎◌, inl, inr, ⊎_elim}
@@ -9,16 +10,15 @@ use native.Mathlib.Omega.{arith}
 use lib.Dec.{ltb}
 use lib.ListN.{length, length-drop}
 use borrow.Author.Tests.{eqb-true, eqb-false, eq-eqb, ne_eqb, ltb-true, ltb-false}
-use Rattle.record.specs.Refusals.{number_of, missing_number, is_missing, first_no}
+use Rattle.record.specs.Refusals.{Verdict, number_of, missing_number, is_missing, first_no}
 use Rattle.record.specs.Layout.{record_size, body_place, round_of, source_of, body_of}
 use Rattle.record.specs.Questions.{record_refusal}
 use Rattle.record.specs.declared.refusal.Refusal.{Refusal}
 use Rattle.record.specs.declared.refusal.Refusal.TheVariants.{Duplicate, Conflict, Buffer, BufferFull}
 use Rattle.record.proofs.Booleans.{which, never, cond_false}
-use Rattle.record.proofs.Turn.{next, both_fronts}
+use Rattle.record.proofs.Turn.{next, refusal_of, both_fronts}
 use Rattle.replica.specs.State.{member_count}
 use Rattle.replica.specs.Parents.{parents_held}
-use Rattle.replica.specs.Outcome.{nothing_added}
 use Rattle.replica.specs.Status.{state_questions}
 use Rattle.replica.proofs.StatusLaws.{state_numbered, state_ok}
 use Rattle.replica.proofs.Formed.{WellFormed, formed, well_formed_lem}
@@ -50,7 +50,7 @@ cast_in e h = rw (← e) h
 -- ---- which end a call has
 
 -- the refusal of its questions ahead of those in place of 14
-abbrev why : List ℕ → List ℕ → List ℕ → Refusal
+abbrev why : List ℕ → List ℕ → List ℕ → Verdict
 why l s rec = first_no (buffered_questions l s rec)
 
 -- with a well-formed state and buffer it is that of a plain vertex call
@@ -207,10 +207,11 @@ record Early (l s rec : List ℕ) : Type 0 where
   room : length (records_in s) < buffer_slots
 
 -- the questions in place of 14, where they give 14
-in_place_missing : (recs : List (List ℕ)) (rec : List ℕ) (x : Refusal) → is_missing (in_place recs rec x) ≡ true
+in_place_missing : (recs : List (List ℕ)) (rec : List ℕ) (x : Verdict) → is_missing (in_place recs rec x) ≡ true
     → (is_missing x ≡ true) × (some (same_id rec) recs ≡ false) × (length recs < buffer_slots)
 unfolding in_place first_no
-in_place_missing recs rec x e = go (which (is_missing x))
+in_place_missing recs rec (Ok passed) e = never e refl
+in_place_missing recs rec (Err x) e = go (which (is_missing (Err x)))
   where
     early : (a b c : Bool) → some (same_record rec) recs ≡ a → some (same_id rec) recs ≡ b → ltb (length recs) buffer_slots ≡ c
         → is_missing (first_no ((not a, Duplicate) ∷ (not b, Conflict) ∷ (c, BufferFull) ∷ (false, x) ∷ [])) ≡ true
@@ -220,7 +221,7 @@ in_place_missing recs rec x e = go (which (is_missing x))
     early false false false p q r h = never h refl
     early false false true p q r h = (q, ltb-true (length recs) buffer_slots r)
 
-    go : (is_missing x ≡ true) ⊎ (is_missing x ≡ false) → (is_missing x ≡ true) × (some (same_id rec) recs ≡ false) × (length recs < buffer_slots)
+    go : (is_missing (Err x) ≡ true) ⊎ (is_missing (Err x) ≡ false) → (is_missing (Err x) ≡ true) × (some (same_id rec) recs ≡ false) × (length recs < buffer_slots)
     go (inl m) = let w = early _ _ _ refl refl refl (rw m at e) in (m, w.0, w.1)
     go (inr m) = never (rw m at e) m
 
@@ -263,7 +264,7 @@ keeps_buffer l s rec b = ⊎_elim (buffer_after l s rec) (λ x. rw x.end (go (wh
 -- ---- a record whose parents are missing
 
 module _ (l s rec : List ℕ) (b : buffer_ok (member_count l) s ≡ true) (e : (take_vertex l rec).number ≡ missing_number) where
-  abbrev plain : Refusal
+  abbrev plain : Verdict
   plain = first_no (vertex_questions l (round_of rec) (source_of rec) (body_of rec))
 
   plain_missing : is_missing plain ≡ true
@@ -288,6 +289,16 @@ module _ (l s rec : List ℕ) (b : buffer_ok (member_count l) s ≡ true) (e : (
   stopped : number_of (why l s rec) ≡ 0 → ⊥
   stopped z = eqb-false 0 14 refl (sym z ∙ eqb-true _ _ missing)
 
+  -- so there is a refusal
+  abbrev refusal : Refusal
+  refusal = (refusal_of (why l s rec) stopped).0
+
+  refused : why l s rec ≡ Err refusal
+  refused = (refusal_of (why l s rec) stopped).1
+
+  early : is_missing (Err refusal) ≡ true
+  early = sym (ap is_missing refused) ∙ missing
+
   F : Formed (member_count l) s
   F = order.formed (member_count l) s b
 
@@ -304,12 +315,12 @@ module _ (l s rec : List ℕ) (b : buffer_ok (member_count l) s ≡ true) (e : (
   ending = take_vertex_with l s rec
 
   -- the call with the refusal x, which leaves the buffer t
-  ended : (x : Refusal) (t : List ℕ) → refused_in x t ≡ keep_early s rec (why l s rec) → told_with (nothing_added x) l t ≡ ending
-  ended x t d = with_refused l s rec _ refl stopped x t d _ refl
+  ended : (x : Refusal) (t : List ℕ) → refused_in (Err x) t ≡ keep_early s rec (Err refusal) → told_with (Err x) l t ≡ ending
+  ended x t d = with_refused l s rec _ refl stopped x t (d ∙ ap (keep_early s rec) (sym refused)) _ refl
 
   again : some (same_record rec) waiting ≡ true → WaitedBefore ending rec
   again a =
-      let d = ended Duplicate s (early_same s rec _ missing a) in
+      let d = ended Duplicate s (early_same s rec _ early a) in
       let w = some_one (same_record rec) waiting a in
       let i : rec ≡ w.rec = same_words rec w.rec long (ok_long (member_count l) 0 waiting F.records w.rec w.there) w.passes in
       rw (← d) (record { number = refl; there = Memᴰ.cast i w.there })
@@ -317,7 +328,7 @@ module _ (l s rec : List ℕ) (b : buffer_ok (member_count l) s ≡ true) (e : (
   module _ (a : some (same_record rec) waiting ≡ false) where
     clashes : some (same_id rec) waiting ≡ true → Clashes ending rec
     clashes c =
-        let d = ended Conflict s (early_id s rec _ missing a c) in
+        let d = ended Conflict s (early_id s rec _ early a c) in
         let w = some_one (same_id rec) waiting c in
         rw (← d) (record {
           number = refl;
@@ -331,7 +342,7 @@ module _ (l s rec : List ℕ) (b : buffer_ok (member_count l) s ≡ true) (e : (
       full : buffer_slots ≤ length waiting → FindsNoRoom ending rec
       full k =
           let size = records_length s 0 (count_of s) in
-          let d = ended BufferFull s (early_full s rec _ missing a c (omega arith)) in
+          let d = ended BufferFull s (early_full s rec _ early a c (omega arith)) in
           rw (← d) (record {
             number = refl;
             full = omega (arith, F.few, size);
@@ -341,11 +352,11 @@ module _ (l s rec : List ℕ) (b : buffer_ok (member_count l) s ≡ true) (e : (
       waits : length waiting < buffer_slots → Waits ending s rec
       waits k =
           let size = records_length s 0 (count_of s) in
-          let d = ended (why l s rec) (buffer_of (put_in rec waiting)) (early_put s rec _ missing a c (omega arith) _ refl) in
+          let d = ended refusal (buffer_of (put_in rec waiting)) (early_put s rec _ early a c (omega arith) _ refl) in
           let ok = put_ok (member_count l) 0 rec waiting passes (omega (arith, (admit (member_count l) rec passes).round_low)) F.records c in
           let L = laid (put_in rec waiting) (ok_long (member_count l) 0 (put_in rec waiting) ok) (omega (arith, put_length rec waiting)) in
           rw (← d) (record {
-            number = eqb-true _ _ missing;
+            number = eqb-true _ _ early;
             there = cast_in (sym L.records) (put_here rec waiting);
             others = λ x h. cast_in (sym L.records) (put_others rec x waiting h);
           })

@@ -1,4 +1,5 @@
 -- What a trial leaves: a record that is admitted is held and the others stay, one with a missing parent waits, and one that is held leaves. Assumes nothing.
+use Rattle.std.specs.Prelude.{Err}
 use mathlib.Core.Path.{◌≡◌, refl, sym, ap, ◌∙◌}
 use mathlib.Core.Bool.{true, false, not, ◌&&◌}
 use mathlib.Core.Logic.{◌⊎◌, inl, inr, ⊎_elim}
@@ -9,12 +10,11 @@ use lib.Dec.{eqb, ltb}
 use borrow.Author.Tests.{eqb-true, eqb-false, ltb-true, ltb-false, not-true}
 use Rattle.record.specs.Below.{least}
 use Rattle.record.specs.Members.{rounds, slots, has, id_of, id_round, id_member, id_limit}
-use Rattle.record.specs.Refusals.{number_of, missing_number, first_no}
+use Rattle.record.specs.Refusals.{Verdict, no_refusal, number_of, missing_number, first_no}
 use Rattle.record.specs.Layout.{round_of, source_of, body_of, timeouts_of}
 use Rattle.record.specs.Questions.{record_refusal}
 use Rattle.record.specs.Admitted.{Admitted}
-use Rattle.record.specs.declared.refusal.Refusal.{Refusal}
-use Rattle.record.specs.declared.refusal.Refusal.TheVariants.{None, Duplicate, Conflict, MissingParent}
+use Rattle.record.specs.declared.refusal.Refusal.TheVariants.{Duplicate, Conflict, MissingParent}
 use Rattle.record.proofs.Booleans.{which, never, and_left, and_right}
 use Rattle.record.proofs.Below.{least_sat}
 use Rattle.record.proofs.Rounds.{round_in}
@@ -182,7 +182,7 @@ module _ (l rec : List ℕ) (S : WellFormed l) (e : number_of (record_refusal (m
   abbrev body : List ℕ
   body = body_of rec
 
-  abbrev why : Refusal
+  abbrev why : Verdict
   why = first_no (vertex_questions l r p body)
 
   K : PlaceKnown l (member_count l) r p body
@@ -195,7 +195,7 @@ module _ (l rec : List ℕ) (S : WellFormed l) (e : number_of (record_refusal (m
   place = held_vertex l S.size r p K.few ∙ rw (round_in r A.round_low A.round_high)
 
   -- a refusal: the words stay, and the number is its own
-  refused : (x : Refusal) → x ≡ first_no (place_questions l r p body) → (number_of x ≡ 0 → ⊥)
+  refused : (x : Verdict) → x ≡ first_no (place_questions l r p body) → (number_of x ≡ 0 → ⊥)
       → ((take_vertex l rec).words ≡ l) × ((take_vertex l rec).number ≡ number_of x)
   unfolding take_body
   refused x d h =
@@ -203,7 +203,7 @@ module _ (l rec : List ℕ) (S : WellFormed l) (e : number_of (record_refusal (m
       let h' : number_of why ≡ 0 → ⊥ = λ z. h (ap number_of f ∙ z) in
       (words_no why l _ h', number_no why l _ h' ∙ sym (ap number_of f))
 
-  taken : has (held_mask l r) p ≡ true → (x : Refusal) → x ≡ first_no (place_questions l r p body) → (number_of x ≡ 0 → ⊥) → fate_of (number_of x) ≡ leaves
+  taken : has (held_mask l r) p ≡ true → (x : Verdict) → x ≡ first_no (place_questions l r p body) → (number_of x ≡ 0 → ⊥) → fate_of (number_of x) ≡ leaves
       → eqb (number_of x) missing_number ≡ false → Leaves l rec
   taken t x d h f g =
       let w = refused x d h in
@@ -213,7 +213,7 @@ module _ (l rec : List ℕ) (S : WellFormed l) (e : number_of (record_refusal (m
   unfolding missing
   lacking t b =
       let x = least id_limit (missing l r body) in
-      let w = refused (MissingParent x) (K.lacking x t refl b) (eqb-false 14 0 refl) in
+      let w = refused (Err (MissingParent x)) (K.lacking x t refl b) (eqb-false 14 0 refl) in
       let m : (is_parent r body x && not (held_id l x)) ≡ true = least_sat id_limit (missing l r body) b in
       record {
         fate = ap fate_of w.1;
@@ -231,7 +231,7 @@ module _ (l rec : List ℕ) (S : WellFormed l) (e : number_of (record_refusal (m
   ready : has (held_mask l r) p ≡ false → id_limit ≤ least id_limit (missing l r body) → Joins l rec
   unfolding take_body
   ready t b =
-      let f = place_decides l rec S e None (K.free t b) in
+      let f = place_decides l rec S e no_refusal (K.free t b) in
       let z : number_of why ≡ 0 = sym (ap number_of f) in
       let n : (take_vertex l rec).number ≡ 0 = number_yes why l _ z in
       record {
@@ -249,8 +249,8 @@ module _ (l rec : List ℕ) (S : WellFormed l) (e : number_of (record_refusal (m
       go : (has (held_mask l r) p ≡ true) ⊎ (has (held_mask l r) p ≡ false) → (same_body l r p body ≡ true) ⊎ (same_body l r p body ≡ false)
           → (ltb (least id_limit (missing l r body)) id_limit ≡ true) ⊎ (ltb (least id_limit (missing l r body)) id_limit ≡ false)
           → Joins l rec ⊎ (Stays l rec ⊎ Leaves l rec)
-      go (inl t) (inl u) v = inr (inr (taken t Duplicate (K.same t u) (eqb-false 12 0 refl) refl refl))
-      go (inl t) (inr u) v = inr (inr (taken t Conflict (K.other t u) (eqb-false 13 0 refl) refl refl))
+      go (inl t) (inl u) v = inr (inr (taken t (Err Duplicate) (K.same t u) (eqb-false 12 0 refl) refl refl))
+      go (inl t) (inr u) v = inr (inr (taken t (Err Conflict) (K.other t u) (eqb-false 13 0 refl) refl refl))
       go (inr t) u (inl v) = inr (inl (lacking t (ltb-true _ _ v)))
       go (inr t) u (inr v) = inl (ready t (ltb-false _ _ v))
 

@@ -8,10 +8,9 @@ use mathlib.Core.List.{Sublistᴰ}
 use Prim.Native.Nat.{ℕ, suc, ◌+◌, ◌-◌, ◌≤◌}
 use native.Mathlib.Omega.{arith}
 use lib.ListN.{length}
-use Rattle.record.specs.Refusals.{number_of, first_no}
+use Rattle.record.specs.Refusals.{no_refusal, number_of, first_no}
 use Rattle.record.specs.Layout.{round_of, source_of, body_of}
 use Rattle.record.specs.Questions.{record_refusal}
-use Rattle.record.specs.declared.refusal.Refusal.TheVariants.{None}
 use Rattle.record.proofs.Booleans.{which}
 use Rattle.replica.specs.State.{member_count, leader_count, journal_count}
 use Rattle.replica.specs.Outcome.{Outcome, unchanged, admitted}
@@ -206,7 +205,7 @@ admits l rec ok =
     o ∙ ap (admitted l) (ap (λ (x : Outcome). x.words) (sym o))
 
 -- no call
-none_added : (l : List ℕ) → unchanged None l ≡ admitted l l
+none_added : (l : List ℕ) → unchanged no_refusal l ≡ admitted l l
 none_added l =
     let x : 0 ≡ leader_count l - leader_count l = omega arith in
     let y : 0 ≡ journal_count l - journal_count l = omega arith in

@@ -8,7 +8,7 @@ use Prim.Native.Nat.{ℕ, zero, suc, ◌+◌, ◌-◌, ◌*◌, ◌≤◌, ◌<�
 use native.Mathlib.Numerals.{add-one}
 use native.Mathlib.Omega.{arith}
 use lib.ListN.{length, get_or, take, drop, replicate, length-drop, length-append, length-replicate, get_or-replicate, take-append-drop}
-use lib.Seq.{take_at, drop_at, drop-drop, get_or-take, get_or-drop, length-take-le, ext_get_or, paste, length-paste, drop-cons, get_or-append-add}
+use lib.Seq.{take_at, drop_at, drop-drop, get_or-take, get_or-drop, length-take-le, take-take, ext_get_or, paste, length-paste, drop-cons, get_or-append-add}
 use lib.Dec.{ltb}
 use borrow.Author.Tests.{ltb-true, ltb-false}
 use Rattle.record.specs.Layout.{record_size}
@@ -107,6 +107,15 @@ slot_same s t j a b h e = ext_get_or 0 (record_at s j) (record_at t j) (slot_siz
     (λ i k.
     let q : i < record_size = omega (arith, slot_size s j a h) in
     slot_word s j i q ∙ e (slot_at j + i) (omega arith) (omega arith) ∙ sym (slot_word t j i q))
+
+-- a word outside of what is written over
+pub pasted_other : (s : List ℕ) (at : ℕ) (rec : List ℕ) (k i : ℕ) → at + k ≤ length s → k ≤ length rec → (i < at) ⊎ (at + k ≤ i)
+    → get_or (paste s at rec k) i 0 ≡ get_or s i 0
+pasted_other s at rec k i fits long =
+    let same : paste s at rec k ≡ paste s at (take k rec) k = ap (λ (x : List ℕ). take at s ++ x ++ drop (at + k) s) (sym (take-take k k rec (omega arith))) in
+    let size : length (take k rec) ≡ k = length-take-le k rec long in
+    ⊎_elim (λ h. ap (λ (x : List ℕ). get_or x i 0) same ∙ paste_before s at (take k rec) k fits size i h)
+    (λ h. ap (λ (x : List ℕ). get_or x i 0) same ∙ paste_after s at (take k rec) k fits size i h)
 
 -- ---- a slot written over
 

@@ -1,4 +1,6 @@
 -- The sweep over the slots of a buffer: it is one pass over the records, and one pass is all passes. Assumes nothing.
+use Rattle.std.specs.Prelude.{Result}
+use Rattle.record.specs.declared.refusal.Refusal.{Refusal}
 use mathlib.Core.Path.{◌≡◌, refl, sym, ap, ap₂, ◌∙◌}
 use mathlib.Core.Bool.{Bool, true, false, cond}
 use mathlib.Core.Logic.{◌⊎◌, inl, inr, ⊎_elim}
@@ -9,12 +11,12 @@ use lib.Dec.{eqb, ltb}
 use borrow.Author.Tests.{ltb-true, ltb-false}
 use lib.ListN.{length, get_or, drop, set, replicate, length-replicate, get_or-replicate}
 use lib.Seq.{paste, length-paste, get_or-take, get_or-drop}
-use Rattle.record.specs.Refusals.{missing_number, is_missing}
+use Rattle.record.specs.Refusals.{number_of, missing_number}
 use Rattle.record.specs.Handed.{QuorumOf}
 use Rattle.record.specs.Layout.{record_size}
 use Rattle.record.proofs.Booleans.{which}
 use Rattle.replica.specs.Outcome.{told}
-use Rattle.replica.specs.declared.answer.Answer.{Answer}
+use Rattle.replica.specs.declared.answer.Added.{Added}
 use Rattle.replica.proofs.Formed.{well_formed_lem}
 use Rattle.ordering.specs.Calls.{take_vertex}
 use Rattle.ordering.proofs.Copying.{paste_before, paste_after, paste_part}
@@ -33,18 +35,18 @@ use Rattle.pending.proofs.Passing.{Good, one_pass, first_joins, first_stays, fir
 -- ---- one slot
 
 module _ (l s m : List ℕ) where
-  pub sweep_stays : (t : List ℕ) (j k : ℕ) (a : Answer) (rec : List ℕ) → told a m ≡ take_vertex l rec → rec ≡ record_at s j → (b : Bool)
-      → b ≡ is_missing a.refusal → b ≡ true → t ≡ paste s (slot_at k) (record_at s j) record_size → swept (k + 1) m t ≡ sweep_one l s j k
+  pub sweep_stays : (t : List ℕ) (j k : ℕ) (a : Result Added Refusal) (rec : List ℕ) → told a m ≡ take_vertex l rec → rec ≡ record_at s j → (b : Bool)
+      → b ≡ eqb (number_of a) missing_number → b ≡ true → t ≡ paste s (slot_at k) (record_at s j) record_size → swept (k + 1) m t ≡ sweep_one l s j k
   sweep_stays t j k a rec e d b f h g =
       let o : told a m ≡ take_vertex l (record_at s j) = e ∙ ap (take_vertex l) d in
-      let n : is_missing a.refusal ≡ true = sym f ∙ h in
+      let n : eqb (number_of a) missing_number ≡ true = sym f ∙ h in
       rw (g, ← o, n)
 
-  pub sweep_goes : (j k : ℕ) (a : Answer) (rec : List ℕ) → told a m ≡ take_vertex l rec → rec ≡ record_at s j → (b : Bool) → b ≡ is_missing a.refusal
+  pub sweep_goes : (j k : ℕ) (a : Result Added Refusal) (rec : List ℕ) → told a m ≡ take_vertex l rec → rec ≡ record_at s j → (b : Bool) → b ≡ eqb (number_of a) missing_number
       → b ≡ false → swept k m s ≡ sweep_one l s j k
   sweep_goes j k a rec e d b f h =
       let o : told a m ≡ take_vertex l (record_at s j) = e ∙ ap (take_vertex l) d in
-      let n : is_missing a.refusal ≡ false = sym f ∙ h in
+      let n : eqb (number_of a) missing_number ≡ false = sym f ∙ h in
       rw (← o, n)
 
 -- what holds of what the definition gives holds of what the code left

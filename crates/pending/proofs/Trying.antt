@@ -1,15 +1,16 @@
 -- A waiting record tried as a vertex call: its own questions and the state's are passed, so its place decides. Assumes nothing.
+use Rattle.std.specs.Prelude.{Result, Err}
+use Rattle.record.specs.declared.refusal.Refusal.{Refusal}
 use mathlib.Core.Path.{◌≡◌, refl, sym, ap, ◌∙◌}
 use mathlib.Core.List.{List}
 use Prim.Native.Nat.{ℕ}
 use lib.ListN.{length, take, drop}
-use Rattle.record.specs.Refusals.{number_of, first_no}
+use Rattle.record.specs.Refusals.{Verdict, number_of, first_no}
 use Rattle.record.specs.Layout.{round_of, source_of, body_of, record_size, body_size, body_place}
 use Rattle.record.specs.Questions.{record_refusal}
-use Rattle.record.specs.declared.refusal.Refusal.{Refusal}
 use Rattle.replica.specs.State.{member_count}
-use Rattle.replica.specs.Outcome.{told, nothing_added}
-use Rattle.replica.specs.declared.answer.Answer.{Answer}
+use Rattle.replica.specs.Outcome.{told}
+use Rattle.replica.specs.declared.answer.Added.{Added}
 use Rattle.replica.proofs.Formed.{WellFormed, formed}
 use Rattle.ordering.specs.Calls.{place_questions, vertex_questions, take_vertex}
 use Rattle.ordering.specs.Inner.{Placing, Unstopped}
@@ -19,7 +20,7 @@ use Rattle.ordering.proofs.Taking.{vertex_refused}
 use Rattle.pending.specs.Inner.{Trying}
 
 -- the questions of its place decide
-pub place_decides : (l rec : List ℕ) → WellFormed l → number_of (record_refusal (member_count l) rec) ≡ 0 → (why : Refusal)
+pub place_decides : (l rec : List ℕ) → WellFormed l → number_of (record_refusal (member_count l) rec) ≡ 0 → (why : Verdict)
     → why ≡ first_no (place_questions l (round_of rec) (source_of rec) (body_of rec))
     → why ≡ first_no (vertex_questions l (round_of rec) (source_of rec) (body_of rec))
 place_decides l rec S e why d =
@@ -30,10 +31,10 @@ place_decides l rec S e why d =
 pub record Tried (l : List ℕ) (n q : ℕ) (rec : List ℕ) : Type 0 where
   pub long : length rec ≡ record_size
   pub placing : Placing l n (round_of rec) (source_of rec) (take body_size (drop body_place rec))
-  pub stopped : (why : Refusal) → why ≡ first_no (place_questions l (round_of rec) (source_of rec) (take body_size (drop body_place rec)))
-      → (number_of why ≡ 0 → ⊥)
-      → (a : Answer) → a ≡ nothing_added why → told a l ≡ take_vertex l rec
-  pub unstopped : (why : Refusal) → why ≡ first_no (place_questions l (round_of rec) (source_of rec) (take body_size (drop body_place rec))) → number_of why ≡ 0
+  pub stopped : (why : Verdict) → why ≡ first_no (place_questions l (round_of rec) (source_of rec) (take body_size (drop body_place rec)))
+      → (w : Refusal) → why ≡ Err w
+      → (a : Result Added Refusal) → a ≡ Err w → told a l ≡ take_vertex l rec
+  pub unstopped : (why : Verdict) → why ≡ first_no (place_questions l (round_of rec) (source_of rec) (take body_size (drop body_place rec))) → number_of why ≡ 0
       → Unstopped l n q rec
 
 pub tried : (l : List ℕ) (n q : ℕ) (rec : List ℕ) → Trying l n q rec → Tried l n q rec
@@ -44,7 +45,7 @@ tried l n q rec T =
     record {
       long = k.long;
       placing = record { size = T.state.size; legit = rw T.state.members S.front.members; admitted = k.body };
-      stopped = λ why d h a f. vertex_refused l rec why (place_decides l rec S e why (rw k.whole at d)) h a f;
+      stopped = λ why d w h a f. vertex_refused l rec why (place_decides l rec S e why (rw k.whole at d)) w h a f;
       unstopped = λ why d h. record {
         members = T.state.members;
         quorum = T.state.quorum;

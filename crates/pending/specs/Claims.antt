@@ -1,9 +1,9 @@
 -- What holds of a vertex taken with a pending buffer, as claims. `proofs/` has a term of each.
 use Rattle.std.specs.Prelude.{◌≡◌, true, false, ◌⊎◌, ℕ, length}
 use mathlib.Core.List.{List, [], ◌∷◌, Sublistᴰ}
-use Rattle.record.specs.Refusals.{number_of, missing_number}
+use Rattle.record.specs.Refusals.{no_refusal, refusal_number, missing_number}
 use Rattle.record.specs.Layout.{round_of, body_of}
-use Rattle.record.specs.declared.refusal.Refusal.TheVariants.{None, Duplicate, Conflict, BufferFull}
+use Rattle.record.specs.declared.refusal.Refusal.TheVariants.{Duplicate, Conflict, BufferFull}
 use Rattle.replica.specs.Layout.{state_size}
 use Rattle.replica.specs.State.{member_count}
 use Rattle.replica.specs.Parents.{parents_held}
@@ -46,7 +46,7 @@ PassesEnd = (l s rec : List ℕ) → Admits l s rec → let p = release_after l 
 
 -- a plain vertex call for each of these records, in turn
 unfoldable pub take_in_turn : List ℕ → List (List ℕ) → Outcome
-take_in_turn l [] = unchanged None l
+take_in_turn l [] = unchanged no_refusal l
 take_in_turn l (rec ∷ recs) = followed (take_vertex l rec) (take_in_turn (take_vertex l rec).words recs)
 
 -- the records that the call admits beside its own
@@ -86,12 +86,12 @@ pub record Waits (e : Ending) (s rec : List ℕ) : Type 0 where
 
 -- with 12 it waited before, and does so still
 pub record WaitedBefore (e : Ending) (rec : List ℕ) : Type 0 where
-  pub number : e.outcome.number ≡ number_of Duplicate
+  pub number : e.outcome.number ≡ refusal_number Duplicate
   pub there : In rec (records_in e.buffer)
 
 -- with 13 another record of its id waits
 pub record Clashes (e : Ending) (rec : List ℕ) : Type 0 where
-  pub number : e.outcome.number ≡ number_of Conflict
+  pub number : e.outcome.number ≡ refusal_number Conflict
   pub other : List ℕ
   pub there : In other (records_in e.buffer)
   pub same_id : record_id other ≡ record_id rec
@@ -99,7 +99,7 @@ pub record Clashes (e : Ending) (rec : List ℕ) : Type 0 where
 
 -- with 20 the buffer is full, and none of its records has this id
 pub record FindsNoRoom (e : Ending) (rec : List ℕ) : Type 0 where
-  pub number : e.outcome.number ≡ number_of BufferFull
+  pub number : e.outcome.number ≡ refusal_number BufferFull
   pub full : count_of e.buffer ≡ buffer_slots
   pub new : (other : List ℕ) → In other (records_in e.buffer) → record_id other ≡ record_id rec → ⊥
 

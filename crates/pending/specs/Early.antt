@@ -1,13 +1,13 @@
 -- A vertex taken with a pending buffer.
-use Rattle.std.specs.Prelude.{false, cond, not, List, [], ◌∷◌, ◌++◌, ℕ, eqb, ltb, length}
-use Rattle.record.specs.Refusals.{number_of, missing_number, is_missing, Question, first_no}
+use Rattle.std.specs.Prelude.{false, cond, not, List, [], ◌∷◌, ◌++◌, ℕ, eqb, ltb, length, Result, Ok, Err}
+use Rattle.record.specs.Refusals.{Verdict, no_refusal, number_of, missing_number, is_missing, Question, first_no}
 use Rattle.record.specs.Layout.{round_of, source_of, body_of}
 use Rattle.record.specs.declared.refusal.Refusal.{Refusal}
 use Rattle.record.specs.declared.refusal.Refusal.TheVariants.{Duplicate, Conflict, Buffer, BufferFull}
 use Rattle.replica.specs.State.{member_count}
 use Rattle.replica.specs.Outcome.{Outcome, told, unchanged, admitted}
 use Rattle.replica.specs.Status.{state_questions}
-use Rattle.replica.specs.declared.answer.Answer.{Answer}
+use Rattle.replica.specs.declared.answer.Added.{Added}
 use Rattle.ordering.specs.Calls.{admission_questions, take_vertex}
 use Rattle.pending.specs.Layout.{buffer_slots}
 use Rattle.pending.specs.Buffer.{same_record, same_id, some, put_in, records_in, buffer_of, buffer_ok}
@@ -32,10 +32,11 @@ early_questions recs rec why =
     ∷ (false, why)
     ∷ []
 
-unfoldable pub in_place : List (List ℕ) → List ℕ → Refusal → Refusal
-in_place recs rec why = cond (is_missing why) (first_no (early_questions recs rec why)) why
+unfoldable pub in_place : List (List ℕ) → List ℕ → Verdict → Verdict
+in_place recs rec (Ok passed) = no_refusal
+in_place recs rec (Err why) = cond (is_missing (Err why)) (first_no (early_questions recs rec why)) (Err why)
 
-abbrev pub refusal_with : List ℕ → List ℕ → List ℕ → Refusal
+abbrev pub refusal_with : List ℕ → List ℕ → List ℕ → Verdict
 refusal_with l s rec = in_place (records_in s) rec (first_no (buffered_questions l s rec))
 
 -- ---- the call
@@ -57,7 +58,7 @@ pub record Ending : Type 0 where
   pub outcome : Outcome
   pub buffer : List ℕ
 
-abbrev pub told_with : Answer → List ℕ → List ℕ → Ending
+abbrev pub told_with : Result Added Refusal → List ℕ → List ℕ → Ending
 told_with a l s = record { outcome = told a l; buffer = s }
 
 -- admitted: what was added is the growth of the lists over the record and the passes, and those that wait on are the buffer
@@ -65,7 +66,7 @@ abbrev pub admitted_with : List ℕ → Passed (List ℕ) → Ending
 admitted_with l p = record { outcome = admitted l p.after; buffer = buffer_of p.waiting }
 
 -- refused: the state stays; with 14 the record is put in the buffer, and with any other number that stays too
-abbrev pub refused_with : Refusal → List ℕ → List ℕ → List ℕ → Ending
+abbrev pub refused_with : Verdict → List ℕ → List ℕ → List ℕ → Ending
 refused_with why l s rec = record { outcome = unchanged why l; buffer = cond (is_missing why) (buffer_of (put_in rec (records_in s))) s }
 
 unfoldable pub take_vertex_with : List ℕ → List ℕ → List ℕ → Ending

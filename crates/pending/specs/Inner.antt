@@ -1,8 +1,8 @@
 -- What the inner functions of the call ask and answer. No claim rests on it.
-use Rattle.std.specs.Prelude.{◌≡◌, true, cond, List, [], ◌∷◌, ℕ, suc, ◌+◌, ◌≤◌, ◌<◌, eqb, ltb, length}
+use Rattle.std.specs.Prelude.{◌≡◌, true, cond, List, [], ◌∷◌, ℕ, suc, ◌+◌, ◌≤◌, ◌<◌, eqb, ltb, length, Err}
 use Rattle.std.proofs.Math.Seq.{paste}
 use Rattle.record.specs.Members.{legal, rounds, slots}
-use Rattle.record.specs.Refusals.{number_of, missing_number, is_missing}
+use Rattle.record.specs.Refusals.{Verdict, number_of, missing_number, is_missing}
 use Rattle.record.specs.Handed.{QuorumOf}
 use Rattle.record.specs.Layout.{record_size, round_of, source_of}
 use Rattle.record.specs.Questions.{record_refusal}
@@ -46,19 +46,19 @@ pub record PlaceOf (s : List ℕ) (j : ℕ) (rec : List ℕ) : Type 0 where
 
 -- where the refusal is a missing parent's, the buffer is well formed, and the record passes its own questions
 pub record Keepable (s rec : List ℕ) (why : Refusal) : Type 0 where
-  pub sound : is_missing why ≡ true → Sound s
-  pub bounded : is_missing why ≡ true → Bounded rec
+  pub sound : is_missing (Err why) ≡ true → Sound s
+  pub bounded : is_missing (Err why) ≡ true → Bounded rec
 
 -- a refusal, and the words of the buffer with it
 pub record Refused : Type 0 where
-  pub why : Refusal
+  pub why : Verdict
   pub buffer : List ℕ
 
-abbrev pub refused_in : Refusal → List ℕ → Refused
+abbrev pub refused_in : Verdict → List ℕ → Refused
 refused_in why s = record { why = why; buffer = s }
 
 -- the refusal in place of why: with 14 the record is put in
-abbrev pub keep_early : List ℕ → List ℕ → Refusal → Refused
+abbrev pub keep_early : List ℕ → List ℕ → Verdict → Refused
 keep_early s rec why =
     refused_in (in_place (records_in s) rec why) (cond (is_missing (in_place (records_in s) rec why)) (buffer_of (put_in rec (records_in s))) s)
 

@@ -9,7 +9,6 @@ use super::layout::{BUFFER_SIZE, BUFFER_SLOTS, COUNT, slot_at};
 use record::layout::{RECORD_SIZE, ROUND, SOURCE};
 use record::members::SLOTS;
 use record::questions::check;
-use record::refusal::number;
 use replica::wellformed::is_zero;
 
 // The id of a record.
@@ -30,7 +29,7 @@ fn records_ok(buffer: &[u32], n: u32, quorum: u32) -> bool
     for j in 0..count {
         let at = slot_at(j);
         let end = at + RECORD_SIZE;
-        if number(check(n, quorum, &buffer[at..end])) != 0 {
+        if check(n, quorum, &buffer[at..end]).is_err() {
             return false;
         }
         let id = id_of(&buffer[at..end]);

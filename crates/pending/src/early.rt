@@ -1,5 +1,5 @@
 // Taking a vertex with a pending buffer.
-ghost use Rattle.std.specs.Prelude.{◌≡◌, true, length};
+ghost use Rattle.std.specs.Prelude.{◌≡◌, true, length, Ok, Err};
 ghost use Rattle.record.specs.Members.{legal};
 ghost use Rattle.record.specs.Refusals.{first_no};
 ghost use Rattle.record.specs.Handed.{QuorumOf};
@@ -15,18 +15,24 @@ use super::moves::{has_id, has_record, put_in, rank_of};
 use super::sweep::release;
 use ordering::vertex::{admit_vertex, check_vertex};
 use record::members::quorum_of;
-use record::refusal::{Refusal, is_missing, number};
-use replica::answer::{Answer, refuse};
+use record::refusal::Refusal;
+use replica::answer::Added;
 use replica::layout::{JOURNAL_COUNT, LEADER_COUNT, MEMBER_COUNT};
 use replica::status::check_state;
 
 // Question 19, and 4 to 14, for a state whose own questions are passed.
-fn check_early(state: &[u32], buffer: &[u32], n: u32, quorum: u32, rec: &[u32]) -> Refusal
+fn check_early(
+    state: &[u32],
+    buffer: &[u32],
+    n: u32,
+    quorum: u32,
+    rec: &[u32],
+) -> Result<(), Refusal>
     requires { (length state.now ≡ state_size) × (legal n ≡ true) × QuorumOf n quorum }
     ensures { result ≡ first_no (later_questions state.now buffer.now n rec.now) }
 {
     if !is_buffer(buffer, n, quorum) {
-        return Refusal::Buffer;
+        return Err(Refusal::Buffer);
     }
     check_vertex(state, n, quorum, rec)
 }
@@ -34,9 +40,9 @@ fn check_early(state: &[u32], buffer: &[u32], n: u32, quorum: u32, rec: &[u32]) 
 // A record whose parent is missing is put in the buffer, unless 12, 13 or 20 is answered in place of 14. Other refusals stay.
 fn keep_early(buffer: &mut [u32], rec: &[u32], why: Refusal) -> Refusal
     requires { Keepable buffer.old rec.now why }
-    ensures { refused_in result buffer.new ≡ keep_early buffer.old rec.now why }
+    ensures { refused_in (Err result) buffer.new ≡ keep_early buffer.old rec.now (Err why) }
 {
-    if !is_missing(why) {
+    if !why.is_missing() {
         return why;
     }
     let j = rank_of(buffer, id_of(rec));
@@ -53,37 +59,36 @@ fn keep_early(buffer: &mut [u32], rec: &[u32], why: Refusal) -> Refusal
     why
 }
 
-// The admission, the passes, and the answer.
-fn admit_with(state: &mut [u32], buffer: &mut [u32], n: u32, quorum: u32, rec: &[u32]) -> Answer
+// The admission, the passes, and what they add.
+fn admit_with(state: &mut [u32], buffer: &mut [u32], n: u32, quorum: u32, rec: &[u32]) -> Added
     requires { Unstopped state.old n quorum rec.now × (buffer_ok n buffer.old ≡ true) }
-    ensures { told_with result state.new buffer.new
+    ensures { told_with (Ok result) state.new buffer.new
         ≡ admitted_with state.old (release_after state.old buffer.old rec.now) }
 {
     let leaders = state[LEADER_COUNT];
     let journal = state[JOURNAL_COUNT];
     admit_vertex(state, n, quorum, rec);
     release(state, buffer, n, quorum);
-    Answer {
-        refusal: Refusal::None,
+    Added {
         leaders: state[LEADER_COUNT] - leaders,
         journal: state[JOURNAL_COUNT] - journal,
     }
 }
 
 // Takes a vertex with a pending buffer: one that comes before its parents waits there, and an admitted one releases those that waited for it.
-pub fn take_vertex_with(state: &mut [u32], buffer: &mut [u32], rec: &[u32]) -> Answer
+pub fn take_vertex_with(
+    state: &mut [u32],
+    buffer: &mut [u32],
+    rec: &[u32],
+) -> Result<Added, Refusal>
     ensures { told_with result state.new buffer.new
         ≡ take_vertex_with state.old buffer.old rec.now }
 {
-    let why = check_state(state);
-    if number(why) != 0 {
-        return refuse(why);
-    }
+    check_state(state)?;
     let n = state[MEMBER_COUNT];
     let quorum = quorum_of(n);
-    let refused = check_early(state, buffer, n, quorum, rec);
-    if number(refused) != 0 {
-        return refuse(keep_early(buffer, rec, refused));
+    if let Err(why) = check_early(state, buffer, n, quorum, rec) {
+        return Err(keep_early(buffer, rec, why));
     }
-    admit_with(state, buffer, n, quorum, rec)
+    Ok(admit_with(state, buffer, n, quorum, rec))
 }

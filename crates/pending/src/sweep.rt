@@ -9,20 +9,17 @@ use super::layout::{COUNT, slot_at};
 use super::moves::copy_slot;
 use ordering::vertex::{admit_vertex, check_place};
 use record::layout::{BODY, RECORD_SIZE, ROUND, SOURCE};
-use record::refusal::{is_missing, number};
-use replica::answer::{Answer, refuse};
+use record::refusal::Refusal;
+use replica::answer::Added;
 use replica::opening::clear;
 
 // A waiting record tried as a vertex call: its own questions are passed already.
-fn retry(state: &mut [u32], n: u32, quorum: u32, rec: &[u32]) -> Answer
+fn retry(state: &mut [u32], n: u32, quorum: u32, rec: &[u32]) -> Result<Added, Refusal>
     requires { Trying state.old n quorum rec.now }
     ensures { told result state.new ≡ take_vertex state.old rec.now }
 {
-    let why = check_place(state, n, rec[ROUND], rec[SOURCE], &rec[BODY..RECORD_SIZE]);
-    if number(why) != 0 {
-        return refuse(why);
-    }
-    admit_vertex(state, n, quorum, rec)
+    check_place(state, n, rec[ROUND], rec[SOURCE], &rec[BODY..RECORD_SIZE])?;
+    Ok(admit_vertex(state, n, quorum, rec))
 }
 
 // The record of slot j is tried, and kept in slot `kept` where its parent is missing. Answers how many are kept.
@@ -33,8 +30,7 @@ fn sweep_one(state: &mut [u32], buffer: &mut [u32], n: u32, quorum: u32, j: u32,
     let at = slot_at(j);
     let end = at + RECORD_SIZE;
     let answer = retry(state, n, quorum, &buffer[at..end]);
-    let why = answer.refusal;
-    if is_missing(why) {
+    if answer.is_err_and(|why| why.is_missing()) {
         copy_slot(buffer, j, kept);
         return kept + 1;
     }

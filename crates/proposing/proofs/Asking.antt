@@ -1,4 +1,5 @@
 -- The questions of making and signing in turn, and what is known where they are passed. Assumes nothing.
+use Rattle.std.specs.Prelude.{Result, Ok, Err}
 use mathlib.Core.Path.{◌≡◌, refl, sym, ap, ap₂, ◌∙◌}
 use mathlib.Core.Bool.{Bool, true, false, not, ◌&&◌}
 use mathlib.Core.List.{List, [], ◌∷◌}
@@ -9,31 +10,31 @@ use lib.Dec.{leb}
 use lib.ListN.{length, drop}
 use borrow.Author.Tests.{eq-eqb, ne_eqb, leb-true, le-leb, lt-leb}
 use Rattle.record.specs.Members.{is_round, leader, has, meets, rounds, slots}
-use Rattle.record.specs.Refusals.{number_of, first_no, numbered}
+use Rattle.record.specs.Refusals.{Verdict, no_refusal, number_of, first_no, numbered}
 use Rattle.record.specs.Questions.{quorum_if}
 use Rattle.record.specs.Handed.{QuorumOf, handed_if}
 use Rattle.record.specs.declared.refusal.Refusal.{Refusal}
-use Rattle.record.specs.declared.refusal.Refusal.TheVariants.{None, Watcher, Round, Timeouts, NoVotes, Duplicate, FewParents, Signing}
+use Rattle.record.specs.declared.refusal.Refusal.TheVariants.{Watcher, Round, Timeouts, NoVotes, Duplicate, FewParents, Signing}
 use Rattle.record.proofs.Booleans.{and_left, and_fails_left, and_fails_right, cond_true, cond_false, passed, failed}
 use Rattle.record.proofs.Rounds.{round_in, round_range}
-use Rattle.record.proofs.Turn.{next, stop, done, front_no, front_yes}
+use Rattle.record.proofs.Turn.{was_err, next, stop, done, front_no, front_yes}
 use Rattle.record.proofs.Handed.{meets_law, wanted_law}
 use Rattle.record.proofs.Composed.{strong_law}
 use Rattle.replica.specs.Layout.{state_size, watcher, leader_count_at, journal_count_at, made_at, signed_at, masks_at, no_votes_kind}
 use Rattle.replica.specs.State.{member_count, current_round, own_word, made_rounds, signed_rounds, held_mask, add_member}
-use Rattle.replica.specs.Outcome.{Outcome, told, nothing_added, outcome}
+use Rattle.replica.specs.Outcome.{Outcome, told, unchanged, outcome}
 use Rattle.replica.specs.Status.{state_questions}
-use Rattle.replica.specs.declared.answer.Answer.{Answer}
+use Rattle.replica.specs.declared.answer.Added.{Added}
 use Rattle.replica.proofs.Formed.{well_formed_lem}
 use Rattle.ordering.proofs.Counts.{no_growth}
 use Rattle.ordering.proofs.Turns.{state_stops, state_past, state_formed, outcome_refused, outcome_admitted}
 use Rattle.ordering.proofs.Writing.{Calm}
+use Rattle.ordering.proofs.Taking.{told_refused}
 use Rattle.proposing.specs.Own.{is_member, marks_round, mark_round, member_questions}
 use Rattle.proposing.specs.Making.{made_strong, made_record, no_record, making_questions, propose_refusal, Proposed, told_proposal, propose_vertex}
 use Rattle.proposing.specs.Signing.{signing_round, may_sign, signing_questions, sign_refusal, put_own_no_vote, sign_no_vote}
-use Rattle.proposing.specs.Inner.{Opened, Current, draft_of, no_proposal}
+use Rattle.proposing.specs.Inner.{Opened, Current, draft_of}
 use Rattle.proposing.specs.declared.making.Draft.{Draft}
-use Rattle.proposing.specs.declared.making.Proposal.{Proposal}
 use Rattle.proposing.proofs.Kept.{MemberKnown, member_passed, making_passed, signing_passed, signing_round_lem, mark_calm, signed_calm, own_most}
 
 -- ---- questions 1, 3 and 16
@@ -42,25 +43,25 @@ member_numbered : (l : List ℕ) → numbered (member_questions l) ≡ true
 unfolding numbered
 member_numbered l = refl
 
-module _ (l : List ℕ) (why : Refusal) (e : why ≡ first_no (state_questions l)) where
+module _ (l : List ℕ) (why : Verdict) (e : why ≡ first_no (state_questions l)) where
   pub member_state : (number_of why ≡ 0 → ⊥) → why ≡ first_no (member_questions l)
   member_state = state_stops l why e _
 
   module _ (h : number_of why ≡ 0) where
-    past_state : {r : Refusal} → r ≡ first_no ((is_member l, Watcher) ∷ []) → r ≡ first_no (member_questions l)
+    past_state : {r : Verdict} → r ≡ first_no ((is_member l, Watcher) ∷ []) → r ≡ first_no (member_questions l)
     past_state d = state_past l why e _ h _ d
 
     pub member_size : length l ≡ state_size
     member_size = (state_formed l why e h).size
 
-    pub member_watcher : own_word l ≡ watcher → Watcher ≡ first_no (member_questions l)
+    pub member_watcher : own_word l ≡ watcher → Err Watcher ≡ first_no (member_questions l)
     member_watcher d = past_state (stop _ _ (ap not (eq-eqb _ _ d)))
 
-    pub member_own : (own_word l ≡ watcher → ⊥) → None ≡ first_no (member_questions l)
+    pub member_own : (own_word l ≡ watcher → ⊥) → no_refusal ≡ first_no (member_questions l)
     member_own d = past_state (next _ _ (ap not (ne_eqb _ _ d)) done)
 
 -- what is known where a refusal says that they are passed
-pub member_known : (l : List ℕ) (why : Refusal) → why ≡ first_no (member_questions l) → number_of why ≡ 0 → MemberKnown l
+pub member_known : (l : List ℕ) (why : Verdict) → why ≡ first_no (member_questions l) → number_of why ≡ 0 → MemberKnown l
 member_known l why e h = (member_passed l [] (sym (ap number_of e) ∙ h)).0
 
 pub opened : (l : List ℕ) → MemberKnown l → Opened l (member_count l) (current_round l)
@@ -83,14 +84,14 @@ current l k h = record { opened = opened l k; high = h }
 
 module _ (l : List ℕ) (n round : ℕ) (d : Draft) (C : Current l n round) (ed : d ≡ draft_of l) where
   -- the questions
-  abbrev asked : Refusal
+  abbrev asked : Verdict
   asked = first_no (drop 1 (making_questions l))
 
   module _ (q : ℕ) (g : QuorumOf n q) (a : Bool) (ha : a ≡ handed_if q d.wants_timeouts d.timeouts) where
     ea : a ≡ quorum_if n d.wants_timeouts d.timeouts
     ea = ha ∙ wanted_law n q _ _ g
 
-    pub draft_timeouts : not a ≡ true → Timeouts ≡ asked
+    pub draft_timeouts : not a ≡ true → Err Timeouts ≡ asked
     unfolding making_questions
     draft_timeouts h = stop _ _ (rw (ed, C.opened.members) at (failed ea h))
 
@@ -98,25 +99,25 @@ module _ (l : List ℕ) (n round : ℕ) (d : Draft) (C : Current l n round) (ed 
       eb : b ≡ quorum_if n d.wants_no_votes d.no_votes
       eb = hb ∙ wanted_law n q _ _ g
 
-      pub draft_no_votes : not b ≡ true → NoVotes ≡ asked
+      pub draft_no_votes : not b ≡ true → Err NoVotes ≡ asked
       unfolding making_questions
       draft_no_votes h = next _ _ (rw (ed, C.opened.members) at (passed ea pa)) (stop _ _ (rw (ed, C.opened.members) at (failed eb h)))
 
       module _ (pb : not b ≡ false) (m : Bool) (em : m ≡ marks_round (made_rounds l) round) where
-        pub draft_made : m ≡ true → Duplicate ≡ asked
+        pub draft_made : m ≡ true → Err Duplicate ≡ asked
         unfolding making_questions
         draft_made h =
             next _ _ (rw (ed, C.opened.members) at (passed ea pa)) (next _ _ (rw (ed, C.opened.members) at (passed eb pb))
             (stop _ _ (ap not (rw C.opened.current at (sym em ∙ h)))))
 
         module _ (pm : m ≡ false) where
-          last_one : {r : Refusal} → r ≡ first_no (drop 4 (making_questions l)) → r ≡ asked
+          last_one : {r : Verdict} → r ≡ first_no (drop 4 (making_questions l)) → r ≡ asked
           unfolding making_questions
           last_one f =
               next _ _ (rw (ed, C.opened.members) at (passed ea pa)) (next _ _ (rw (ed, C.opened.members) at (passed eb pb))
               (next _ _ (ap not (rw C.opened.current at (sym em ∙ pm))) f))
 
-          pub draft_first : round ≡ 1 → None ≡ asked
+          pub draft_first : round ≡ 1 → no_refusal ≡ asked
           unfolding making_questions made_strong
           draft_first h =
               let one : current_round l ≡ 1 = sym C.opened.current ∙ h in
@@ -126,12 +127,12 @@ module _ (l : List ℕ) (n round : ℕ) (d : Draft) (C : Current l n round) (ed 
             ez : z ≡ meets n d.strong
             ez = hz ∙ meets_law n q _ g
 
-            pub draft_few : not z ≡ true → FewParents ≡ asked
+            pub draft_few : not z ≡ true → Err FewParents ≡ asked
             unfolding making_questions
             draft_few h = last_one (stop _ _ ((strong_law (member_count l)).1 (current_round l) (made_strong l) (λ x. later (C.opened.current ∙ x))
                 ∙ (rw (ed, C.opened.members) at (failed ez h))))
 
-            pub draft_done : not z ≡ false → None ≡ asked
+            pub draft_done : not z ≡ false → no_refusal ≡ asked
             unfolding making_questions
             draft_done h = last_one (next _ _ ((strong_law (member_count l)).1 (current_round l) (made_strong l) (λ x. later (C.opened.current ∙ x))
                 ∙ (rw (ed, C.opened.members) at (passed ez h))) done)
@@ -139,51 +140,52 @@ module _ (l : List ℕ) (n round : ℕ) (d : Draft) (C : Current l n round) (ed 
 -- ---- making
 
 -- the words afterwards differ in no count
-still : (l m : List ℕ) → Calm l m → told (nothing_added None) m ≡ outcome None l m
+still : (l m : List ℕ) → Calm l m → unchanged no_refusal m ≡ outcome no_refusal l m
 still l m C =
     no_growth l m (C.head leader_count_at (omega arith) (λ e. omega arith)) (C.head journal_count_at (omega arith) (λ e. omega arith))
-    ∙ outcome_admitted None None l m refl refl
+    ∙ outcome_admitted no_refusal no_refusal l m refl refl
 
 abbrev ended : Outcome → List ℕ → Proposed
 ended o rec = record { outcome = o; made = rec }
 
 -- all questions
-module _ (l : List ℕ) (why : Refusal) (e : why ≡ first_no (member_questions l)) (x : ℕ) (f : x ≡ number_of why) where
-  pub propose_stopped : (x ≡ 0 → ⊥) → why ≡ propose_refusal l
-  propose_stopped h = e ∙ front_no (member_questions l) (making_questions l) (λ d. h (f ∙ ap number_of e ∙ d))
+module _ (l : List ℕ) (why : Verdict) (e : why ≡ first_no (member_questions l)) where
+  pub propose_stopped : (number_of why ≡ 0 → ⊥) → why ≡ propose_refusal l
+  propose_stopped h = e ∙ front_no (member_questions l) (making_questions l) (λ d. h (ap number_of e ∙ d))
 
-  module _ (h : x ≡ 0) where
-    past_member : {r : Refusal} → r ≡ first_no (making_questions l) → r ≡ propose_refusal l
-    past_member d = d ∙ front_yes (member_questions l) (making_questions l) (member_numbered l) (sym (ap number_of e) ∙ sym f ∙ h)
+  module _ (h : number_of why ≡ 0) where
+    past_member : {r : Verdict} → r ≡ first_no (making_questions l) → r ≡ propose_refusal l
+    past_member d = d ∙ front_yes (member_questions l) (making_questions l) (member_numbered l) (sym (ap number_of e) ∙ h)
 
-    pub propose_late : rounds < current_round l → Round ≡ propose_refusal l
+    pub propose_late : rounds < current_round l → Err Round ≡ propose_refusal l
     propose_late k = past_member late
       where
         none : is_round (current_round l) ≡ false
         none = unfold is_round in and_fails_right (leb 1 (current_round l)) (lt-leb (current_round l) rounds k)
 
-        late : Round ≡ first_no (making_questions l)
+        late : Err Round ≡ first_no (making_questions l)
         late = unfold making_questions in stop _ _ none
 
-    pub propose_asked : current_round l ≤ rounds → (r : Refusal) → r ≡ first_no (drop 1 (making_questions l)) → r ≡ propose_refusal l
+    pub propose_asked : current_round l ≤ rounds → (r : Verdict) → r ≡ first_no (drop 1 (making_questions l)) → r ≡ propose_refusal l
     propose_asked k r d = past_member in_round
       where
         in_round : r ≡ first_no (making_questions l)
         in_round = unfold making_questions in
-            next _ _ (round_in (current_round l) (member_known l why e (sym f ∙ h)).state.front.round_low k) (unfold making_questions in d)
+            next _ _ (round_in (current_round l) (member_known l why e h).state.front.round_low k) (unfold making_questions in d)
 
 -- the call
-module _ (l digest : List ℕ) (why : Refusal) (e : why ≡ propose_refusal l) (x : ℕ) (f : x ≡ number_of why) where
-  pub propose_refused : (x ≡ 0 → ⊥) → (p : Proposal) → p ≡ no_proposal why → told_proposal p l ≡ propose_vertex l digest
+module _ (l digest : List ℕ) (why : Verdict) (e : why ≡ propose_refusal l) where
+  pub propose_refused : (w : Refusal) → why ≡ Err w → (p : Result (List ℕ) Refusal) → p ≡ Err w → told_proposal p l ≡ propose_vertex l digest
   unfolding propose_vertex
-  propose_refused h p d =
-      ap (λ (y : Proposal). told_proposal y l) d
-      ∙ ap₂ ended (outcome_refused why (propose_refusal l) l (mark_round l made_at (current_round l)) e (λ z. h (f ∙ z)))
-      (sym (cond_false (made_record l digest) no_record (ne_eqb (number_of (propose_refusal l)) 0 (λ z. h (f ∙ ap number_of e ∙ z)))))
+  propose_refused w h p d =
+      ap (λ (y : Result (List ℕ) Refusal). told_proposal y l) d
+      ∙ ap₂ ended (ap (λ (v : Verdict). unchanged v l) (sym h)
+      ∙ outcome_refused why (propose_refusal l) l (mark_round l made_at (current_round l)) e (was_err h))
+      (sym (cond_false (made_record l digest) no_record (ne_eqb (number_of (propose_refusal l)) 0 (λ z. was_err h (ap number_of e ∙ z)))))
 
-  module _ (h : x ≡ 0) where
+  module _ (h : number_of why ≡ 0) where
     none : number_of (propose_refusal l) ≡ 0
-    none = sym (ap number_of e) ∙ sym f ∙ h
+    none = sym (ap number_of e) ∙ h
 
     pub propose_current : Current l (member_count l) (current_round l)
     propose_current =
@@ -191,13 +193,13 @@ module _ (l digest : List ℕ) (why : Refusal) (e : why ≡ propose_refusal l) (
         current l (record { state = k.state; member = k.member; own = k.own }) (round_range (current_round l) k.round).1
 
     pub propose_done : (rec : List ℕ) → rec ≡ made_record l digest → (m : List ℕ) → m ≡ mark_round l made_at (current_round l)
-        → told_proposal (record { answer = nothing_added None; words = rec }) m ≡ propose_vertex l digest
+        → told_proposal (Ok rec) m ≡ propose_vertex l digest
     unfolding propose_vertex
     propose_done rec er m em =
         ap₂ ended
-        (ap (told (nothing_added None)) em
+        (ap (unchanged no_refusal) em
         ∙ still l (mark_round l made_at (current_round l)) (mark_calm l made_at (current_round l) (omega arith) (omega arith))
-        ∙ sym (outcome_admitted None None l _ refl refl) ∙ outcome_admitted (propose_refusal l) (propose_refusal l) l _ refl none)
+        ∙ sym (outcome_admitted no_refusal no_refusal l _ refl refl) ∙ outcome_admitted (propose_refusal l) (propose_refusal l) l _ refl none)
         (er ∙ sym (cond_true (made_record l digest) no_record (eq-eqb (number_of (propose_refusal l)) 0 none)))
 
 -- ---- signing
@@ -221,15 +223,15 @@ module _ (l : List ℕ) (n round : ℕ) (O : Opened l n round) where
         (ap not (rw (O.current, O.members) at (sym eb ∙ p))))
 
 -- all questions
-module _ (l : List ℕ) (why : Refusal) (e : why ≡ first_no (member_questions l)) where
+module _ (l : List ℕ) (why : Verdict) (e : why ≡ first_no (member_questions l)) where
   pub sign_stopped : (number_of why ≡ 0 → ⊥) → why ≡ sign_refusal l
   sign_stopped h = e ∙ front_no (member_questions l) (signing_questions l) (λ d. h (ap number_of e ∙ d))
 
   module _ (h : number_of why ≡ 0) (b : Bool) (eb : b ≡ may_sign l) where
-    past : {r : Refusal} → r ≡ first_no (signing_questions l) → r ≡ sign_refusal l
+    past : {r : Verdict} → r ≡ first_no (signing_questions l) → r ≡ sign_refusal l
     past d = d ∙ front_yes (member_questions l) (signing_questions l) (member_numbered l) (sym (ap number_of e) ∙ h)
 
-    pub sign_not : not b ≡ true → Signing ≡ sign_refusal l
+    pub sign_not : not b ≡ true → Err Signing ≡ sign_refusal l
     sign_not k = past (stop _ _ (failed eb k))
 
     -- then the current round is not the first
@@ -238,10 +240,10 @@ module _ (l : List ℕ) (why : Refusal) (e : why ≡ first_no (member_questions 
     sign_later k = leb-true 2 (current_round l) (and_left (leb 2 (current_round l)) _ (passed eb k))
 
     module _ (pb : not b ≡ false) (m : Bool) (em : m ≡ marks_round (signed_rounds l) (current_round l - 1)) where
-      pub sign_again : m ≡ true → Duplicate ≡ sign_refusal l
+      pub sign_again : m ≡ true → Err Duplicate ≡ sign_refusal l
       sign_again k = past (next _ _ (passed eb pb) (stop _ _ (ap not (sym em ∙ k))))
 
-      pub sign_new : m ≡ false → None ≡ sign_refusal l
+      pub sign_new : m ≡ false → no_refusal ≡ sign_refusal l
       sign_new k = past (next _ _ (passed eb pb) (next _ _ (ap not (sym em ∙ k)) done))
 
 -- what each step may use of a no-vote that is signed
@@ -253,19 +255,19 @@ pub record SignTaken (l : List ℕ) : Type 0 where
   pub few : own_word l ≤ slots
   pub marked : (m : List ℕ) → m ≡ mark_round l signed_at (current_round l - 1) → length m ≡ state_size
   pub done : (m o : List ℕ) (at : ℕ) → m ≡ mark_round l signed_at (current_round l - 1) → at ≡ masks_at (current_round l - 1)
-      → o ≡ add_member m (at + no_votes_kind) (own_word l - 1) → told (nothing_added None) o ≡ sign_no_vote l
+      → o ≡ add_member m (at + no_votes_kind) (own_word l - 1) → unchanged no_refusal o ≡ sign_no_vote l
 
 -- the call
-module _ (l : List ℕ) (why : Refusal) (e : why ≡ sign_refusal l) (x : ℕ) (f : x ≡ number_of why) where
-  pub sign_refused : (x ≡ 0 → ⊥) → (a : Answer) → a ≡ nothing_added why → told a l ≡ sign_no_vote l
+module _ (l : List ℕ) (why : Verdict) (e : why ≡ sign_refusal l) where
+  pub sign_refused : (w : Refusal) → why ≡ Err w → (a : Result Added Refusal) → a ≡ Err w → told a l ≡ sign_no_vote l
   unfolding sign_no_vote
-  sign_refused h a d =
-      ap (λ (y : Answer). told y l) d ∙ outcome_refused why (sign_refusal l) l (put_own_no_vote l (signing_round l)) e (λ z. h (f ∙ z))
+  sign_refused w h a d =
+      told_refused l a why w h d ∙ outcome_refused why (sign_refusal l) l (put_own_no_vote l (signing_round l)) e (was_err h)
 
-  pub sign_taken : x ≡ 0 → SignTaken l
+  pub sign_taken : number_of why ≡ 0 → SignTaken l
   unfolding sign_no_vote put_own_no_vote
   sign_taken h =
-      let z : number_of (sign_refusal l) ≡ 0 = sym (ap number_of e) ∙ sym f ∙ h in
+      let z : number_of (sign_refusal l) ≡ 0 = sym (ap number_of e) ∙ h in
       let k = signing_passed l z in
       let w = signing_round_lem l k in
       let C = mark_calm l signed_at (current_round l - 1) (omega arith) (omega arith) in
@@ -277,7 +279,7 @@ module _ (l : List ℕ) (why : Refusal) (e : why ≡ sign_refusal l) (x : ℕ) (
         few = omega (arith, own_most l k.state, k.state.front.high);
         marked = λ m d. ap length d ∙ C.size ∙ k.state.size;
         done = λ m o at dm da dn.
-            ap (told (nothing_added None)) (dn ∙ ap₂ (λ (x : List ℕ) (y : ℕ). add_member x (y + no_votes_kind) (own_word l - 1)) dm da)
+            ap (unchanged no_refusal) (dn ∙ ap₂ (λ (x : List ℕ) (y : ℕ). add_member x (y + no_votes_kind) (own_word l - 1)) dm da)
             ∙ still l (put_own_no_vote l (signing_round l)) (signed_calm l (signing_round l) w.0 w.1)
-            ∙ sym (outcome_admitted None None l _ refl refl) ∙ outcome_admitted (sign_refusal l) (sign_refusal l) l _ refl z;
+            ∙ sym (outcome_admitted no_refusal no_refusal l _ refl refl) ∙ outcome_admitted (sign_refusal l) (sign_refusal l) l _ refl z;
       }

@@ -2,14 +2,11 @@
 use Rattle.std.specs.Prelude.{◌≡◌, true, cond, not, ◌&&◌, List, ℕ, zero, suc, ◌+◌, ◌≤◌, ◌<◌, ltb, length, get_or, set}
 use Rattle.record.specs.Members.{rounds, slots, has, id_of, id_member}
 use Rattle.record.specs.Layout.{body_place, weak_count_place, weak_place}
-use Rattle.record.specs.declared.refusal.Refusal.{Refusal}
 use Rattle.replica.specs.Layout.{state_size}
 use Rattle.replica.specs.State.{member_count, current_round, held_mask, own_word}
 use Rattle.replica.specs.WellFormed.{well_formed}
-use Rattle.replica.specs.Outcome.{nothing_added}
-use Rattle.proposing.specs.Making.{made_strong, made_timeouts, made_no_votes, wants_timeouts, wants_no_votes, no_record}
+use Rattle.proposing.specs.Making.{made_strong, made_timeouts, made_no_votes, wants_timeouts, wants_no_votes}
 use Rattle.proposing.specs.declared.making.Draft.{Draft}
-use Rattle.proposing.specs.declared.making.Proposal.{Proposal}
 
 -- the words of a member's well-formed state, its member count and its current round
 pub record Opened (l : List ℕ) (n round : ℕ) : Type 0 where
@@ -37,10 +34,6 @@ draft_of l = record {
   wants_timeouts = wants_timeouts l;
   wants_no_votes = wants_no_votes l;
 }
-
--- what is answered where making is refused
-abbrev pub no_proposal : Refusal → Proposal
-no_proposal why = record { answer = nothing_added why; words = no_record }
 
 -- ---- weak ids, one after the other
 

@@ -1,8 +1,8 @@
 -- Making our own vertex: a record for the current round.
-use Rattle.std.specs.Prelude.{Bool, cond, not, ◌&&◌, List, [], ◌∷◌, ◌++◌, ℕ, ◌+◌, ◌-◌, eqb, leb, take, replicate}
+use Rattle.std.specs.Prelude.{Bool, cond, not, ◌&&◌, List, [], ◌∷◌, ◌++◌, ℕ, ◌+◌, ◌-◌, eqb, leb, take, replicate, Result, Ok, Err}
 use Rattle.record.specs.Below.{any, select}
 use Rattle.record.specs.Members.{is_round, faulty, leader, has, remove, id_round, id_limit}
-use Rattle.record.specs.Refusals.{number_of, Question, first_no}
+use Rattle.record.specs.Refusals.{Verdict, number_of, id_in, Question, first_no}
 use Rattle.record.specs.Layout.{record_size, record_words}
 use Rattle.record.specs.Questions.{strong_ok, lacks_leader, quorum_if}
 use Rattle.record.specs.declared.refusal.Refusal.{Refusal}
@@ -10,9 +10,8 @@ use Rattle.record.specs.declared.refusal.Refusal.TheVariants.{Round, Timeouts, N
 use Rattle.protocol.specs.Paths.{history}
 use Rattle.replica.specs.Layout.{made_at}
 use Rattle.replica.specs.State.{member_count, current_round, held_mask, timeouts_mask, no_votes_mask, vertices, held_id}
-use Rattle.replica.specs.Outcome.{Outcome, told, outcome}
+use Rattle.replica.specs.Outcome.{Outcome, outcome}
 use Rattle.proposing.specs.Own.{own_member, was_made, was_signed, mark_round, member_questions}
-use Rattle.proposing.specs.declared.making.Proposal.{Proposal}
 
 -- ---- the strong mask
 
@@ -75,7 +74,7 @@ making_questions l =
     ∷ (strong_ok (member_count l) (current_round l) (made_strong l), FewParents)
     ∷ []
 
-abbrev pub propose_refusal : List ℕ → Refusal
+abbrev pub propose_refusal : List ℕ → Verdict
 propose_refusal l = first_no (member_questions l ++ making_questions l)
 
 -- what a call of making ends in: its outcome, and the record
@@ -83,9 +82,14 @@ pub record Proposed : Type 0 where
   pub outcome : Outcome
   pub made : List ℕ
 
--- what a proposal and the words at exit say
-abbrev pub told_proposal : Proposal → List ℕ → Proposed
-told_proposal p l = record { outcome = told p.answer l; made = p.words }
+-- the record of an answer
+abbrev pub made_in : Result (List ℕ) Refusal → List ℕ
+made_in (Ok words) = words
+made_in (Err why) = no_record
+
+-- what an answer and the words at exit say: making adds to neither list
+abbrev pub told_proposal : Result (List ℕ) Refusal → List ℕ → Proposed
+told_proposal p l = record { outcome = record { number = number_of p; id = id_in p; leaders = 0; journal = 0; words = l }; made = made_in p }
 
 -- the record is answered and its round marked; nothing else changes
 unfoldable pub propose_vertex : List ℕ → List ℕ → Proposed

@@ -1,8 +1,7 @@
 -- Signing our own no-vote, for the round before the current one.
 use Rattle.std.specs.Prelude.{Bool, not, ◌&&◌, List, [], ◌∷◌, ◌++◌, ℕ, ◌-◌, leb}
 use Rattle.record.specs.Members.{leader, has}
-use Rattle.record.specs.Refusals.{Question, first_no}
-use Rattle.record.specs.declared.refusal.Refusal.{Refusal}
+use Rattle.record.specs.Refusals.{Verdict, Question, first_no}
 use Rattle.record.specs.declared.refusal.Refusal.TheVariants.{Signing, Duplicate}
 use Rattle.replica.specs.Layout.{signed_at, no_votes_at}
 use Rattle.replica.specs.State.{member_count, current_round, held_mask, add_member}
@@ -23,7 +22,7 @@ may_sign l =
 abbrev pub signing_questions : List ℕ → List Question
 signing_questions l = (may_sign l, Signing) ∷ (not (was_signed l (signing_round l)), Duplicate) ∷ []
 
-abbrev pub sign_refusal : List ℕ → Refusal
+abbrev pub sign_refusal : List ℕ → Verdict
 sign_refusal l = first_no (member_questions l ++ signing_questions l)
 
 -- round r is marked, and the own member joins its no-votes

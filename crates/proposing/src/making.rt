@@ -6,7 +6,7 @@ ghost use Rattle.record.specs.Layout.{record_words};
 ghost use Rattle.replica.specs.Layout.{state_size, kinds};
 ghost use Rattle.replica.specs.State.{mask_of};
 ghost use Rattle.proposing.specs.Making.{made_strong, made_record, making_questions, propose_refusal, told_proposal, propose_vertex};
-ghost use Rattle.proposing.specs.Inner.{no_proposal, Current, draft_of};
+ghost use Rattle.proposing.specs.Inner.{Current, draft_of};
 
 use super::own::{check_member, mark_round, marks_round};
 use super::weak::offer_rounds;
@@ -17,18 +17,10 @@ use record::layout::{
 };
 use record::members::{Members, ROUNDS, faulty_of, leader_of, quorum_of};
 use record::questions::{lacks_leader, quorum_if, terms_of};
-use record::refusal::{Refusal, number};
+use record::refusal::Refusal;
 use record::words::copy_words;
-use replica::answer::{Answer, refuse};
 use replica::layout::{CURRENT_ROUND, HELD, MADE, MEMBER_COUNT, NO_VOTES, OWN, SIGNED, TIMEOUTS};
 use replica::masks::mask_of;
-
-// The answer, and the words of the record.
-#[derive(Clone, Copy)]
-pub struct Proposal {
-    pub answer: Answer,
-    pub words: [u32; RECORD_SIZE],
-}
 
 // The masks of the record, and whether question 9 wants timeouts and question 10 no-votes.
 #[derive(Clone, Copy)]
@@ -38,17 +30,6 @@ struct Draft {
     no_votes: u32,
     wants_timeouts: bool,
     wants_no_votes: bool,
-}
-
-// No record is made.
-fn refuse_proposal(why: Refusal) -> Proposal
-    ensures { result ≡ no_proposal why }
-{
-    let answer = refuse(why);
-    Proposal {
-        answer,
-        words: [0; RECORD_SIZE],
-    }
 }
 
 // All held of the round before, less its leader if we signed a no-vote for that round.
@@ -111,28 +92,28 @@ fn draft_of(state: &[u32], n: u32, round: u32) -> Draft
 }
 
 // Questions 9, 10, 12 and 18. The quorum is worked out once.
-fn check_draft(state: &[u32], n: u32, round: u32, draft: Draft) -> Refusal
+fn check_draft(state: &[u32], n: u32, round: u32, draft: Draft) -> Result<(), Refusal>
     requires { Current state.now n round × (draft ≡ draft_of state.now) }
     ensures { result ≡ first_no (drop 1 (making_questions state.now)) }
 {
     let quorum = quorum_of(n);
     if !quorum_if(quorum, draft.wants_timeouts, draft.timeouts) {
-        return Refusal::Timeouts;
+        return Err(Refusal::Timeouts);
     }
     if !quorum_if(quorum, draft.wants_no_votes, draft.no_votes) {
-        return Refusal::NoVotes;
+        return Err(Refusal::NoVotes);
     }
     if marks_round(state[MADE], round) {
-        return Refusal::Duplicate;
+        return Err(Refusal::Duplicate);
     }
     if round == 1 {
-        return Refusal::None;
+        return Ok(());
     }
     let parents = Members { bits: draft.strong };
     if !parents.meets_quorum(quorum) {
-        return Refusal::FewParents;
+        return Err(Refusal::FewParents);
     }
-    Refusal::None
+    Ok(())
 }
 
 // A record without weak ids.
@@ -157,17 +138,14 @@ fn plain_record(
 }
 
 // All questions of making.
-fn check_propose(state: &[u32]) -> Refusal
+fn check_propose(state: &[u32]) -> Result<(), Refusal>
     ensures { result ≡ propose_refusal state.now }
 {
-    let why = check_member(state);
-    if number(why) != 0 {
-        return why;
-    }
+    check_member(state)?;
     let n = state[MEMBER_COUNT];
     let round = state[CURRENT_ROUND];
     if ROUNDS < round {
-        return Refusal::Round;
+        return Err(Refusal::Round);
     }
     check_draft(state, n, round, draft_of(state, n, round))
 }
@@ -187,21 +165,16 @@ fn record_of(state: &[u32], n: u32, round: u32, digest: &[u32; DIGEST_SIZE]) -> 
     words
 }
 
-// Makes our own vertex of the current round, with the digest.
-pub fn propose(state: &mut [u32], digest: &[u32; DIGEST_SIZE]) -> Proposal
+// Makes our own vertex of the current round, with the digest: the words of its record.
+pub fn propose(
+    state: &mut [u32],
+    digest: &[u32; DIGEST_SIZE],
+) -> Result<[u32; RECORD_SIZE], Refusal>
     ensures { told_proposal result state.new ≡ propose_vertex state.old digest.now }
 {
-    let why = check_propose(state);
-    if number(why) != 0 {
-        return refuse_proposal(why);
-    }
+    check_propose(state)?;
     let round = state[CURRENT_ROUND];
     let words = record_of(state, state[MEMBER_COUNT], round, digest);
     mark_round(state, MADE, round);
-    let answer = Answer {
-        refusal: Refusal::None,
-        leaders: 0,
-        journal: 0,
-    };
-    Proposal { answer, words }
+    Ok(words)
 }

@@ -5,7 +5,7 @@ ghost use Rattle.record.specs.Refusals.{first_no};
 ghost use Rattle.proposing.specs.Own.{marks_round, mark_round, member_questions};
 
 use record::members::{has_bit, is_round, with_bit};
-use record::refusal::{Refusal, number};
+use record::refusal::Refusal;
 use replica::layout::{OWN, WATCHER};
 use replica::status::check_state;
 
@@ -29,15 +29,12 @@ pub fn mark_round(state: &mut [u32], at: usize, round: u32)
 }
 
 // Questions 1, 3 and 16.
-pub fn check_member(state: &[u32]) -> Refusal
+pub fn check_member(state: &[u32]) -> Result<(), Refusal>
     ensures { result ≡ first_no (member_questions state.now) }
 {
-    let why = check_state(state);
-    if number(why) != 0 {
-        return why;
-    }
+    check_state(state)?;
     if state[OWN] == WATCHER {
-        return Refusal::Watcher;
+        return Err(Refusal::Watcher);
     }
-    Refusal::None
+    Ok(())
 }

@@ -6,8 +6,8 @@ ghost use Rattle.proposing.specs.Inner.{Opened};
 
 use super::own::{check_member, mark_round, marks_round};
 use record::members::{Members, leader_of};
-use record::refusal::{Refusal, number};
-use replica::answer::{Answer, refuse};
+use record::refusal::Refusal;
+use replica::answer::{Added, NOTHING};
 use replica::layout::{CURRENT_ROUND, HELD, MADE, MEMBER_COUNT, NO_VOTES, OWN, SIGNED, masks_at};
 use replica::masks::{add_member, mask_of};
 
@@ -29,39 +29,29 @@ fn may_sign(state: &[u32], n: u32, round: u32) -> bool
 }
 
 // All questions of signing.
-fn check_sign(state: &[u32]) -> Refusal
+fn check_sign(state: &[u32]) -> Result<(), Refusal>
     ensures { result ≡ sign_refusal state.now }
 {
-    let why = check_member(state);
-    if number(why) != 0 {
-        return why;
-    }
+    check_member(state)?;
     let round = state[CURRENT_ROUND];
     if !may_sign(state, state[MEMBER_COUNT], round) {
-        return Refusal::Signing;
+        return Err(Refusal::Signing);
     }
     if marks_round(state[SIGNED], round - 1) {
-        return Refusal::Duplicate;
+        return Err(Refusal::Duplicate);
     }
-    Refusal::None
+    Ok(())
 }
 
 // Signs our no-vote for the round before the current one.
-pub fn sign_no_vote(state: &mut [u32]) -> Answer
+pub fn sign_no_vote(state: &mut [u32]) -> Result<Added, Refusal>
     ensures { told result state.new ≡ sign_no_vote state.old }
 {
-    let why = check_sign(state);
-    if number(why) != 0 {
-        return refuse(why);
-    }
+    check_sign(state)?;
     let round = state[CURRENT_ROUND] - 1;
     let own = state[OWN] - 1;
     mark_round(state, SIGNED, round);
     let at = masks_at(round) + NO_VOTES;
     add_member(state, at, own);
-    Answer {
-        refusal: Refusal::None,
-        leaders: 0,
-        journal: 0,
-    }
+    Ok(NOTHING)
 }

@@ -9,11 +9,13 @@ use native.Mathlib.Numerals.{add-one}
 use native.Mathlib.Omega.{arith}
 use lib.Dec.{ltb}
 use denote.Param.Members.{Mut}
-use Rattle.std.specs.Fn.{Called}
-use Rattle.std.specs.Iterator.{ChecksAll}
+use Rattle.std.specs.Fn.{Called, CalledAt}
+use Rattle.std.specs.Iterator.{ChecksAll, FindsItem}
 use Rattle.std.specs.List.{list_all, range_with_len}
+use Rattle.std.specs.Option.{MatchOption, unwrap_or}
+use Rattle.std.proofs.Common.{Option, None, Some, Bor}
 use Rattle.std.proofs.iter.Yields.{nat_range_steps}
-use Rattle.std.proofs.lemmas.Iterator.{YieldsList-from_range}
+use Rattle.std.proofs.lemmas.Iterator.{YieldsList-from_range, first_from_Range}
 use Rattle.std.proofs.lemmas.Iterator.Search.{all_from_yields_List}
 use Rattle.std.specs.declared.ops.Range.{Range}
 use borrow.Author.Tests.{ltb-true, ltb-false}
@@ -206,6 +208,20 @@ least_at (suc k) t i l h e = go (eq-or-lt_of_le (le_of_suc-le-suc l)) (λ q. lea
     go : (i ≡ k) ⊎ (i < k) → (i < k → least k t ≡ i) → least (suc k) t ≡ i
     go (inl q) r = rw (rw q at h, rw q at e) (sym q)
     go (inr q) r = rw (any_intro k t i q e) (r q)
+
+-- what the library's `find` gives over the range 0..k, or else k, with a closure that answers t of each number
+pub least_range : {F : Type 0} {g : Mut F (Bor ℕ × Unit {0}) Bool} (k : ℕ) (t : ℕ → Bool) (u : Range ℕ) (f : F) (r : Option ℕ)
+    → FindsItem nat_range_steps g (record { start = 0; end = k }) f r u
+    → ((x : ℕ) (b : Bool) (q : F) → CalledAt g f x b q → (q ≡ f) × (b ≡ t x)) → unwrap_or r k ≡ least k t
+least_range k t u f r ran each =
+    go r (first_from_Range _ u f r (λ x. t x ≡ true) (λ x. t x ≡ false) ran (λ x q c. sym (each x true q c).1)
+    (λ x q c. ((each x false q c).0, sym (each x false q c).1)))
+  where
+    go : (r : Option ℕ)
+        → MatchOption r ((i : ℕ) → 0 ≤ i → i < k → t i ≡ false) (λ i. (0 ≤ i) × (i < k) × (t i ≡ true) × ((j : ℕ) → 0 ≤ j → j < i → t j ≡ false))
+        → unwrap_or r k ≡ least k t
+    go None h = sym (least_none k t (any_false k t (λ i l. h i (omega arith) l)))
+    go (Some i) h = sym (least_at k t i h.1 (any_false i t (λ j l. h.3 j (omega arith) l)) h.2)
 
 pub least_le : (k : ℕ) (t : ℕ → Bool) → least k t ≤ k
 unfolding least

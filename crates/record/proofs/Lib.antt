@@ -6,6 +6,7 @@ pub mod Rounds
 pub mod Turn
 pub mod Handed
 pub mod Parts
+pub mod Spans
 pub mod Weak
 pub mod Composed
 pub mod Claims

@@ -12,13 +12,12 @@ use lib.ListN.{length}
 use lib.Pow.{pow_pos}
 use borrow.Author.Tests.{eqb-true, eqb-false, eq-eqb, ne_eqb, le-leb, lt-leb}
 use Rattle.record.specs.Members.{leader, within, rounds}
-use Rattle.record.specs.Refusals.{number_of}
+use Rattle.record.specs.Refusals.{Verdict, number_of}
 use Rattle.record.specs.Layout.{strong_of, timeouts_of, no_votes_of, body_size}
 use Rattle.record.specs.Questions.{masks_ok, lacks_leader, weak_ok, signer_questions, record_questions, body_refusal}
 use Rattle.record.specs.Handed.{QuorumOf, handed_strong, handed_if, handed_timeouts, handed_no_votes, handed_questions, handed_refusal}
 use Rattle.record.specs.Inner.{largest_mask, terms_of, Known, certified, masks_admitted}
 use Rattle.record.specs.declared.questions.Terms.{Terms}
-use Rattle.record.specs.declared.refusal.Refusal.{Refusal}
 use Rattle.record.proofs.Booleans.{which, and_left, and_right, and_both, and_fails_left, and_fails_right, bool_ext, passed, failed}
 use Rattle.record.proofs.Booleans.{cond_true, cond_false}
 use Rattle.record.proofs.Masks.{or_zero, lt_within, within_or, within_largest}
@@ -165,7 +164,7 @@ module _ (t : Terms) (q round source : ℕ) (body : List ℕ) (k : Known t round
     (e : m ≡ masks_admitted t.n q round source body) where
   decides : eqb (number_of (body_refusal t.n round source body)) 0 ≡ (masks_admitted t.n q round source body && weak_ok t.n round body)
   decides =
-      ap (λ (w : Refusal). eqb (number_of w) 0) (sym (handed_law t.n q k.1 round source body))
+      ap (λ (w : Verdict). eqb (number_of w) 0) (sym (handed_law t.n q k.1 round source body))
       ∙ admitted_parts t.n q round source body k.0.round_low k.0.round_high k.0.source_low k.0.size
 
   pub masks_no : not m ≡ true → false ≡ eqb (number_of (body_refusal t.n round source body)) 0

@@ -1,6 +1,7 @@
 -- Laws of the questions in turn, and of a record that none refuses. Assumes nothing.
 use mathlib.Core.Path.{◌≡◌, refl, sym, ap, ◌∙◌}
 use mathlib.Core.Bool.{Bool, true, false, not, ◌&&◌, and-true, and-false, true≢false, false≢true}
+use Rattle.std.specs.Prelude.{Result, Ok, Err, is_ok, is_err, IsErrAnd}
 use mathlib.Core.List.{List, [], ◌∷◌, ◌++◌}
 use Prim.Native.Nat.{ℕ, ◌+◌, ◌-◌, ◌^◌, ◌≤◌, ◌<◌}
 use native.Mathlib.Omega.{arith}
@@ -9,14 +10,16 @@ use lib.ListN.{length}
 use borrow.Author.Tests.{leb-true, ltb-true, lt-ltb, eqb-true, eqb-false, ne_eqb, eq-eqb, le-leb}
 use Rattle.record.specs.Below.{count}
 use Rattle.record.specs.Members.{faulty, quorum, leader_at, leader, has, within, meets, id_round, id_member, rounds, is_round}
-use Rattle.record.specs.Refusals.{number_of, Question, first_no, numbered}
+use Rattle.record.specs.Refusals.{Verdict, no_refusal, refusal_number, number_of, Question, first_no, numbered}
 use Rattle.record.specs.Layout.{strong_of, timeouts_of, no_votes_of, no_votes_for, weak_count_of, weak_of, body_size, weak_slots}
 use Rattle.record.specs.Questions.{masks_ok, strong_ok, lacks_leader, quorum_if, timeouts_ok, no_votes_ok, weak_id_ok, rises, slot_ok, weak_ok}
 use Rattle.record.specs.Questions.{signer_questions, record_questions, body_refusal}
 use Rattle.record.specs.Handed.{handed_if}
 use Rattle.record.specs.Admitted.{SignerLaw, PlacedLaw, NoRoundLaw, AdmittedLaw, CertifiedLaw, NumberedLaw, LastNumberLaw}
 use Rattle.record.specs.declared.refusal.Refusal.{Refusal}
-use Rattle.record.specs.declared.refusal.Refusal.TheVariants.{None, RecordSize, Round, Weak}
+use Rattle.record.specs.declared.refusal.Refusal.TheVariants.{StateSize, MemberCount, Malformed, RecordSize, Round, Source, MaskBits}
+use Rattle.record.specs.declared.refusal.Refusal.TheVariants.{Strong, Timeouts, NoVotes, Weak, Duplicate, Conflict, MissingParent, PastEnd}
+use Rattle.record.specs.declared.refusal.Refusal.TheVariants.{Watcher, Signing, FewParents, Buffer, BufferFull}
 use Rattle.record.proofs.Booleans.{never, and_left, and_right, and_both, cond_true, cond_false}
 use Rattle.record.proofs.Below.{all_elim}
 use Rattle.record.proofs.Rounds.{round_in, round_range}
@@ -24,20 +27,69 @@ use Rattle.record.proofs.Masks.{within_lt, meets_count}
 
 -- ---- the first no
 
--- a question answered yes is passed over, and one answered no gives its refusal
-pub next : {t : Bool} {r : Refusal} (why : Refusal) (rest : List Question) → t ≡ true → r ≡ first_no rest → r ≡ first_no ((t, why) ∷ rest)
+-- a question answered yes is no_refusal over, and one answered no gives its refusal
+pub next : {t : Bool} {r : Verdict} (why : Refusal) (rest : List Question) → t ≡ true → r ≡ first_no rest → r ≡ first_no ((t, why) ∷ rest)
 unfolding first_no
 next {t = true} why rest e h = h
 next {t = false} why rest e h = absurd (false≢true e)
 
-pub stop : {t : Bool} (why : Refusal) (rest : List Question) → t ≡ false → why ≡ first_no ((t, why) ∷ rest)
+pub stop : {t : Bool} (why : Refusal) (rest : List Question) → t ≡ false → Err why ≡ first_no ((t, why) ∷ rest)
 unfolding first_no
 stop {t = true} why rest e = absurd (true≢false e)
 stop {t = false} why rest e = refl
 
-pub done : None ≡ first_no []
+pub done : no_refusal ≡ first_no []
 unfolding first_no
 done = refl
+
+-- ---- the number of a refusal
+
+pub never_zero : (why : Refusal) → refusal_number why ≡ 0 → ⊥
+never_zero StateSize = eqb-false 1 0 refl
+never_zero MemberCount = eqb-false 2 0 refl
+never_zero Malformed = eqb-false 3 0 refl
+never_zero RecordSize = eqb-false 4 0 refl
+never_zero Round = eqb-false 5 0 refl
+never_zero Source = eqb-false 6 0 refl
+never_zero MaskBits = eqb-false 7 0 refl
+never_zero Strong = eqb-false 8 0 refl
+never_zero Timeouts = eqb-false 9 0 refl
+never_zero NoVotes = eqb-false 10 0 refl
+never_zero Weak = eqb-false 11 0 refl
+never_zero Duplicate = eqb-false 12 0 refl
+never_zero Conflict = eqb-false 13 0 refl
+never_zero (MissingParent x) = eqb-false 14 0 refl
+never_zero PastEnd = eqb-false 15 0 refl
+never_zero Watcher = eqb-false 16 0 refl
+never_zero Signing = eqb-false 17 0 refl
+never_zero FewParents = eqb-false 18 0 refl
+never_zero Buffer = eqb-false 19 0 refl
+never_zero BufferFull = eqb-false 20 0 refl
+
+pub err_number : {T : Type 0} (a : Result T Refusal) → is_err a ≡ true → number_of a ≡ 0 → ⊥
+err_number (Ok x) e = absurd (false≢true e)
+err_number (Err why) e = never_zero why
+
+pub ok_number : {T : Type 0} (a : Result T Refusal) → is_err a ≡ false → number_of a ≡ 0
+ok_number (Ok x) e = refl
+ok_number (Err why) e = absurd (true≢false e)
+
+pub was_err : {T : Type 0} {a : Result T Refusal} {why : Refusal} → a ≡ Err why → number_of a ≡ 0 → ⊥
+was_err {why = w} e z = never_zero w (sym (ap number_of e) ∙ z)
+
+pub was_ok : {T : Type 0} {a : Result T Refusal} {x : T} → a ≡ Ok x → number_of a ≡ 0
+was_ok e = ap number_of e
+
+-- a verdict that is not 0 is a refusal
+pub refusal_of : (v : Verdict) → (number_of v ≡ 0 → ⊥) → (why : Refusal) × (v ≡ Err why)
+refusal_of (Ok passed) h = absurd (h refl)
+refusal_of (Err why) h = (why, refl)
+
+-- ---- a refusal that is handed on
+
+pub raised : {T : Type 0} {why : Refusal} (a : Result T Refusal) → IsErrAnd a (λ (x : Refusal). x ≡ why) → a ≡ Err why
+raised {why = w} (Err x) h = ap Err h
+raised {why = w} (Ok x) h = absurd h
 
 -- ---- the first no of two lists
 
@@ -47,19 +99,26 @@ front_no [] ys h = absurd (h refl)
 front_no ((true, why) ∷ xs) ys h = front_no xs ys h
 front_no ((false, why) ∷ xs) ys h = refl
 
+-- a refusal of the first list is one of both
+pub front_err : {why : Refusal} (xs ys : List Question) → first_no xs ≡ Err why → first_no (xs ++ ys) ≡ Err why
+unfolding first_no
+front_err {why = w} [] ys h = absurd (true≢false (ap is_ok h))
+front_err {why = w} ((true, why) ∷ xs) ys h = front_err xs ys h
+front_err {why = w} ((false, why) ∷ xs) ys h = h
+
 pub front_yes : (xs ys : List Question) → numbered xs ≡ true → number_of (first_no xs) ≡ 0 → first_no ys ≡ first_no (xs ++ ys)
 unfolding first_no numbered
 front_yes [] ys n h = refl
-front_yes ((true, why) ∷ xs) ys n h = front_yes xs ys (and_right (not (eqb (number_of why) 0)) _ n) h
-front_yes ((false, why) ∷ xs) ys n h = never (and_left (not (eqb (number_of why) 0)) _ n) (ap not (eq-eqb (number_of why) 0 h))
+front_yes ((true, why) ∷ xs) ys n h = front_yes xs ys (and_right (not (eqb (refusal_number why) 0)) _ n) h
+front_yes ((false, why) ∷ xs) ys n h = never (and_left (not (eqb (refusal_number why) 0)) _ n) (ap not (eq-eqb (refusal_number why) 0 h))
 
 -- if all are answered yes, so are those of both lists
 pub both_fronts : (xs ys : List Question) → numbered xs ≡ true → number_of (first_no (xs ++ ys)) ≡ 0 → (number_of (first_no xs) ≡ 0)
     × (number_of (first_no ys) ≡ 0)
 unfolding first_no numbered
 both_fronts [] ys n h = (refl, h)
-both_fronts ((true, why) ∷ xs) ys n h = both_fronts xs ys (and_right (not (eqb (number_of why) 0)) _ n) h
-both_fronts ((false, why) ∷ xs) ys n h = never (and_left (not (eqb (number_of why) 0)) _ n) (ap not (eq-eqb (number_of why) 0 h))
+both_fronts ((true, why) ∷ xs) ys n h = both_fronts xs ys (and_right (not (eqb (refusal_number why) 0)) _ n) h
+both_fronts ((false, why) ∷ xs) ys n h = never (and_left (not (eqb (refusal_number why) 0)) _ n) (ap not (eq-eqb (refusal_number why) 0 h))
 
 -- the questions of a record and of a signer
 pub numbered_law : NumberedLaw
@@ -69,21 +128,21 @@ numbered_law n round source = (refl, λ body. refl)
 -- every question has a refusal with a number of at most k
 unfoldable up_to : ℕ → List Question → Bool
 up_to k [] = true
-up_to k (q ∷ rest) = leb (number_of q.1) k && up_to k rest
+up_to k (q ∷ rest) = leb (refusal_number q.1) k && up_to k rest
 
 up_to_lem : (k : ℕ) (xs : List Question) → up_to k xs ≡ true → number_of (first_no xs) ≤ k
 unfolding first_no up_to
 up_to_lem k [] e = omega arith
-up_to_lem k ((true, why) ∷ xs) e = up_to_lem k xs (and_right (leb (number_of why) k) _ e)
-up_to_lem k ((false, why) ∷ xs) e = leb-true (number_of why) k (and_left _ _ e)
+up_to_lem k ((true, why) ∷ xs) e = up_to_lem k xs (and_right (leb (refusal_number why) k) _ e)
+up_to_lem k ((false, why) ∷ xs) e = leb-true (refusal_number why) k (and_left _ _ e)
 
 -- so those of a record with one of at most 11
 pub last_number_law : LastNumberLaw
 unfolding up_to signer_questions record_questions
-last_number_law n round source body = up_to_lem (number_of Weak) (record_questions n round source body) refl
+last_number_law n round source body = up_to_lem (refusal_number Weak) (record_questions n round source body) refl
 
 -- where questions 4 to 6 are answered yes, those from 7 on decide
-pub known : (n round source : ℕ) (body : List ℕ) (rest : List Question) {r : Refusal} → 1 ≤ round → round ≤ rounds → source < n → length body ≡ body_size
+pub known : (n round source : ℕ) (body : List ℕ) (rest : List Question) {r : Verdict} → 1 ≤ round → round ≤ rounds → source < n → length body ≡ body_size
     → r ≡ first_no rest → r ≡ first_no ((eqb (length body) body_size, RecordSize) ∷ (signer_questions n round source ++ rest))
 unfolding signer_questions
 known n round source body rest l h k e d =
@@ -99,7 +158,7 @@ wanted_not q lack leads mask e = sym (cond_false _ _ (ap (λ (b : Bool). lack &&
 
 -- ---- an admitted record
 
-pub both_yes : (t : Bool) (why : Refusal) (rest : List Question) → (number_of why ≡ 0 → ⊥) → number_of (first_no ((t, why) ∷ rest)) ≡ 0 → (t ≡ true)
+pub both_yes : (t : Bool) (why : Refusal) (rest : List Question) → (refusal_number why ≡ 0 → ⊥) → number_of (first_no ((t, why) ∷ rest)) ≡ 0 → (t ≡ true)
     × (number_of (first_no rest) ≡ 0)
 unfolding first_no
 both_yes true why rest h e = (refl, e)

@@ -45,33 +45,32 @@ weak_slot n round body zero last f g = rw (f refl, rises_first body) (bool_ext
 weak_slot n round body (suc i) last f g = rw (g (omega arith), rises_later body (suc i) (omega arith))
 
 -- the first i pass, and the last one is that of the slot before, or below every id at first
-pub record Risen (n round : ℕ) (body : List ℕ) (count last i : ℕ) : Type 0 where
-  pub below : i ≤ count
+pub record Risen (n round : ℕ) (body : List ℕ) (last i : ℕ) : Type 0 where
   pub above : before_ids ≤ last
   pub first : i ≡ 0 → last ≡ before_ids
   pub later : 1 ≤ i → last ≡ weak_of body (i - 1)
   pub pass : all i (used_ok n round body) ≡ true
 
-pub risen_start : (n round : ℕ) (body : List ℕ) (count : ℕ) → Risen n round body count before_ids 0
-risen_start n round body count = record { below = omega arith; above = omega arith; first = λ _. refl; later = λ h. absurd (omega arith); pass = all_none _ }
+pub risen_start : (n round : ℕ) (body : List ℕ) → Risen n round body before_ids 0
+risen_start n round body = record { above = omega arith; first = λ _. refl; later = λ h. absurd (omega arith); pass = all_none _ }
 
-module _ {n round : ℕ} {body : List ℕ} {count last i : ℕ} (R : Risen n round body count last i) where
-  module _ (low : i < count) (b : Bool) (e : b ≡ (ltb last (weak_of body i) && weak_id_ok n round (weak_of body i))) where
-    slot : used_ok n round body i ≡ b
-    slot = sym (e ∙ weak_slot n round body i last R.first R.later)
+-- x is the weak id of slot i
+module _ {n round : ℕ} {body : List ℕ} {last i : ℕ} (R : Risen n round body last i) (x : ℕ) (is : x ≡ weak_of body i) (b : Bool)
+    (e : b ≡ (ltb last x && weak_id_ok n round x)) where
+  slot : used_ok n round body i ≡ b
+  slot = sym (rw is at e ∙ weak_slot n round body i last R.first R.later)
 
-    pub risen_stop : not b ≡ true → false ≡ all count (used_ok n round body)
-    risen_stop t = sym (all_stop _ _ i low (slot ∙ not-true b t))
+  pub risen_stop : (count : ℕ) → i < count → not b ≡ true → false ≡ all count (used_ok n round body)
+  risen_stop count low t = sym (all_stop _ _ i low (slot ∙ not-true b t))
 
-    pub risen_more : not b ≡ false → Risen n round body count (weak_of body i) (i + 1)
-    risen_more t =
-        let k : i ≡ i + 1 - 1 = omega arith in record {
-          below = omega arith;
-          above = omega (arith, R.above, ltb-true last (weak_of body i) (and_left (ltb last (weak_of body i)) _ (passed e t)));
-          first = λ h. absurd (omega arith);
-          later = λ h. ap (weak_of body) k;
-          pass = all_more _ _ R.pass (slot ∙ not-false b t);
-        }
+  pub risen_more : not b ≡ false → Risen n round body x (i + 1)
+  risen_more t =
+      let k : i ≡ i + 1 - 1 = omega arith in record {
+        above = omega (arith, R.above, ltb-true last x (and_left (ltb last x) _ (passed e t)));
+        first = λ h. absurd (omega arith);
+        later = λ h. is ∙ ap (weak_of body) k;
+        pass = all_more _ _ R.pass (slot ∙ not-false b t);
+      }
 
 -- ---- the slots that are used, and the others
 

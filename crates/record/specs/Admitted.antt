@@ -1,14 +1,14 @@
 -- What crates above know of the questions 4 to 11. They never open them, but for the proofs of `agreement` and `conduct` that compute concrete records.
-use Rattle.std.specs.Prelude.{◌≡◌, Bool, true, false, ◌&&◌, List, ℕ, ◌+◌, ◌-◌, ◌^◌, ◌≤◌, ◌<◌, eqb, leb, length, get_or}
+use Rattle.std.specs.Prelude.{◌≡◌, Bool, true, false, ◌&&◌, List, ℕ, ◌+◌, ◌-◌, ◌^◌, ◌≤◌, ◌<◌, eqb, leb, length, get_or, Err}
 use Rattle.std.specs.Int.Count.{ones}
 use Rattle.record.specs.Below.{count}
 use Rattle.record.specs.Members.{rounds, is_round, faulty, quorum, leader_at, leader, has, meets, id_round, id_member}
-use Rattle.record.specs.Refusals.{number_of, numbered}
+use Rattle.record.specs.Refusals.{refusal_number, no_refusal, number_of, numbered}
 use Rattle.record.specs.Layout.{body_size, strong_of, timeouts_of, no_votes_of, no_votes_for, weak_count_of, weak_of, weak_slots, Digest, record_words}
 use Rattle.record.specs.Questions.{signer_questions, record_questions, signer_refusal, body_refusal, record_refusal}
 use Rattle.record.specs.Questions.{strong_ok, lacks_leader, quorum_if}
 use Rattle.record.specs.Handed.{QuorumOf, handed_if}
-use Rattle.record.specs.declared.refusal.Refusal.TheVariants.{None, Round, Weak}
+use Rattle.record.specs.declared.refusal.Refusal.TheVariants.{Round, Weak}
 
 -- a round, and a member of the group
 pub record Placed (n round member : ℕ) : Type 0 where
@@ -65,11 +65,11 @@ abbrev pub SignerLaw : Type 0
 SignerLaw = (n round signer : ℕ) → number_of (signer_refusal n round signer) ≡ 0 → Placed n round signer
 
 abbrev pub PlacedLaw : Type 0
-PlacedLaw = (n round signer : ℕ) → Placed n round signer → signer_refusal n round signer ≡ None
+PlacedLaw = (n round signer : ℕ) → Placed n round signer → signer_refusal n round signer ≡ no_refusal
 
 -- what is no round gives 5, whoever signs
 abbrev pub NoRoundLaw : Type 0
-NoRoundLaw = (n round signer : ℕ) → is_round round ≡ false → signer_refusal n round signer ≡ Round
+NoRoundLaw = (n round signer : ℕ) → is_round round ≡ false → signer_refusal n round signer ≡ Err Round
 
 -- ---- 8 to 10
 
@@ -111,4 +111,4 @@ NumberedLaw = (n round source : ℕ) → (numbered (signer_questions n round sou
 
 -- and no record's is above 11
 abbrev pub LastNumberLaw : Type 0
-LastNumberLaw = (n round source : ℕ) (body : List ℕ) → number_of (body_refusal n round source body) ≤ number_of Weak
+LastNumberLaw = (n round source : ℕ) (body : List ℕ) → number_of (body_refusal n round source body) ≤ refusal_number Weak

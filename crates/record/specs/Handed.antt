@@ -3,10 +3,9 @@
 use Rattle.std.specs.Prelude.{◌≡◌, Bool, true, cond, ◌&&◌, List, ◌∷◌, ◌++◌, ℕ, eqb, leb, take, drop}
 use Rattle.std.specs.Int.Count.{ones}
 use Rattle.record.specs.Members.{legal, quorum, leader}
-use Rattle.record.specs.Refusals.{number_of, Question, first_no}
+use Rattle.record.specs.Refusals.{Verdict, number_of, Question, first_no}
 use Rattle.record.specs.Layout.{strong_of, timeouts_of, no_votes_of}
 use Rattle.record.specs.Questions.{lacks_leader, record_questions, body_refusal}
-use Rattle.record.specs.declared.refusal.Refusal.{Refusal}
 use Rattle.record.specs.declared.refusal.Refusal.TheVariants.{Strong, Timeouts, NoVotes}
 
 -- q is 2f + 1 of n
@@ -36,7 +35,7 @@ handed_questions n q round source body =
     ∷ (handed_no_votes n q round source body, NoVotes)
     ∷ drop 7 (record_questions n round source body))
 
-abbrev pub handed_refusal : ℕ → ℕ → ℕ → ℕ → List ℕ → Refusal
+abbrev pub handed_refusal : ℕ → ℕ → ℕ → ℕ → List ℕ → Verdict
 handed_refusal n q round source body = first_no (handed_questions n q round source body)
 
 -- Handed 2f + 1 of n, they refuse every record, of whatever round and source, as they do from n alone: with the same number, or not at all.

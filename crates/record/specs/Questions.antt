@@ -2,9 +2,8 @@
 use Rattle.std.specs.Prelude.{Bool, true, cond, not, ◌&&◌, List, [], ◌∷◌, ◌++◌, ℕ, ◌+◌, ◌-◌, eqb, leb, ltb, length}
 use Rattle.record.specs.Below.{all}
 use Rattle.record.specs.Members.{is_round, faulty, leader, has, within, meets, id_round, id_member}
-use Rattle.record.specs.Refusals.{Question, first_no}
+use Rattle.record.specs.Refusals.{Verdict, Question, first_no}
 use Rattle.record.specs.Layout.{body_size, weak_slots, round_of, source_of, body_of, strong_of, timeouts_of, no_votes_of, weak_count_of, weak_of}
-use Rattle.record.specs.declared.refusal.Refusal.{Refusal}
 use Rattle.record.specs.declared.refusal.Refusal.TheVariants.{RecordSize, Round, Source, MaskBits, Strong, Timeouts, NoVotes, Weak}
 
 -- 7: no mask has a bit at n or above
@@ -70,11 +69,11 @@ record_questions n round source body =
     ∷ []))
 
 -- the refusal of a round and a signer, of a body whose round and source are given, and of a whole record
-abbrev pub signer_refusal : ℕ → ℕ → ℕ → Refusal
+abbrev pub signer_refusal : ℕ → ℕ → ℕ → Verdict
 signer_refusal n round signer = first_no (signer_questions n round signer)
 
-abbrev pub body_refusal : ℕ → ℕ → ℕ → List ℕ → Refusal
+abbrev pub body_refusal : ℕ → ℕ → ℕ → List ℕ → Verdict
 body_refusal n round source body = first_no (record_questions n round source body)
 
-abbrev pub record_refusal : ℕ → List ℕ → Refusal
+abbrev pub record_refusal : ℕ → List ℕ → Verdict
 record_refusal n rec = body_refusal n (round_of rec) (source_of rec) (body_of rec)

@@ -16,7 +16,7 @@ use super::layout::{
 use super::members::{
     Members, SLOTS, faulty_of, has_bit, is_round, is_within, largest_mask, leader_of,
 };
-use super::refusal::{Refusal, number};
+use super::refusal::Refusal;
 
 // The number before the first id.
 const BEFORE_IDS: u32 = SLOTS - 1;
@@ -129,8 +129,7 @@ fn weak_ids_ok(n: u32, round: u32, body: &[u32], count: usize) -> bool
     ensures { result ≡ all count (used_ok n round body.now) }
 {
     let mut last = BEFORE_IDS;
-    for i in 0..count {
-        let x = body[WEAK + i];
+    for &x in &body[WEAK..WEAK + count] {
         if !weak_id_ok(n, round, last, x) {
             return false;
         }
@@ -237,7 +236,13 @@ pub fn is_admitted(terms: Terms, quorum: u32, round: u32, source: u32, body: &[u
 }
 
 // 7 to 11 in turn, of a body of which 4 to 6 are known to be answered yes.
-fn check_known(terms: Terms, quorum: u32, round: u32, source: u32, body: &[u32]) -> Refusal
+fn check_known(
+    terms: Terms,
+    quorum: u32,
+    round: u32,
+    source: u32,
+    body: &[u32],
+) -> Result<(), Refusal>
     requires { Known terms round source body.now }
     ensures { result ≡ handed_refusal terms.n quorum round source body.now }
 {
@@ -246,59 +251,56 @@ fn check_known(terms: Terms, quorum: u32, round: u32, source: u32, body: &[u32])
     let timeouts = body[TIMEOUTS];
     let no_votes = body[NO_VOTES];
     if !masks_ok(n, strong, timeouts, no_votes) {
-        return Refusal::MaskBits;
+        return Err(Refusal::MaskBits);
     }
     if !strong_ok(terms, quorum, round, strong) {
-        return Refusal::Strong;
+        return Err(Refusal::Strong);
     }
     let lack = lacks_leader(terms, round, strong);
     if !quorum_if(quorum, lack, timeouts) {
-        return Refusal::Timeouts;
+        return Err(Refusal::Timeouts);
     }
     if !no_votes_ok(terms, quorum, source, lack, no_votes) {
-        return Refusal::NoVotes;
+        return Err(Refusal::NoVotes);
     }
     if !weak_ok(n, round, body) {
-        return Refusal::Weak;
+        return Err(Refusal::Weak);
     }
-    Refusal::None
+    Ok(())
 }
 
 // 5 and 6 in turn, of a round and a source or signer.
-pub fn check_signer(n: u32, round: u32, signer: u32) -> Refusal
+pub fn check_signer(n: u32, round: u32, signer: u32) -> Result<(), Refusal>
     ensures { result ≡ signer_refusal n round signer }
 {
     if !is_round(round) {
-        return Refusal::Round;
+        return Err(Refusal::Round);
     }
     if n <= signer {
-        return Refusal::Source;
+        return Err(Refusal::Source);
     }
-    Refusal::None
+    Ok(())
 }
 
 // 4 to 11 in turn, of a body whose round and source are given.
-pub fn check_body(n: u32, quorum: u32, round: u32, source: u32, body: &[u32]) -> Refusal
+pub fn check_body(n: u32, quorum: u32, round: u32, source: u32, body: &[u32]) -> Result<(), Refusal>
     requires { QuorumOf n quorum }
     ensures { result ≡ body_refusal n round source body.now }
 {
     if body.len() != BODY_SIZE {
-        return Refusal::RecordSize;
+        return Err(Refusal::RecordSize);
     }
-    let why = check_signer(n, round, source);
-    if number(why) != 0 {
-        return why;
-    }
+    check_signer(n, round, source)?;
     check_known(terms_of(n, round), quorum, round, source, body)
 }
 
 // 4 to 11 in turn, of a whole record.
-pub fn check(n: u32, quorum: u32, rec: &[u32]) -> Refusal
+pub fn check(n: u32, quorum: u32, rec: &[u32]) -> Result<(), Refusal>
     requires { QuorumOf n quorum }
     ensures { result ≡ record_refusal n rec.now }
 {
     if rec.len() != RECORD_SIZE {
-        return Refusal::RecordSize;
+        return Err(Refusal::RecordSize);
     }
     check_body(n, quorum, rec[ROUND], rec[SOURCE], &rec[BODY..RECORD_SIZE])
 }

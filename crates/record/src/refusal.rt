@@ -1,10 +1,9 @@
-// The answers' named refusals.
-ghost use Rattle.std.specs.Prelude.{◌≡◌};
-ghost use Rattle.record.specs.Refusals.{number_of, id_in, is_missing};
+// Why a call is refused.
+ghost use Rattle.std.specs.Prelude.{◌≡◌, Err};
+ghost use Rattle.record.specs.Refusals.{refusal_number, missing_in, is_missing, number_of};
 
 #[derive(Clone, Copy)]
 pub enum Refusal {
-    None,
     StateSize,
     MemberCount,
     Malformed,
@@ -27,67 +26,59 @@ pub enum Refusal {
     BufferFull,
 }
 
-// The paper's number.
-pub fn number(why: Refusal) -> u32
-    ensures { result ≡ number_of why }
-{
-    match why {
-        Refusal::None => 0,
-        Refusal::StateSize => 1,
-        Refusal::MemberCount => 2,
-        Refusal::Malformed => 3,
-        Refusal::RecordSize => 4,
-        Refusal::Round => 5,
-        Refusal::Source => 6,
-        Refusal::MaskBits => 7,
-        Refusal::Strong => 8,
-        Refusal::Timeouts => 9,
-        Refusal::NoVotes => 10,
-        Refusal::Weak => 11,
-        Refusal::Duplicate => 12,
-        Refusal::Conflict => 13,
-        Refusal::MissingParent(_) => 14,
-        Refusal::PastEnd => 15,
-        Refusal::Watcher => 16,
-        Refusal::Signing => 17,
-        Refusal::FewParents => 18,
-        Refusal::Buffer => 19,
-        Refusal::BufferFull => 20,
+impl Refusal {
+    // The paper's number.
+    pub fn number(self) -> u32
+        ensures { result ≡ refusal_number self }
+    {
+        match self {
+            Refusal::StateSize => 1,
+            Refusal::MemberCount => 2,
+            Refusal::Malformed => 3,
+            Refusal::RecordSize => 4,
+            Refusal::Round => 5,
+            Refusal::Source => 6,
+            Refusal::MaskBits => 7,
+            Refusal::Strong => 8,
+            Refusal::Timeouts => 9,
+            Refusal::NoVotes => 10,
+            Refusal::Weak => 11,
+            Refusal::Duplicate => 12,
+            Refusal::Conflict => 13,
+            Refusal::MissingParent(_) => 14,
+            Refusal::PastEnd => 15,
+            Refusal::Watcher => 16,
+            Refusal::Signing => 17,
+            Refusal::FewParents => 18,
+            Refusal::Buffer => 19,
+            Refusal::BufferFull => 20,
+        }
+    }
+
+    // The id of the missing parent, where that is the refusal.
+    pub fn missing_id(self) -> Option<u32>
+        ensures { result ≡ missing_in self }
+    {
+        match self {
+            Refusal::MissingParent(id) => Some(id),
+            _ => None,
+        }
+    }
+
+    // The refusal is that of a missing parent, of whatever id.
+    pub fn is_missing(self) -> bool
+        ensures { result ≡ is_missing (Err self) }
+    {
+        matches!(self, Refusal::MissingParent(_))
     }
 }
 
-// The id of the missing parent, and 0 with every other number.
-pub fn missing_id(why: Refusal) -> u32
-    ensures { result ≡ id_in why }
+// The number of an answer: 0, or that of the refusal.
+pub fn number_of<T: Copy>(answer: Result<T, Refusal>) -> u32
+    ensures { result ≡ number_of answer }
 {
-    match why {
-        Refusal::None => 0,
-        Refusal::StateSize => 0,
-        Refusal::MemberCount => 0,
-        Refusal::Malformed => 0,
-        Refusal::RecordSize => 0,
-        Refusal::Round => 0,
-        Refusal::Source => 0,
-        Refusal::MaskBits => 0,
-        Refusal::Strong => 0,
-        Refusal::Timeouts => 0,
-        Refusal::NoVotes => 0,
-        Refusal::Weak => 0,
-        Refusal::Duplicate => 0,
-        Refusal::Conflict => 0,
-        Refusal::MissingParent(id) => id,
-        Refusal::PastEnd => 0,
-        Refusal::Watcher => 0,
-        Refusal::Signing => 0,
-        Refusal::FewParents => 0,
-        Refusal::Buffer => 0,
-        Refusal::BufferFull => 0,
+    match answer {
+        Ok(_) => 0,
+        Err(why) => why.number(),
     }
-}
-
-// The refusal is that of a missing parent, of whatever id.
-pub fn is_missing(why: Refusal) -> bool
-    ensures { result ≡ is_missing why }
-{
-    number(why) == number(Refusal::MissingParent(0))
 }

@@ -1,6 +1,7 @@
 -- Laws of asking for and handing over a list. Assumes nothing.
+use Rattle.std.specs.Prelude.{Result, Ok, Err, is_err}
 use mathlib.Core.Path.{◌≡◌, refl, sym, ap, ◌∙◌}
-use mathlib.Core.Bool.{true, false}
+use mathlib.Core.Bool.{Bool, true, false}
 use mathlib.Core.Logic.{◌⊎◌, inl, inr, ⊎_elim}
 use mathlib.Core.List.{List, []}
 use Prim.Native.Nat.{ℕ, ◌+◌, ◌-◌, ◌*◌, ◌≤◌, ◌<◌}
@@ -11,20 +12,20 @@ use lib.ListN.{length, take, drop, get_or, length-drop}
 use lib.Seq.{take-add, drop_at, drop-drop, length-take-le}
 use borrow.Author.Tests.{eqb-true, eqb-false, eq-eqb, ne_eqb, leb-true, le-leb, lt-leb}
 use denote.Ref.{Bor}
-use Rattle.record.specs.Refusals.{number_of, first_no}
+use Rattle.record.specs.Refusals.{Verdict, no_refusal, number_of, first_no}
 use Rattle.record.specs.declared.refusal.Refusal.{Refusal}
-use Rattle.record.specs.declared.refusal.Refusal.TheVariants.{None, PastEnd}
+use Rattle.record.specs.declared.refusal.Refusal.TheVariants.{PastEnd}
 use Rattle.record.proofs.Booleans.{which, cond_true, cond_false}
-use Rattle.record.proofs.Turn.{both_yes, next, stop, done, front_no, front_yes, both_fronts}
+use Rattle.record.proofs.Turn.{both_yes, next, stop, done, ok_number, err_number, front_err, front_yes, both_fronts}
 use Rattle.replica.specs.Inner.{ListAt}
 use Rattle.replica.specs.Layout.{state_size, leaders_at, journal_at, journal_size, leader_count_at, journal_count_at}
 use Rattle.replica.specs.State.{leader_count, journal_count}
 use Rattle.replica.specs.WellFormed.{well_formed}
-use Rattle.replica.specs.Outcome.{Outcome, told, nothing_added, unchanged}
+use Rattle.replica.specs.Outcome.{Outcome, told, unchanged}
 use Rattle.replica.specs.Status.{state_questions}
 use Rattle.replica.specs.Place.{Part, cut, word_size}
 use Rattle.replica.specs.Lists.{ask_list, span_if, hand_list, Handed, HandOverLaw}
-use Rattle.replica.specs.declared.answer.Answer.{Answer}
+use Rattle.replica.specs.declared.answer.Added.{Added}
 use Rattle.replica.proofs.Clauses.{counts}
 use Rattle.replica.proofs.StatusLaws.{state_numbered, state_ok}
 
@@ -44,31 +45,31 @@ counted l c low high f = ⊎_elim
     (λ h. let e : c ≡ leader_count_at = omega arith in rw e (omega (arith, (counts l f).0)))
     (eq-or-lt_of_le high)
 
-module _ (l : List ℕ) (why : Refusal) (e : why ≡ first_no (state_questions l)) (m : ℕ) (f : m ≡ number_of why) where
+module _ (l : List ℕ) (v : Verdict) (e : v ≡ first_no (state_questions l)) where
   -- the state is refused
-  pub ask_state : (m ≡ 0 → ⊥) → (k count : ℕ) (a : Answer) → a ≡ nothing_added why → told a l ≡ ask_list l k count
-  ask_state h k count a d =
-      ap (λ (x : Answer). told x l) d
-      ∙ ap (λ (r : Refusal). unchanged r l) (e ∙ front_no (state_questions l) _ (λ z. h (f ∙ ap number_of e ∙ z)))
+  pub ask_state : (why : Refusal) → v ≡ Err why → (k count : ℕ) (a : Result Added Refusal) → a ≡ Err why → told a l ≡ ask_list l k count
+  ask_state why d k count a da =
+      ap (λ (x : Result Added Refusal). told x l) da
+      ∙ ap (λ (r : Verdict). unchanged r l) (sym (front_err (state_questions l) _ (sym e ∙ d)))
 
-  module _ (z : m ≡ 0) where
+  module _ (z : v ≡ Ok tt) where
     sure : number_of (first_no (state_questions l)) ≡ 0
-    sure = sym (ap number_of e) ∙ sym f ∙ z
+    sure = ap number_of (sym e ∙ z)
 
     -- it has all its words
     pub ask_size : length l ≡ state_size
     ask_size = (state_ok l sure).0
 
     -- the start is past the end
-    pub ask_past : (k count : ℕ) → count < k → (a : Answer) → a ≡ nothing_added PastEnd → told a l ≡ ask_list l k count
+    pub ask_past : (k count : ℕ) → count < k → (a : Result Added Refusal) → a ≡ Err PastEnd → told a l ≡ ask_list l k count
     ask_past k count h a d =
-        ap (λ (x : Answer). told x l) d
-        ∙ ap (λ (r : Refusal). unchanged r l) (stop _ _ (lt-leb k count h) ∙ front_yes (state_questions l) _ (state_numbered l) sure)
+        ap (λ (x : Result Added Refusal). told x l) d
+        ∙ ap (λ (r : Verdict). unchanged r l) (stop _ _ (lt-leb k count h) ∙ front_yes (state_questions l) _ (state_numbered l) sure)
 
     -- or it is not
-    pub ask_done : (k count : ℕ) → k ≤ count → told (nothing_added None) l ≡ ask_list l k count
+    pub ask_done : (k count : ℕ) → k ≤ count → unchanged no_refusal l ≡ ask_list l k count
     ask_done k count h =
-        ap (λ (r : Refusal). unchanged r l) (next _ _ (le-leb k count h) done ∙ front_yes (state_questions l) _ (state_numbered l) sure)
+        ap (λ (r : Verdict). unchanged r l) (next _ _ (le-leb k count h) done ∙ front_yes (state_questions l) _ (state_numbered l) sure)
 
 -- ---- handing over
 
@@ -91,23 +92,23 @@ pub record Handing (x : Bor (List ℕ)) (k first count : ℕ) : Type 0 where
   pub high : first + count ≤ state_size
   pub done : (a b : ℕ) → a ≡ k → b ≡ count → between x (first + a) (first + b) ≡ cut x (hand_list x.now k first count)
 
-module _ (x : Bor (List ℕ)) (k first c : ℕ) (at : ListAt first c) (a : Answer) (e : told a x.now
+module _ (x : Bor (List ℕ)) (k first c : ℕ) (at : ListAt first c) (a : Result Added Refusal) (e : told a x.now
     ≡ ask_list x.now k (get_or x.now c 0))
-    (m : ℕ) (f : m ≡ number_of a.refusal) where
-  asked : m ≡ (ask_list x.now k (get_or x.now c 0)).number
-  asked = f ∙ ap (λ (o : Outcome). o.number) e
+    (m : Bool) (f : m ≡ is_err a) where
+  asked : number_of a ≡ (ask_list x.now k (get_or x.now c 0)).number
+  asked = ap (λ (o : Outcome). o.number) e
 
   -- no words
-  pub hand_none : (m ≡ 0 → ⊥) → record { block = x.ref_ptr.0; byte = x.ref_ptr.1; words = [] } ≡ cut x (hand_list x.now k first (get_or x.now c 0))
+  pub hand_none : m ≡ true → record { block = x.ref_ptr.0; byte = x.ref_ptr.1; words = [] } ≡ cut x (hand_list x.now k first (get_or x.now c 0))
   hand_none h =
       let here : x.ref_ptr.1 ≡ 0 * word_size + x.ref_ptr.1 = omega arith in
       ap (λ (b : ℕ). record { block = x.ref_ptr.0; byte = b; words = [] }) here
-      ∙ sym (ap (cut x) (span_none _ first k (get_or x.now c 0) (λ z. h (asked ∙ z))))
+      ∙ sym (ap (cut x) (span_none _ first k (get_or x.now c 0) (λ z. err_number a (sym f ∙ h) (asked ∙ z))))
 
   -- the entries
-  pub handing : m ≡ 0 → Handing x k first (get_or x.now c 0)
+  pub handing : m ≡ false → Handing x k first (get_or x.now c 0)
   handing z =
-      let w = list_ok x.now k (get_or x.now c 0) (sym asked ∙ z) in
+      let w = list_ok x.now k (get_or x.now c 0) (sym asked ∙ ok_number a (sym f ∙ z)) in
       record {
         size = w.0;
         low = w.2;
@@ -117,7 +118,7 @@ module _ (x : Bor (List ℕ)) (k first c : ℕ) (at : ListAt first c) (a : Answe
             at.list;
         done = λ i j p q.
             let d : (first + j) - (first + i) ≡ get_or x.now c 0 - k = omega arith in
-            rw (d, p) (sym (ap (cut x) (span_some _ first k (get_or x.now c 0) (sym asked ∙ z))));
+            rw (d, p) (sym (ap (cut x) (span_some _ first k (get_or x.now c 0) (sym asked ∙ ok_number a (sym f ∙ z)))));
       }
 
 -- ---- the law of hand-overs

@@ -235,32 +235,35 @@ pub record Reading (l : List ℕ) (count i : ℕ) (marks : List ℕ) : Type 0 wh
 pub reading_start : (l : List ℕ) (count : ℕ) → count ≡ journal_count l → count ≤ journal_size → Reading l count 0 (replicate rounds 0)
 reading_start l count e f = record { below = omega arith; whole = e; few = f; new = all_none (new_id l); marked = marked_none l }
 
-module _ (l : List ℕ) (count i : ℕ) (marks : List ℕ) (R : Reading l count i marks) (h : i < count) (b : Bool)
-    (e : b ≡ is_round (id_round (journal_word l i))) where
-  -- entry i is no id
+-- x is entry i
+module _ (l : List ℕ) (count i : ℕ) (marks : List ℕ) (R : Reading l count i marks) (h : i < count) (x : ℕ) (is : x ≡ journal_word l i) (b : Bool)
+    (e : b ≡ is_round (id_round x)) where
+  word : b ≡ is_round (id_round (journal_word l i))
+  word = rw is at e
+
+  -- it is no id
   pub reading_strange : not b ≡ true → false ≡ journal_ok l
-  reading_strange t = journal_stop l count i R.whole h (entry_strange l i (failed e t))
+  reading_strange t = journal_stop l count i R.whole h (entry_strange l i (failed word t))
 
   -- or it is one: it stops the test if it is marked, and is marked if it is not
-  module _ (t : not b ≡ false) (at : ℕ) (d : at ≡ id_round (journal_word l i) - 1) (m : Bool)
-      (f : m ≡ has (get_or marks at 0) (id_member (journal_word l i))) where
-    entry_range : (1 ≤ id_round (journal_word l i)) × (id_round (journal_word l i) ≤ rounds)
+  module _ (t : not b ≡ false) (at : ℕ) (d : at ≡ id_round x - 1) (m : Bool) (f : m ≡ has (get_or marks at 0) (id_member x)) where
+    entry_range : (1 ≤ id_round x) × (id_round x ≤ rounds)
     entry_range = round_range _ (passed e t)
 
     entry_mark : among (take i (journal_list l)) (journal_word l i) ≡ m
-    entry_mark = sym (f ∙ mark_at l i marks (journal_word l i) at R.marked entry_range.0 entry_range.1 d)
+    entry_mark = rw (← is) (sym (f ∙ mark_at l i marks x at R.marked entry_range.0 entry_range.1 d))
 
     pub reading_twice : m ≡ true → false ≡ journal_ok l
     reading_twice y = journal_stop l count i R.whole h (entry_twice l i (entry_mark ∙ y))
 
-    pub reading_more : m ≡ false → (b : ℕ) → b ≡ add (get_or marks at 0) (id_member (journal_word l i)) → length l ≡ state_size
+    pub reading_more : m ≡ false → (b : ℕ) → b ≡ add (get_or marks at 0) (id_member x) → length l ≡ state_size
         → Reading l count (i + 1) (set marks at b)
     reading_more y b g size = record {
       below = omega arith;
       whole = R.whole;
       few = R.few;
-      new = all_more _ _ R.new (entry_new l i (passed e t) (entry_mark ∙ y));
-      marked = rw g (marked_more l i marks (journal_word l i) at size (omega (arith, R.few, R.whole)) (omega (arith, R.whole)) refl R.marked
+      new = all_more _ _ R.new (entry_new l i (passed word t) (entry_mark ∙ y));
+      marked = rw g (marked_more l i marks x at size (omega (arith, R.few, R.whole)) (omega (arith, R.whole)) is R.marked
           entry_range.0 entry_range.1 d);
     }
 

@@ -11,7 +11,7 @@ use borrow.Author.Tests.{eq-eqb, ne_eqb, lt-ltb, le-ltb, not-true}
 use Rattle.record.specs.Below.{any, least}
 use Rattle.record.specs.Members.{leader_at, most_leaders, id_round, id_member, is_round, rounds, slots}
 use Rattle.record.proofs.Booleans.{which, and_left, and_fails_left, and_fails_right, cond_true, cond_false}
-use Rattle.record.proofs.Below.{any_false, any_less, least_none, least_at, least_le}
+use Rattle.record.proofs.Below.{any_false, least_at, least_le}
 use Rattle.record.proofs.Masks.{leader_at_lt, leaders_apart}
 use Rattle.record.proofs.Rounds.{round_range, round_in, id_round_lem, id_member_lem}
 use Rattle.protocol.specs.Chain.{leader_id}
@@ -44,13 +44,10 @@ pub index_at : (l : List ℕ) (n x i p : ℕ) → is_round (id_round x) ≡ true
 unfolding leader_index
 index_at l n x i p r e a k f g = sym (cond_true _ _ r ∙ least_at (width l) (is_leader l x) i k a (rw (← e, ← f) (eq-eqb p (id_member x) g)))
 
-pub index_more : (l : List ℕ) (n x i p : ℕ) → n ≡ member_count l → any i (is_leader l x) ≡ false → p ≡ leader_at n (id_round x) i → (p ≡ id_member x → ⊥)
-    → any (i + 1) (is_leader l x) ≡ false
-index_more l n x i p e a f g = any_less i (is_leader l x) a (rw (← e, ← f) (ne_eqb p (id_member x) g))
-
-pub index_none : (l : List ℕ) (x i : ℕ) → is_round (id_round x) ≡ true → any i (is_leader l x) ≡ false → i ≡ width l → i ≡ leader_index l x
+pub index_least : (l : List ℕ) (n x w i : ℕ) → is_round (id_round x) ≡ true → n ≡ member_count l → w ≡ width l
+    → i ≡ least w (λ k. eqb (leader_at n (id_round x) k) (id_member x)) → i ≡ leader_index l x
 unfolding leader_index
-index_none l x i r a e = e ∙ sym (cond_true _ _ r ∙ least_none (width l) (is_leader l x) (rw e at a))
+index_least l n x w i r e f h = h ∙ rw (e, f) (sym (cond_true _ _ r))
 
 -- it rests on the member count and the width alone
 pub index_kept : (l m : List ℕ) → member_count m ≡ member_count l → (x : ℕ) → leader_index m x ≡ leader_index l x

@@ -1,6 +1,6 @@
 -- The questions of the state, and status (01: read the head).
-use Rattle.std.specs.Prelude.{cond, List, [], ◌∷◌, ℕ, eqb, length}
-use Rattle.record.specs.Refusals.{number_of, Question, first_no}
+use Rattle.std.specs.Prelude.{List, [], ◌∷◌, ℕ, eqb, length, Result, Ok, Err}
+use Rattle.record.specs.Refusals.{Verdict, Question, first_no}
 use Rattle.record.specs.declared.refusal.Refusal.{Refusal}
 use Rattle.record.specs.declared.refusal.Refusal.TheVariants.{StateSize, Malformed}
 use Rattle.replica.specs.Layout.{state_size}
@@ -12,14 +12,16 @@ use Rattle.replica.specs.declared.answer.Status.{Status}
 abbrev pub state_questions : List ℕ → List Question
 state_questions l = (eqb (length l) state_size, StateSize) ∷ (well_formed l, Malformed) ∷ []
 
--- a refusal and four numbers
-abbrev pub head : Refusal → ℕ → ℕ → ℕ → ℕ → Status
-head why current committed leaders journal =
-    record { refusal = why; current_round = current; committed_round = committed; leader_count = leaders; journal_count = journal }
+-- words 1 to 4, or the refusal
+abbrev pub head_if : Verdict → List ℕ → Result Status Refusal
+head_if (Ok passed) l =
+    Ok (record {
+      current_round = current_round l;
+      committed_round = committed_round l;
+      leader_count = leader_count l;
+      journal_count = journal_count l;
+    })
+head_if (Err why) l = Err why
 
--- words 1 to 4 with the number 0, and zeros with any other
-unfoldable pub head_if : Refusal → List ℕ → Status
-head_if why l = cond (eqb (number_of why) 0) (head why (current_round l) (committed_round l) (leader_count l) (journal_count l)) (head why 0 0 0 0)
-
-abbrev pub status_of : List ℕ → Status
+abbrev pub status_of : List ℕ → Result Status Refusal
 status_of l = head_if (first_no (state_questions l)) l

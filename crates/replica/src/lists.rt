@@ -6,29 +6,22 @@ ghost use Rattle.replica.specs.Outcome.{told};
 ghost use Rattle.replica.specs.Place.{part_of, cut};
 ghost use Rattle.replica.specs.Lists.{ask_list, ask_leaders, ask_journal, hand_list, hand_leaders, hand_journal};
 
-use super::answer::{Answer, refuse};
+use super::answer::{Added, NOTHING};
 use super::layout::{JOURNAL, JOURNAL_COUNT, LEADER_COUNT, LEADERS};
 use super::status::check_state;
 use record::layout::wide;
-use record::refusal::{Refusal, number};
+use record::refusal::Refusal;
 
 // Asks for a list from entry k on. Its count is the word `count`.
-fn ask_list(state: &[u32], k: u32, count: usize) -> Answer
+fn ask_list(state: &[u32], k: u32, count: usize) -> Result<Added, Refusal>
     requires { (leader_count_at ≤ count) × (count ≤ journal_count_at) }
     ensures { told result state.now ≡ ask_list state.now k (get_or state.now count 0) }
 {
-    let why = check_state(state);
-    if number(why) != 0 {
-        return refuse(why);
-    }
+    check_state(state)?;
     if state[count] < k {
-        return refuse(Refusal::PastEnd);
+        return Err(Refusal::PastEnd);
     }
-    Answer {
-        refusal: Refusal::None,
-        leaders: 0,
-        journal: 0,
-    }
+    Ok(NOTHING)
 }
 
 // Hands over a list from entry k on, as a part of the state. The list begins at the word `first`, and its count is the word `count`.
@@ -36,9 +29,7 @@ fn hand_list(state: &[u32], k: u32, first: usize, count: usize) -> &[u32]
     requires { ListAt first count }
     ensures { part_of result ≡ cut state.entry (hand_list state.now k first (get_or state.now count 0)) }
 {
-    let asked = ask_list(state, k, count);
-    let why = asked.refusal;
-    if number(why) != 0 {
+    if ask_list(state, k, count).is_err() {
         return &state[..0];
     }
     let start = first + wide(k);
@@ -47,14 +38,14 @@ fn hand_list(state: &[u32], k: u32, first: usize, count: usize) -> &[u32]
 }
 
 // Asks for the leader list from entry k on.
-pub fn ask_leaders(state: &[u32], k: u32) -> Answer
+pub fn ask_leaders(state: &[u32], k: u32) -> Result<Added, Refusal>
     ensures { told result state.now ≡ ask_leaders state.now k }
 {
     ask_list(state, k, LEADER_COUNT)
 }
 
 // Asks for the journal from entry k on.
-pub fn ask_journal(state: &[u32], k: u32) -> Answer
+pub fn ask_journal(state: &[u32], k: u32) -> Result<Added, Refusal>
     ensures { told result state.now ≡ ask_journal state.now k }
 {
     ask_list(state, k, JOURNAL_COUNT)

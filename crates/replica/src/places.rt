@@ -26,12 +26,9 @@ pub fn index_of(state: &[u32], n: u32, x: u32) -> u32
     if !is_id(x) {
         return width;
     }
-    for i in 0..width {
-        if leader_at(n, x / SLOTS, i) == x % SLOTS {
-            return i;
-        }
-    }
-    width
+    (0..width)
+        .find(|i| leader_at(n, x / SLOTS, *i) == x % SLOTS)
+        .unwrap_or(width)
 }
 
 // How many leaders of the last round of the leader list are in it.

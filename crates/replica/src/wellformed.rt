@@ -142,6 +142,7 @@ fn members_ok(state: &[u32], n: u32, quorum: u32, round: u32) -> bool
     ensures { result ≡ all n (cell_ok state.now round) }
 {
     let terms = terms_of(n, round);
+    // `all` over the members, with `cell_at` for each, was tried: the test of a state with 31 full rounds took 28% longer.
     let mut at = cell_at(round, 0);
     for p in 0..n {
         if !cell_ok(state, terms, quorum, round, p, at) {
@@ -280,8 +281,7 @@ fn journal_ok(state: &[u32]) -> bool
         return false;
     }
     let mut marks = [0u32; MASKS];
-    for i in 0..count {
-        let x = state[JOURNAL + i];
+    for &x in &state[JOURNAL..JOURNAL + count] {
         if !is_id(x) {
             return false;
         }

@@ -1,9 +1,9 @@
 -- The claim about refused calls. Assumes nothing.
+use Rattle.record.specs.Refusals.{Verdict}
 use mathlib.Core.Path.{◌≡◌, refl, sym, ap}
 use mathlib.Core.Logic.{⊎_elim}
 use mathlib.Core.List.{List}
 use Prim.Native.Nat.{ℕ}
-use Rattle.record.specs.declared.refusal.Refusal.{Refusal}
 use Rattle.replica.specs.Outcome.{Outcome, outcome}
 use Rattle.replica.specs.Opening.{open_state}
 use Rattle.ordering.specs.Calls.{take_body, take_first_body, take_timeout, take_no_vote, take_timeouts}
@@ -22,7 +22,7 @@ still : (l : List ℕ) (o : Outcome) → o.leaders ≡ 0 → o.journal ≡ 0 →
 still l o a b c = record { leaders = a; journal = b; words = c }
 
 -- the others: an outcome with another number than 0 is that of a refusal
-refused : (why : Refusal) (l after : List ℕ) → ((outcome why l after).number ≡ 0 → ⊥) → Untouched l (outcome why l after)
+refused : (why : Verdict) (l after : List ℕ) → ((outcome why l after).number ≡ 0 → ⊥) → Untouched l (outcome why l after)
 refused why l after h = ⊎_elim
     (λ z. absurd (h (number_yes why l after z)))
     (λ d. rw (sym (outcome_refused why why l after refl d)) (record { leaders = refl; journal = refl; words = refl }))

@@ -1,5 +1,6 @@
 -- Lists of calls on a formed state. Questions 1 and 3 are answered yes there, and every call leaves a formed state, so a list of calls is computed without
 -- them. Assumes nothing.
+use Rattle.std.specs.Prelude.{Ok, Err}
 use mathlib.Core.Path.{◌≡◌, refl, sym, ap, ap₂, ◌∙◌}
 use mathlib.Core.Bool.{true, false, cond, not, ◌&&◌}
 use mathlib.Core.Logic.{◌⊎◌, inl, inr, ⊎_elim}
@@ -10,7 +11,7 @@ use lib.Dec.{eqb, leb, ltb}
 use lib.ListN.{length, get_or, set}
 use borrow.Author.Tests.{eq-eqb, leb-true, ltb-true}
 use Rattle.record.specs.Members.{legal, has}
-use Rattle.record.specs.Refusals.{number_of, Question, first_no}
+use Rattle.record.specs.Refusals.{Verdict, number_of, Question, first_no}
 use Rattle.record.specs.Layout.{round_of, source_of, body_of}
 use Rattle.record.specs.Questions.{signer_questions, record_questions}
 use Rattle.record.specs.declared.refusal.Refusal.{Refusal}
@@ -119,27 +120,27 @@ commits_are (suc k) l = ap (λ (x : List ℕ). cond (is_ready l) x l)
 -- ---- calls on a formed state, without the questions of the state
 
 -- the refusal of a vertex
-unfoldable pub short_vertex : List ℕ → List ℕ → Refusal
+unfoldable pub short_vertex : List ℕ → List ℕ → Verdict
 short_vertex l rec =
     first_no (record_questions (member_count l) (round_of rec) (source_of rec) (body_of rec) ++ place_questions l (round_of rec) (source_of rec) (body_of rec))
 
 -- of a first message
-unfoldable pub short_first : List ℕ → List ℕ → Refusal
+unfoldable pub short_first : List ℕ → List ℕ → Verdict
 short_first l rec =
     first_no
     (record_questions (member_count l) (round_of rec) (source_of rec) (body_of rec)
     ++ ((not (has (heard_mask l (round_of rec)) (source_of rec)), Duplicate) ∷ []))
 
 -- of a timeout or a no-vote
-unfoldable pub short_note : List ℕ → ℕ → ℕ → ℕ → Refusal
+unfoldable pub short_note : List ℕ → ℕ → ℕ → ℕ → Verdict
 short_note l r p mask = first_no (signer_questions (member_count l) r p ++ ((not (has mask p), Duplicate) ∷ []))
 
 -- of a bundle of timeouts
-unfoldable pub short_bundle : List ℕ → ℕ → ℕ → Refusal
+unfoldable pub short_bundle : List ℕ → ℕ → ℕ → Verdict
 short_bundle l r mask = first_no (bundle_questions l r mask)
 
 -- of asking for entries k and on of a list of so many
-unfoldable pub short_list : ℕ → ℕ → Refusal
+unfoldable pub short_list : ℕ → ℕ → Verdict
 short_list k size = first_no ((leb k size, PastEnd) ∷ [])
 
 -- the span of handing those over
@@ -147,18 +148,18 @@ unfoldable pub short_span : ℕ → ℕ → ℕ → Span
 short_span first k size = span_if (number_of (short_list k size)) first k size
 
 -- of making, and the record that it answers
-unfoldable pub short_making : List ℕ → Refusal
+unfoldable pub short_making : List ℕ → Verdict
 short_making l = first_no ((is_member l, Watcher) ∷ making_questions l)
 
 unfoldable pub short_made : List ℕ → List ℕ → List ℕ
 short_made l digest = cond (eqb (number_of (short_making l)) 0) (made_record l digest) no_record
 
 -- of signing
-unfoldable pub short_signing : List ℕ → Refusal
+unfoldable pub short_signing : List ℕ → Verdict
 short_signing l = first_no ((is_member l, Watcher) ∷ signing_questions l)
 
 -- of a vertex with a pending buffer: the refusal, a waiting record tried, and the end
-unfoldable pub short_with : List ℕ → List ℕ → List ℕ → Refusal
+unfoldable pub short_with : List ℕ → List ℕ → List ℕ → Verdict
 short_with l s rec = in_place (records_in s) rec (first_no (later_questions l s (member_count l) rec))
 
 unfoldable pub short_take : List ℕ → List ℕ → Outcome
@@ -208,11 +209,9 @@ short_given (making digest) l = made (short_made l digest.words)
 short_given signing l = nothing
 
 -- the number of a status is that of the questions of the state
-status_number : (why : Refusal) (l : List ℕ) → number_of (head_if why l).refusal ≡ number_of why
-unfolding head_if
-status_number why l =
-    ⊎_elim (λ e. ap (λ (s : Status). number_of s.refusal) (cond_true _ _ e)) (λ e. ap (λ (s : Status). number_of s.refusal) (cond_false _ _ e))
-    (which (eqb (number_of why) 0))
+status_number : (why : Verdict) (l : List ℕ) → number_of (head_if why l) ≡ number_of why
+status_number (Ok passed) l = refl
+status_number (Err why) l = refl
 
 -- two ways to try a record that do the same where P holds, and keep it, pass alike
 module _ (f g : List ℕ → List ℕ → Trial (List ℕ)) (P : List ℕ → Type 0) (same : (k rec : List ℕ) → P k → f k rec ≡ g k rec)
@@ -240,7 +239,7 @@ module _ (f g : List ℕ → List ℕ → Trial (List ℕ)) (P : List ℕ → Ty
 take_is : (l : List ℕ) → WellFormed l → (rec : List ℕ) → take_vertex l rec ≡ short_take l rec
 unfolding short_take short_vertex take_body
 take_is l S rec =
-    ap (λ (why : Refusal). outcome why l (commit_up_to (raise_round (written l (round_of rec) (source_of rec) (body_of rec))) most_commits))
+    ap (λ (why : Verdict). outcome why l (commit_up_to (raise_round (written l (round_of rec) (source_of rec) (body_of rec))) most_commits))
     (sym (past_state l _ S))
     ∙ ap (outcome (short_vertex l rec) l) (commits_are most_commits _)
 
@@ -253,17 +252,17 @@ ending_is l S s rec =
     let tries = passes_alike try_vertex short_try WellFormed
     (λ k x T. ap (λ (o : Outcome). record { fate = fate_of o.number; after = o.words }) (take_is k T x)) (λ k x T. vertex_formed k x T)
     (suc (length (records_in s))) (records_in s) (take_vertex l rec).words (vertex_formed l rec S) in
-    ap₂ (λ (x : Refusal) (p : Passed (List ℕ)). cond (eqb (number_of x) 0) (admitted_with l p) (refused_with x l s rec)) why
+    ap₂ (λ (x : Verdict) (p : Passed (List ℕ)). cond (eqb (number_of x) 0) (admitted_with l p) (refused_with x l s rec)) why
     (tries ∙ ap (λ (k : List ℕ). release short_try k (records_in s)) words)
 
 module _ (l : List ℕ) (S : WellFormed l) where
   -- the questions of the state are passed over
   past : (rest : List Question) (after : List ℕ) → outcome (first_no (state_questions l ++ rest)) l after ≡ outcome (first_no rest) l after
-  past rest after = ap (λ (why : Refusal). outcome why l after) (sym (past_state l rest S))
+  past rest after = ap (λ (why : Verdict). outcome why l after) (sym (past_state l rest S))
 
   -- so by asking
   past_asking : (rest : List Question) → unchanged (first_no (state_questions l ++ rest)) l ≡ unchanged (first_no rest) l
-  past_asking rest = ap (λ (why : Refusal). unchanged why l) (sym (past_state l rest S))
+  past_asking rest = ap (λ (why : Verdict). unchanged why l) (sym (past_state l rest S))
 
   -- and by handing over
   past_handing : (first k size : ℕ) → hand_list l k first size ≡ short_span first k size
@@ -274,7 +273,7 @@ module _ (l : List ℕ) (S : WellFormed l) where
   pub short_is : (c : Call) → outcome_of c l ≡ short_of c l
   unfolding short_of short_vertex short_first short_note short_bundle short_list short_making short_signing open_state take_body take_first_body take_timeout
       take_no_vote take_timeouts propose_vertex sign_no_vote
-  short_is (opening n own) = ap (λ (why : Refusal). outcome why l (opened n own)) (sym (next _ _ (eq-eqb (length l) state_size S.size) refl))
+  short_is (opening n own) = ap (λ (why : Verdict). outcome why l (opened n own)) (sym (next _ _ (eq-eqb (length l) state_size S.size) refl))
   short_is (vertex rec) = take_is l S rec
   short_is (vertex_with s rec) = ap (λ (e : Ending). e.outcome) (ending_is l S s rec)
   short_is (first_message rec) = past _ _ ∙ ap (outcome (short_first l rec) l) (commits_are most_commits _)
@@ -292,7 +291,7 @@ module _ (l : List ℕ) (S : WellFormed l) where
   -- the record that is made
   pub made_is : (digest : List ℕ) → (propose_vertex l digest).made ≡ short_made l digest
   unfolding propose_vertex short_made short_making
-  made_is digest = ap (λ (why : Refusal). cond (eqb (number_of why) 0) (made_record l digest) no_record) (sym (past_state l _ S))
+  made_is digest = ap (λ (why : Verdict). cond (eqb (number_of why) 0) (made_record l digest) no_record) (sym (past_state l _ S))
 
   -- and what is given
   pub given_is : (c : Call) → given_of c l ≡ short_given c l

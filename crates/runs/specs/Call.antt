@@ -1,7 +1,8 @@
 -- Lists of calls on a replica state. What a call answers, leaves and gives is said by the very definitions that its contract cites.
-use Rattle.std.specs.Prelude.{Bool, true, not, ◌&&◌, List, [], ◌∷◌, ℕ, leb}
+use Rattle.std.specs.Prelude.{Bool, true, not, ◌&&◌, List, [], ◌∷◌, ℕ, leb, Result}
 use Rattle.record.specs.Members.{legal}
 use Rattle.record.specs.Refusals.{number_of}
+use Rattle.record.specs.declared.refusal.Refusal.{Refusal}
 use Rattle.record.specs.Layout.{Digest}
 use Rattle.replica.specs.Outcome.{Outcome}
 use Rattle.replica.specs.Opening.{open_state}
@@ -46,7 +47,7 @@ outcome_of (first_message rec) l = take_first_message l rec
 outcome_of (timeout r p) l = take_timeout l r p
 outcome_of (no_vote r p) l = take_no_vote l r p
 outcome_of (bundle r mask) l = take_timeouts l r mask
-outcome_of status l = reading (number_of (status_of l).refusal) l
+outcome_of status l = reading (number_of (status_of l)) l
 outcome_of (ask_leader_list k) l = ask_leaders l k
 outcome_of (ask_journal_list k) l = ask_journal l k
 outcome_of (hand_leader_list k) l = reading (hand_leaders l k).number l
@@ -58,7 +59,7 @@ outcome_of signing l = sign_no_vote l
 -- vertex with a pending buffer the words that it leaves of that
 pub data Given : Type 0 where
   nothing : Given
-  head : Status → Given
+  head : Result Status Refusal → Given
   part : Span → List ℕ → Given
   made : List ℕ → Given
   buffered : List ℕ → Given

@@ -77,11 +77,8 @@ pub fn answer_block(
         line.new result out.new state.new }
 {
     let mut fill = Fill { kept, filled: 0 };
-    let mut i: usize = 0;
-    while i < input.len() {
-        let next = take_byte(input[i], line, fill, out, state);
-        fill = next;
-        i += 1;
+    for b in input {
+        fill = take_byte(*b, line, fill, out, state);
     }
     fill
 }

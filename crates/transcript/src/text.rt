@@ -15,7 +15,7 @@ const DIGITS: usize = 10;
 pub const ITEM_SIZE: usize = 1 + DIGITS;
 
 // The numbers of the status.
-const STATUS_SIZE: usize = 4;
+pub const STATUS_SIZE: usize = 4;
 
 // The longest line of an answer: its number and those of the status, and a space or the line feed after each.
 pub const ANSWER_SIZE: usize = ITEM_SIZE * (1 + STATUS_SIZE);

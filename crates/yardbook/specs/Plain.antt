@@ -1,13 +1,13 @@
 -- What the structs of the exported calls say, in the terms of the definitions that the library's own calls cite.
-use Rattle.std.specs.Prelude.{List, ℕ}
-use Rattle.record.specs.Refusals.{number_of, id_in}
-use Rattle.replica.specs.Outcome.{Outcome}
+use Rattle.std.specs.Prelude.{List, ℕ, Result, Ok, Err}
+use Rattle.record.specs.Refusals.{refusal_number, number_of, id_in}
+use Rattle.replica.specs.Outcome.{Outcome, leaders_in, journal_in}
 use Rattle.replica.specs.Place.{Span}
-use Rattle.replica.specs.declared.answer.Answer as inner
-use Rattle.replica.specs.declared.answer.Status as inside
+use Rattle.record.specs.declared.refusal.Refusal.{Refusal}
+use Rattle.replica.specs.declared.answer.Added.{Added}
+use Rattle.replica.specs.declared.answer.Status as head
 use Rattle.pending.specs.Early.{Ending}
-use Rattle.proposing.specs.Making.{Proposed}
-use Rattle.proposing.specs.declared.making.Proposal as within
+use Rattle.proposing.specs.Making.{Proposed, made_in}
 use Rattle.yardbook.specs.declared.answer.Answer.{Answer}
 use Rattle.yardbook.specs.declared.answer.Status.{Status}
 use Rattle.yardbook.specs.declared.answer.Part.{Part}
@@ -30,19 +30,20 @@ abbrev pub span_of : Part → Span
 span_of p = record { number = p.number; start = p.start; length = p.length }
 
 -- an answer of the library as plain numbers
-abbrev pub plain_of : inner.Answer → Answer
-plain_of a = record { number = number_of a.refusal; id = id_in a.refusal; leaders = a.leaders; journal = a.journal }
+abbrev pub plain_of : Result Added Refusal → Answer
+plain_of a = record { number = number_of a; id = id_in a; leaders = leaders_in a; journal = journal_in a }
 
--- a proposal of the library as plain numbers
-abbrev pub proposal_plain : within.Proposal → Proposal
-proposal_plain p = record { answer = plain_of p.answer; words = p.words }
+-- a proposal of the library as plain numbers: making adds to neither list
+abbrev pub proposal_plain : Result (List ℕ) Refusal → Proposal
+proposal_plain p = record { answer = record { number = number_of p; id = id_in p; leaders = 0; journal = 0 }; words = made_in p }
 
--- a status of the library as plain numbers
-abbrev pub status_plain : inside.Status → Status
-status_plain s = record {
-  number = number_of s.refusal;
+-- a status of the library as plain numbers: zeros where it is refused
+abbrev pub status_plain : Result head.Status Refusal → Status
+status_plain (Ok s) = record {
+  number = 0;
   current_round = s.current_round;
   committed_round = s.committed_round;
   leader_count = s.leader_count;
   journal_count = s.journal_count;
 }
+status_plain (Err why) = record { number = refusal_number why; current_round = 0; committed_round = 0; leader_count = 0; journal_count = 0 }

@@ -3,7 +3,8 @@ ghost use Rattle.std.specs.Prelude.{◌≡◌};
 ghost use Rattle.yardbook.specs.Plain.{plain_of, status_plain, proposal_plain};
 
 use record::layout::RECORD_SIZE;
-use record::refusal::{missing_id, number};
+use record::refusal::Refusal;
+use replica::answer::{Added, NOTHING, Status as Head};
 
 #[repr(C)]
 #[derive(Clone, Copy)]
@@ -41,36 +42,63 @@ pub struct Part {
     pub length: u32,
 }
 
-pub fn plain_answer(answer: replica::answer::Answer) -> Answer
-    ensures { result ≡ plain_of answer }
-{
-    let why = answer.refusal;
-    Answer {
-        number: number(why),
-        id: missing_id(why),
-        leaders: answer.leaders,
-        journal: answer.journal,
+impl From<Result<Added, Refusal>> for Answer {
+    ghost from_gives = { λ answer plain. plain ≡ plain_of answer };
+
+    fn from(answer: Result<Added, Refusal>) -> Answer {
+        match answer {
+            Ok(added) => Answer {
+                number: 0,
+                id: 0,
+                leaders: added.leaders,
+                journal: added.journal,
+            },
+            Err(why) => Answer {
+                number: why.number(),
+                id: why.missing_id().unwrap_or(0),
+                leaders: 0,
+                journal: 0,
+            },
+        }
     }
 }
 
-pub fn plain_proposal(proposal: proposing::making::Proposal) -> Proposal
-    ensures { result ≡ proposal_plain proposal }
-{
-    let inner = proposal.answer;
-    let answer = plain_answer(inner);
-    let words = proposal.words;
-    Proposal { answer, words }
+impl From<Result<[u32; RECORD_SIZE], Refusal>> for Proposal {
+    ghost from_gives = { λ proposal plain. plain ≡ proposal_plain proposal };
+
+    fn from(proposal: Result<[u32; RECORD_SIZE], Refusal>) -> Proposal {
+        match proposal {
+            Ok(words) => Proposal {
+                answer: Answer::from(Ok(NOTHING)),
+                words,
+            },
+            Err(why) => Proposal {
+                answer: Answer::from(Err(why)),
+                words: [0; RECORD_SIZE],
+            },
+        }
+    }
 }
 
-pub fn plain_status(status: replica::answer::Status) -> Status
-    ensures { result ≡ status_plain status }
-{
-    let why = status.refusal;
-    Status {
-        number: number(why),
-        current_round: status.current_round,
-        committed_round: status.committed_round,
-        leader_count: status.leader_count,
-        journal_count: status.journal_count,
+impl From<Result<Head, Refusal>> for Status {
+    ghost from_gives = { λ status plain. plain ≡ status_plain status };
+
+    fn from(status: Result<Head, Refusal>) -> Status {
+        match status {
+            Ok(head) => Status {
+                number: 0,
+                current_round: head.current_round,
+                committed_round: head.committed_round,
+                leader_count: head.leader_count,
+                journal_count: head.journal_count,
+            },
+            Err(why) => Status {
+                number: why.number(),
+                current_round: 0,
+                committed_round: 0,
+                leader_count: 0,
+                journal_count: 0,
+            },
+        }
     }
 }

@@ -10,7 +10,7 @@ ghost use Rattle.proposing.specs.Making.{propose_vertex};
 ghost use Rattle.proposing.specs.Signing.{sign_no_vote};
 ghost use Rattle.yardbook.specs.Plain.{plain, plain_with, proposed, status_plain, span_of};
 
-use super::answer::{Answer, Part, Proposal, Status, plain_answer, plain_proposal, plain_status};
+use super::answer::{Answer, Part, Proposal, Status};
 use ordering::bundle::take_timeouts;
 use ordering::first::take_first_message;
 use ordering::notes::{take_no_vote, take_timeout};
@@ -27,74 +27,74 @@ use replica::status::status;
 pub fn yardbook_open(state: &mut [u32], n: u32, own: u32) -> Answer
     ensures { plain result state.new ≡ open_state state.old n own }
 {
-    plain_answer(open(state, n, own))
+    Answer::from(open(state, n, own))
 }
 
 pub fn yardbook_take_vertex(state: &mut [u32], rec: &[u32]) -> Answer
     ensures { plain result state.new ≡ take_vertex state.old rec.now }
 {
-    plain_answer(take_vertex(state, rec))
+    Answer::from(take_vertex(state, rec))
 }
 
 pub fn yardbook_take_vertex_with(state: &mut [u32], buffer: &mut [u32], rec: &[u32]) -> Answer
     ensures { plain_with result state.new buffer.new
         ≡ take_vertex_with state.old buffer.old rec.now }
 {
-    plain_answer(take_vertex_with(state, buffer, rec))
+    Answer::from(take_vertex_with(state, buffer, rec))
 }
 
 pub fn yardbook_take_first_message(state: &mut [u32], rec: &[u32]) -> Answer
     ensures { plain result state.new ≡ take_first_message state.old rec.now }
 {
-    plain_answer(take_first_message(state, rec))
+    Answer::from(take_first_message(state, rec))
 }
 
 pub fn yardbook_take_timeout(state: &mut [u32], round: u32, signer: u32) -> Answer
     ensures { plain result state.new ≡ take_timeout state.old round signer }
 {
-    plain_answer(take_timeout(state, round, signer))
+    Answer::from(take_timeout(state, round, signer))
 }
 
 pub fn yardbook_take_no_vote(state: &mut [u32], round: u32, signer: u32) -> Answer
     ensures { plain result state.new ≡ take_no_vote state.old round signer }
 {
-    plain_answer(take_no_vote(state, round, signer))
+    Answer::from(take_no_vote(state, round, signer))
 }
 
 pub fn yardbook_take_timeouts(state: &mut [u32], round: u32, mask: u32) -> Answer
     ensures { plain result state.new ≡ take_timeouts state.old round mask }
 {
-    plain_answer(take_timeouts(state, round, mask))
+    Answer::from(take_timeouts(state, round, mask))
 }
 
 pub fn yardbook_propose(state: &mut [u32], digest: &[u32; DIGEST_SIZE]) -> Proposal
     ensures { proposed result state.new ≡ propose_vertex state.old digest.now }
 {
-    plain_proposal(propose(state, digest))
+    Proposal::from(propose(state, digest))
 }
 
 pub fn yardbook_sign_no_vote(state: &mut [u32]) -> Answer
     ensures { plain result state.new ≡ sign_no_vote state.old }
 {
-    plain_answer(sign_no_vote(state))
+    Answer::from(sign_no_vote(state))
 }
 
 pub fn yardbook_status(state: &[u32]) -> Status
     ensures { result ≡ status_plain (status_of state.now) }
 {
-    plain_status(status(state))
+    Status::from(status(state))
 }
 
 pub fn yardbook_ask_leaders(state: &[u32], k: u32) -> Answer
     ensures { plain result state.now ≡ ask_leaders state.now k }
 {
-    plain_answer(ask_leaders(state, k))
+    Answer::from(ask_leaders(state, k))
 }
 
 pub fn yardbook_ask_journal(state: &[u32], k: u32) -> Answer
     ensures { plain result state.now ≡ ask_journal state.now k }
 {
-    plain_answer(ask_journal(state, k))
+    Answer::from(ask_journal(state, k))
 }
 
 // The part of a list from entry k on, where asking for it answers the number. The list begins at the word `first`, and its count is the
@@ -121,13 +121,13 @@ fn hand_part(state: &[u32], k: u32, number: u32, first: u32, count: usize) -> Pa
 pub fn yardbook_hand_leaders(state: &[u32], k: u32) -> Part
     ensures { span_of result ≡ hand_leaders state.now k }
 {
-    let asked = plain_answer(ask_leaders(state, k));
+    let asked = Answer::from(ask_leaders(state, k));
     hand_part(state, k, asked.number, LEADERS as u32, LEADER_COUNT)
 }
 
 pub fn yardbook_hand_journal(state: &[u32], k: u32) -> Part
     ensures { span_of result ≡ hand_journal state.now k }
 {
-    let asked = plain_answer(ask_journal(state, k));
+    let asked = Answer::from(ask_journal(state, k));
     hand_part(state, k, asked.number, JOURNAL as u32, JOURNAL_COUNT)
 }

@@ -10,8 +10,7 @@ next c =
     appending_next _ _ _ _ _ _ c.requires _ _ _ _ _ c.loop-r.invariant c.taken_of.ensures c.wide.ensures c.append_run.ensures
 
 pub loop-r-init : goal.loop-r-init
-loop-r-init c =
-    appending_start _ _ _ _ _ _ c.requires
+loop-r-init c = appending_start _ _ _ _ _ _ c.requires
 
 pub append_run-requires : goal.append_run-requires
 append_run-requires c =

@@ -7,8 +7,7 @@ use native.Mathlib.Omega.{arith}
 use Rattle.commits.proofs.commit.lowest_committable.Goals as goal
 
 pub loop-q-init : goal.loop-q-init
-loop-q-init c =
-    any_false _ _ (λ i l. committable_low _ i (omega arith))
+loop-q-init c = any_false _ _ (λ i l. committable_low _ i (omega arith))
 
 pub returns-then-is_backed : goal.returns-then-is_backed
 returns-then-is_backed c =

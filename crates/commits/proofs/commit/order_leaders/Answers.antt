@@ -11,5 +11,4 @@ loop-i-preserved c =
     ordering_next _ _ _ c.requires _ _ _ _ c.loop-i.invariant c.loop-i.auto.i c.wide-count.ensures c.loop-i-test.true c.order_leader.ensures
 
 pub returns : goal.returns
-returns c =
-    ordering_end _ _ _ c.requires _ _ _ c.loop-i.invariant c.wide-count.ensures (omega arith)
+returns c = ordering_end _ _ _ c.requires _ _ _ c.loop-i.invariant c.wide-count.ensures (omega arith)

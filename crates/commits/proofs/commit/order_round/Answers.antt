@@ -16,8 +16,7 @@ returns-then-mask-mask_of c =
     round_old _ _ _ slots c.requires.1 c.requires.2 (omega arith) (eq-eqb _ _ (rw c.mask_of.ensures at c.if-mask-mask_of.true))
 
 pub loop-p-preserved : goal.loop-p-preserved
-loop-p-preserved c =
-    round_more _ _ _ _ _ _ c.loop-p.invariant c.order_id.ensures
+loop-p-preserved c = round_more _ _ _ _ _ _ c.loop-p.invariant c.order_id.ensures
 
 pub loop-p-init : goal.loop-p-init
 loop-p-init c = round_none _ _ _

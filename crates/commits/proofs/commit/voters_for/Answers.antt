@@ -10,8 +10,7 @@ use Rattle.commits.proofs.commit.voters_for.Goals.{then-has_bit, else-has_bit}
 use Rattle.commits.proofs.commit.voters_for.Goals.{After-cell_at-at, Start}
 
 pub loop-p-init : goal.loop-p-init
-loop-p-init c =
-    voters_first _ _ _ _ _ c.requires.0 c.first_voters.ensures
+loop-p-init c = voters_first _ _ _ _ _ c.requires.0 c.first_voters.ensures
 
 voted_small : (c : Start) → c.args.voted < 32
 voted_small c =

@@ -18,8 +18,7 @@ returns-then-not-has_bit c =
     running_stop _ _ _ _ _ _ _ c.loop-i.invariant c.loop-i-test.true c.leader_at.ensures c.has_bit.ensures (ap not c.if-not-has_bit.true)
 
 pub returns : goal.returns
-returns c =
-    running_all _ _ _ _ _ c.loop-i.invariant (omega arith)
+returns c = running_all _ _ _ _ _ c.loop-i.invariant (omega arith)
 
 pub has_bit-requires : goal.has_bit-requires
 has_bit-requires c = let z = small c in search rules

@@ -9,8 +9,9 @@ use Rattle.replica.proofs.Formed.{WellFormed}
 use mathlib.Core.Path.{◌≡◌, refl, sym, ap, ◌∙◌}
 use mathlib.Core.List.{List}
 use borrow.Author.Rules.{rules}
+use Rattle.record.proofs.Turn.{raised, was_err, was_ok}
 use Rattle.ordering.proofs.vertex.take_vertex.Goals as goal
-use Rattle.ordering.proofs.vertex.take_vertex.Goals.{After-check_vertex-refused, Else-number-ne0, Start}
+use Rattle.ordering.proofs.vertex.take_vertex.Goals.{After-check_vertex, In_ok-check_state, Start}
 
 -- the questions after those of the state
 abbrev after : Start → List Question
@@ -18,36 +19,38 @@ after s =
     admission_questions (s.args.state.now) (member_count (s.args.state.now)) (round_of (s.args.rec.now)) (source_of (s.args.rec.now)) (body_of (s.args.rec.now))
 
 -- the state's questions are passed
-state : (c : Else-number-ne0) → WellFormed c.args.state.now
-state c = state_formed _ _ c.check_state-why.ensures (cc)
+state : (c : In_ok-check_state) → WellFormed c.args.state.now
+state c = state_formed _ _ c.check_state.ensures (was_ok c.in_ok-check_state.was)
 
 -- so those of the vertex decide
-asked : (c : After-check_vertex-refused) → c.check_vertex-refused.result
+asked : (c : After-check_vertex) → c.check_vertex.result
     ≡ first_no (vertex_questions c.args.state.now (round_of c.args.rec.now) (source_of c.args.rec.now) (body_of c.args.rec.now))
 asked c =
-    state_past c.args.state.now _ c.check_state-why.ensures (after (goal.at.After-check_vertex-refused c).Start) (cc) _ c.check_vertex-refused.ensures
+    state_past c.args.state.now _ c.check_state.ensures (after (goal.at.After-check_vertex c).Start)
+    (was_ok c.in_ok-check_state.was) _ c.check_vertex.ensures
 
-pub returns-then-number-ne0 : goal.returns-then-number-ne0
-returns-then-number-ne0 c =
+pub returns-in_err-check_state : goal.returns-in_err-check_state
+returns-in_err-check_state c =
+    let stopped = was_err c.in_err-check_state.was in
     vertex_refused c.args.state.now c.args.rec.now _
-    (state_stops c.args.state.now _ c.check_state-why.ensures (after (goal.at.returns-then-number-ne0 c).Start) (λ d. c.if-number-ne0.true (cc)))
-    (λ d. c.if-number-ne0.true (cc)) _ c.refuse.ensures
+    (state_stops c.args.state.now _ c.check_state.ensures (after (goal.at.returns-in_err-check_state c).Start) stopped)
+    _ c.in_err-check_state.was _ (raised _ c.from_residual.ensures.1)
 
 pub bounds-state-0 : goal.bounds-state-0
-bounds-state-0 c = let k = state (goal.at.bounds-state-0 c).Else-number-ne0 in search rules
+bounds-state-0 c = let k = state (goal.at.bounds-state-0 c).In_ok-check_state in search rules
 
-pub check_vertex-refused-requires : goal.check_vertex-refused-requires
-check_vertex-refused-requires c = let k = state (goal.at.check_vertex-refused-requires c).Else-number-ne0 in search rules
+pub check_vertex-requires : goal.check_vertex-requires
+check_vertex-requires c = let k = state (goal.at.check_vertex-requires c).In_ok-check_state in search rules
 
-pub returns-then-number-ne0-2 : goal.returns-then-number-ne0-2
-returns-then-number-ne0-2 c =
-    vertex_refused c.args.state.now c.args.rec.now _ (asked (goal.at.returns-then-number-ne0-2 c).After-check_vertex-refused)
-    (λ d. c.if-number-ne0-2.true (cc)) _ c.refuse-then-number-ne0-2.ensures
+pub returns-in_err-check_vertex : goal.returns-in_err-check_vertex
+returns-in_err-check_vertex c =
+    vertex_refused c.args.state.now c.args.rec.now _ (asked (goal.at.returns-in_err-check_vertex c).After-check_vertex)
+    _ c.in_err-check_vertex.was _ (raised _ c.from_residual-in_err-check_vertex.ensures.1)
 
 pub admit_vertex-requires : goal.admit_vertex-requires
 admit_vertex-requires c =
-    let a : After-check_vertex-refused = (goal.at.admit_vertex-requires c).After-check_vertex-refused in
-    record { members = refl; quorum = c.quorum_of-quorum.ensures; passed = ap number_of (sym (asked a)) ∙ cc }
+    let a : After-check_vertex = (goal.at.admit_vertex-requires c).After-check_vertex in
+    record { members = refl; quorum = c.quorum_of-quorum.ensures; passed = ap number_of (sym (asked a)) ∙ was_ok c.in_ok-check_vertex.was }
 
 pub returns : goal.returns
 returns c = c.admit_vertex.ensures

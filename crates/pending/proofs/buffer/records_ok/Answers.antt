@@ -2,37 +2,38 @@ use mathlib.Core.Path.{◌≡◌, sym, ap, ◌∙◌}
 use Prim.Native.Nat.{ℕ, ◌+◌, ◌-◌}
 use native.Mathlib.Omega.{arith}
 use Rattle.record.specs.Refusals.{number_of}
+use Rattle.record.proofs.Turn.{ok_number, err_number}
 use Rattle.record.specs.Questions.{record_refusal}
 use Rattle.pending.specs.Buffer.{record_id, count_of, record_at, records_from, records_ok}
 use Rattle.pending.proofs.Slots.{slot_part, records_all}
 use Rattle.pending.proofs.Order.{bounded, ok_refused, ok_low, ok_next, ok_end}
 use Rattle.pending.proofs.buffer.records_ok.Goals as goal
-use Rattle.pending.proofs.buffer.records_ok.Goals.{After-id_of-id, After-number}
+use Rattle.pending.proofs.buffer.records_ok.Goals.{After-id_of-id, After-is_err}
 
 pub loop-j-init : goal.loop-j-init
 loop-j-init c =
     ap (records_ok c.args.n 0) (records_all c.args.buffer.now (count_of c.args.buffer.now))
 
 -- the questions are asked of the record in slot j
-asked : (c : After-number) → c.number.result ≡ number_of (record_refusal c.args.n (record_at c.args.buffer.now c.loop-j.j))
+asked : (c : After-is_err) → c.check.result ≡ record_refusal c.args.n (record_at c.args.buffer.now c.loop-j.j)
 asked c =
-    c.number.ensures ∙ ap number_of (c.check.ensures ∙ ap (record_refusal c.args.n) (slot_part c.args.buffer.now _ _ c.slot_at-at.ensures))
+    c.check.ensures ∙ ap (record_refusal c.args.n) (slot_part c.args.buffer.now _ _ c.slot_at-at.ensures)
 
 -- and its id is known
 known : (c : After-id_of-id) → c.id_of-id.result ≡ record_id (record_at c.args.buffer.now c.loop-j.j)
 known c =
     c.id_of-id.ensures ∙ ap record_id (slot_part c.args.buffer.now _ _ c.slot_at-at.ensures)
 
-pub returns-then-number-ne0 : goal.returns-then-number-ne0
-returns-then-number-ne0 c =
-    let m : After-number = (goal.at.returns-then-number-ne0 c).After-number in
-    sym (ok_refused c.args.n c.loop-j.last c.args.buffer.now c.loop-j.j _ (omega arith) (λ d. c.if-number-ne0.true (asked m ∙ d)))
+pub returns-then-is_err : goal.returns-then-is_err
+returns-then-is_err c =
+    let m : After-is_err = (goal.at.returns-then-is_err c).After-is_err in
+    sym (ok_refused c.args.n c.loop-j.last c.args.buffer.now c.loop-j.j _ (omega arith) (λ d. err_number _ (sym c.is_err.ensures.value ∙ c.if-is_err.true) (ap number_of (asked m) ∙ d)))
     ∙ c.loop-j.invariant
 
 pub id_of-id-requires : goal.id_of-id-requires
 id_of-id-requires c =
-    let m : After-number = (goal.at.id_of-id-requires c).After-number in
-    rw (slot_part c.args.buffer.now _ _ c.slot_at-at.ensures) (bounded c.args.n _ c.requires.1 (sym (asked m) ∙ cc))
+    let m : After-is_err = (goal.at.id_of-id-requires c).After-is_err in
+    rw (slot_part c.args.buffer.now _ _ c.slot_at-at.ensures) (bounded c.args.n _ c.requires.1 (ap number_of (sym (asked m)) ∙ ok_number _ (sym c.is_err.ensures.value ∙ c.if-is_err.false)))
 
 pub returns-then-id-last : goal.returns-then-id-last
 returns-then-id-last c =
@@ -42,9 +43,9 @@ returns-then-id-last c =
 
 pub loop-j-preserved : goal.loop-j-preserved
 loop-j-preserved c =
-    let m : After-number = (goal.at.loop-j-preserved c).After-number in let i : After-id_of-id = (goal.at.loop-j-preserved c).After-id_of-id in
+    let m : After-is_err = (goal.at.loop-j-preserved c).After-is_err in let i : After-id_of-id = (goal.at.loop-j-preserved c).After-id_of-id in
     ap (λ (x : ℕ). records_ok c.args.n x (records_from c.args.buffer.now (c.loop-j.j + 1) (count_of c.args.buffer.now - (c.loop-j.j + 1)))) (known i)
-    ∙ ok_next c.args.n c.loop-j.last c.args.buffer.now c.loop-j.j _ (omega arith) (sym (asked m) ∙ cc) (omega (arith, known i))
+    ∙ ok_next c.args.n c.loop-j.last c.args.buffer.now c.loop-j.j _ (omega arith) (ap number_of (sym (asked m)) ∙ ok_number _ (sym c.is_err.ensures.value ∙ c.if-is_err.false)) (omega (arith, known i))
     ∙ c.loop-j.invariant
 
 pub returns : goal.returns

@@ -3,6 +3,7 @@ use mathlib.Core.Path.{◌≡◌, sym, ap, ◌∙◌}
 use mathlib.Core.Bool.{true, false}
 use native.Mathlib.Omega.{arith}
 use borrow.Author.Rules.{rules}
+use Rattle.std.specs.Prelude.{Err}
 use Rattle.record.specs.Refusals.{is_missing}
 use Rattle.record.proofs.Booleans.{passed, failed}
 use Rattle.pending.specs.Buffer.{records_in, some, same_record, same_id}
@@ -17,7 +18,7 @@ returns-then-not-is_missing c =
     early_other c.args.buffer.now c.args.rec.now c.args.why (failed c.is_missing.ensures (cc))
 
 -- a parent is missing
-missing : (c : Else-not-is_missing) → is_missing c.args.why ≡ true
+missing : (c : Else-not-is_missing) → is_missing (Err c.args.why) ≡ true
 missing c = passed c.is_missing.ensures (cc)
 
 -- so the buffer is well formed

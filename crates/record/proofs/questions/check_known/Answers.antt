@@ -2,9 +2,8 @@
 use Rattle.record.specs.Questions.{masks_ok, signer_questions, record_questions}
 use Rattle.record.specs.Handed.{handed_strong, handed_timeouts, handed_no_votes, handed_questions, handed_refusal}
 use Rattle.record.specs.Layout.{strong_of, timeouts_of, no_votes_of}
-use Rattle.record.specs.Refusals.{first_no}
+use Rattle.record.specs.Refusals.{Verdict, first_no}
 use Rattle.record.specs.declared.questions.Terms.{Terms}
-use Rattle.record.specs.declared.refusal.Refusal.{Refusal}
 use Rattle.record.proofs.Parts.{strong_asked}
 use Rattle.record.proofs.Turn.{next, stop, done, known}
 use mathlib.Core.Path.{◌∙◌, sym, ◌≡◌, ap}
@@ -17,7 +16,7 @@ use Rattle.record.proofs.questions.check_known.Goals.{Else-not-no_votes_ok, Else
 -- the questions from the one at k on decide
 abbrev Left : Start → ℕ → Type 0
 Left s k =
-    (r : Refusal) → r ≡ first_no (drop k (handed_questions (s.args.terms.n) (s.args.quorum) (s.args.round) s.args.source (s.args.body.now)))
+    (r : Verdict) → r ≡ first_no (drop k (handed_questions (s.args.terms.n) (s.args.quorum) (s.args.round) s.args.source (s.args.body.now)))
     → r ≡ handed_refusal (s.args.terms.n) (s.args.quorum) (s.args.round) s.args.source (s.args.body.now)
 
 from_masks : (c : Start) → Left c 3

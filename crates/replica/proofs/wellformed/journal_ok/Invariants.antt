@@ -2,5 +2,5 @@
 use Rattle.replica.proofs.Marks.{Reading}
 use Rattle.replica.proofs.wellformed.journal_ok.Given as goal
 
-abbrev pub invariant-loop-i : goal.invariant-loop-i
-invariant-loop-i l = Reading l.state l.count l.i l.marks
+abbrev pub invariant-loop-x : goal.invariant-loop-x
+invariant-loop-x l = Reading l.state l.count l.x-index l.marks

@@ -3,4 +3,4 @@ use Rattle.yardbook.proofs.calls.yardbook_ask_leaders.Goals as goal
 
 pub returns : goal.returns
 returns c =
-    answered c.ask_leaders.result _ _ _ c.plain_answer.ensures c.ask_leaders.ensures
+    answered c.ask_leaders.result _ _ _ c.from.ensures c.ask_leaders.ensures

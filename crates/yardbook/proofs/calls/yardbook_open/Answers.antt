@@ -4,4 +4,4 @@ use Rattle.yardbook.proofs.calls.yardbook_open.Goals.{After-open}
 
 pub returns : goal.returns
 returns c =
-    let after_open : After-open = (goal.at.returns c).After-open in answered after_open.«open».result _ _ _ c.plain_answer.ensures after_open.«open».ensures
+    let after_open : After-open = (goal.at.returns c).After-open in answered after_open.«open».result _ _ _ c.from.ensures after_open.«open».ensures

@@ -3,4 +3,4 @@ use Rattle.yardbook.proofs.calls.yardbook_propose.Goals as goal
 
 pub returns : goal.returns
 returns c =
-    answered_proposal c.propose.result _ _ _ c.plain_proposal.ensures c.propose.ensures
+    answered_proposal c.propose.result _ _ _ c.from.ensures c.propose.ensures

@@ -3,4 +3,4 @@ use Rattle.yardbook.proofs.calls.yardbook_sign_no_vote.Goals as goal
 
 pub returns : goal.returns
 returns c =
-    answered c.sign_no_vote.result _ _ _ c.plain_answer.ensures c.sign_no_vote.ensures
+    answered c.sign_no_vote.result _ _ _ c.from.ensures c.sign_no_vote.ensures

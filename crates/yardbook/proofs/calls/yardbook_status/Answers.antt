@@ -4,4 +4,4 @@ use Rattle.yardbook.proofs.calls.yardbook_status.Goals as goal
 
 pub returns : goal.returns
 returns c =
-    c.plain_status.ensures ∙ ap status_plain c.status.ensures
+    c.from.ensures ∙ ap status_plain c.status.ensures

@@ -3,4 +3,4 @@ use Rattle.yardbook.proofs.calls.yardbook_take_timeout.Goals as goal
 
 pub returns : goal.returns
 returns c =
-    answered c.take_timeout.result _ _ _ c.plain_answer.ensures c.take_timeout.ensures
+    answered c.take_timeout.result _ _ _ c.from.ensures c.take_timeout.ensures

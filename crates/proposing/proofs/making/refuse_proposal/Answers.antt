@@ -1,4 +1,0 @@
-use Rattle.proposing.proofs.making.refuse_proposal.Goals as goal
-
-pub returns : goal.returns
-returns c = rw c.refuse-answer.ensures

@@ -152,12 +152,12 @@ module _ (n c a q : ℕ) (runs l₀ : List ℕ) (G : RunsReady l₀ n c a q runs
       }
 
   -- the next run finds room
-  pub appending_room : (r x j : ℕ) (l : List ℕ) → Appending n c a runs l₀ r l → r < rounds → x ≡ taken_of r c a → j ≡ r
-      → LeaderRoom l (get_or runs j 0 - x) × (get_or runs j 0 ≤ most_leaders)
-  appending_room r x j l A h ex ey =
+  pub appending_room : (r x : ℕ) (l : List ℕ) → Appending n c a runs l₀ r l → r < rounds → x ≡ taken_of r c a
+      → LeaderRoom l (get_or runs r 0 - x) × (get_or runs r 0 ≤ most_leaders)
+  appending_room r x l A h ex =
       let d : (voted_rounds - r) + suc r ≡ rounds = omega arith in
       let up : length (gather n c a runs (suc r)) ≤ length (gather n c a runs rounds) = rw d at (gather_grows n c a runs (suc r) (voted_rounds - r)) in
-      rw (ex, ey) (
+      rw ex (
         record {
           size = A.size;
           room = omega (
@@ -173,12 +173,11 @@ module _ (n c a q : ℕ) (runs l₀ : List ℕ) (G : RunsReady l₀ n c a q runs
         G.few r,
       )
 
-  pub appending_next : (r x j : ℕ) (l m : List ℕ) → Appending n c a runs l₀ r l → x ≡ taken_of r c a → j ≡ r
-      → m ≡ append_leaders l (seats n r x (get_or runs j 0))
-      → Appending n c a runs l₀ (r + 1) m
-  appending_next r x j l m A ex ey d =
+  pub appending_next : (r x : ℕ) (l m : List ℕ) → Appending n c a runs l₀ r l → x ≡ taken_of r c a
+      → m ≡ append_leaders l (seats n r x (get_or runs r 0)) → Appending n c a runs l₀ (r + 1) m
+  appending_next r x l m A ex d =
       let new = seats n r (taken_of r c a) (get_or runs r 0) in
-      let e : m ≡ append_leaders l new = rw (ex, ey) at d in
+      let e : m ≡ append_leaders l new = rw ex at d in
       let more : gather n c a runs (r + 1) ≡ gather n c a runs r ++ new = ap (gather n c a runs) (add-one r) ∙ gather_more n c a runs r in
       rw e (record {
         size = appends_size new l ∙ A.size;

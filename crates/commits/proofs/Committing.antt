@@ -9,7 +9,6 @@ use borrow.Author.Tests.{eq-eqb}
 use lib.Dec.{eqb}
 use lib.ListN.{length, get_or, set}
 use lib.Seq.{get_or-set_other}
-use Rattle.record.specs.Below.{count}
 use Rattle.record.specs.Members.{most_leaders, has, add, id_round, id_member, is_round, id_limit, rounds, voted_rounds}
 use Rattle.record.proofs.Booleans.{and_cong, or_left, or_right}
 use Rattle.record.proofs.Below.{count_cong}
@@ -63,9 +62,9 @@ pub record Ordering (n : ℕ) (l₀ : List ℕ) (first i : ℕ) (l : List ℕ) :
 
 module _ (n : ℕ) (l₀ : List ℕ) (first : ℕ) (L : LeadersReady l₀ n first) where
   -- the next entry's history may be ordered
-  pub ordering_ready : (i count : ℕ) (l : List ℕ) → Ordering n l₀ first i l → first ≤ i → count ≡ leader_count l₀ → i < count
+  pub ordering_ready : (i : ℕ) (l : List ℕ) → Ordering n l₀ first i l → first ≤ i → i < leader_count l₀
       → LeaderReady l n (leader_word l i)
-  ordering_ready i count l o low e h =
+  ordering_ready i l o low h =
       let same = o.words i (omega (arith, L.few)) in
       rw same (record {
         standing = o.standing;
@@ -76,11 +75,11 @@ module _ (n : ℕ) (l₀ : List ℕ) (first : ℕ) (L : LeadersReady l₀ n firs
         there = rw (vertices_same o.alike) (L.there i low (omega arith));
       })
 
-  pub ordering_next : (i count : ℕ) (l m : List ℕ) → Ordering n l₀ first i l → first ≤ i → count ≡ leader_count l₀ → i < count
+  pub ordering_next : (i : ℕ) (l m : List ℕ) → Ordering n l₀ first i l → first ≤ i → i < leader_count l₀
       → m ≡ order_leader (vertices l) l (leader_word l i)
       → Ordering n l₀ first (i + 1) m
-  ordering_next i count l m o low e h d =
-      let R = ordering_ready i count l o low e h in
+  ordering_next i l m o low h d =
+      let R = ordering_ready i l o low h in
       let x = leader_word l i in
       let A = leader_alike l o.standing o.room x R.there in
       let k : leader_count l₀ - i ≡ suc (leader_count l₀ - (i + 1)) = omega arith in
@@ -97,9 +96,9 @@ module _ (n : ℕ) (l₀ : List ℕ) (first : ℕ) (L : LeadersReady l₀ n firs
             (sym (vertices_same o.alike)) (sym (o.words i (omega (arith, L.few))));
       })
 
-  pub ordering_end : (i count : ℕ) (l : List ℕ) → Ordering n l₀ first i l → count ≡ leader_count l₀ → count ≤ i
+  pub ordering_end : (i : ℕ) (l : List ℕ) → Ordering n l₀ first i l → leader_count l₀ ≤ i
       → l ≡ order_leaders (vertices l₀) l₀ (entries l₀ first (leader_count l₀ - first))
-  ordering_end i count l o e h =
+  ordering_end i l o h =
       sym (o.is ∙ ap (order_leaders (vertices l₀) l) (entries_none l₀ i (leader_count l₀ - i) (omega arith)) ∙ order_none (vertices l₀) l)
 
 -- so for any list of ids of held vertices
@@ -258,8 +257,8 @@ module _ (l : List ℕ) (G : Going l) (q seat : ℕ) (r : Ready l q seat) where
 -- what each later step may use of the leaders taken, of how many of each round from low to q, where the first b of round low are already taken
 pub record Taken (l : List ℕ) (n low b q : ℕ) (runs : List ℕ) : Type 0 where
   pub fits : RunsReady l n low b q runs
-  pub led : (m : List ℕ) (k : ℕ) → m ≡ append_leaders l (gather n low b runs rounds) → k ≡ leader_count l → LeadersReady (set m committed_round_at q) n k
-  pub done : (m o : List ℕ) (k : ℕ) → m ≡ append_leaders l (gather n low b runs rounds) → k ≡ leader_count l → o ≡ order_from (set m committed_round_at q) k
+  pub led : (m : List ℕ) → m ≡ append_leaders l (gather n low b runs rounds) → LeadersReady (set m committed_round_at q) n (leader_count l)
+  pub done : (m o : List ℕ) → m ≡ append_leaders l (gather n low b runs rounds) → o ≡ order_from (set m committed_round_at q) (leader_count l)
       → o ≡ commit l q 0
 
 pub taken_known : (l : List ℕ) (n m c a q low b : ℕ) (runs : List ℕ) → Next l n c a q → m ≡ width l → low ≡ lowest_taken c a m → b ≡ taken_of low c a
@@ -288,8 +287,8 @@ taken_known l n m c a q low b runs N em el eb T =
         above = T.above;
         few = λ t. omega (arith, T.few t, width_most l);
       };
-      led = λ x k d e. rw (d, e, is, en) (led_ready l G q 0 r);
-      done = λ x o k d e f. committed_is l G q 0 r o (rw (d, e, is) at f);
+      led = λ x d. rw (d, is, en) (led_ready l G q 0 r);
+      done = λ x o d f. committed_is l G q 0 r o (rw (d, is) at f);
     }
 
 -- and of the next leader of the committed round
@@ -298,9 +297,8 @@ pub record Grown (l : List ℕ) (n q i : ℕ) : Type 0 where
   pub low : 1 ≤ q
   pub high : q ≤ voted_rounds
   pub few : i < most_leaders
-  pub led : (m : List ℕ) (k : ℕ) → m ≡ append_leader l (leader_id n q i) → k ≡ leader_count l → LeadersReady m n k
-  pub done : (m o : List ℕ) (k : ℕ) → m ≡ append_leader l (leader_id n q i) → k ≡ leader_count l → o ≡ order_from m k
-      → o ≡ commit l q i
+  pub led : (m : List ℕ) → m ≡ append_leader l (leader_id n q i) → LeadersReady m n (leader_count l)
+  pub done : (m o : List ℕ) → m ≡ append_leader l (leader_id n q i) → o ≡ order_from m (leader_count l) → o ≡ commit l q i
 
 append_only : (l : List ℕ) (x : ℕ) → append_leader l x ≡ append_leaders l (x ∷ [])
 unfolding append_leaders
@@ -338,6 +336,6 @@ grown_known l n q i F =
       low = F.some;
       high = high;
       few = omega (arith, F.index, width_most l);
-      led = λ m k d e. rw (d, e, is, en) (led_ready l G q i r);
-      done = λ m o k d e f. committed_is l G q i r o (rw (d, e, is) at f);
+      led = λ m d. rw (d, is, en) (led_ready l G q i r);
+      done = λ m o d f. committed_is l G q i r o (rw (d, is) at f);
     }

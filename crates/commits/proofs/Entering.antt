@@ -1,5 +1,5 @@
 -- The journal's growth by one leader's history, an id at a time. Assumes nothing.
-use mathlib.Core.Path.{◌≡◌, refl, sym, ap, ap₂, ◌∙◌, subst}
+use mathlib.Core.Path.{◌≡◌, refl, sym, ap, ◌∙◌, subst}
 use mathlib.Core.Bool.{Bool, true, false, not, ◌&&◌, or-false}
 use mathlib.Core.Logic.{◌⊎◌, inl, inr, ⊎_elim}
 use mathlib.Core.List.{List}
@@ -198,9 +198,9 @@ module _ (n : ℕ) (l : List ℕ) (S : Standing l) (R : Room l) (e : n ≡ membe
 pub record Growth (n : ℕ) (l : List ℕ) (x : ℕ) : Type 0 where
   pub begun : l ≡ so_far_in n l x slots
   pub kept : (s : ℕ) (m : List ℕ) → m ≡ so_far_in n l x (slots * (s + 1)) → Roomy m
-  pub more : (s k p : ℕ) (m o masks : List ℕ) → s < rounds → m ≡ so_far_in n l x (slots * (s + 1)) → p ≡ id_member x
+  pub more : (s p : ℕ) (m o masks : List ℕ) → s < rounds → m ≡ so_far_in n l x (slots * (s + 1)) → p ≡ id_member x
       → masks ≡ history_masks n (vertices l) (id_round x) p
-      → k ≡ s → o ≡ order_round m (get_or masks k 0) (s + 1) slots → o ≡ so_far_in n l x (slots * (s + 1 + 1))
+      → o ≡ order_round m (get_or masks s 0) (s + 1) slots → o ≡ so_far_in n l x (slots * (s + 1 + 1))
   pub done : (m : List ℕ) → m ≡ so_far_in n l x (slots * (id_round x + 1)) → m ≡ order_leader (vertices l) l x
 
 pub growth : (n : ℕ) (l : List ℕ) (x : ℕ) → Standing l → Room l → n ≡ member_count l → id_round x ≤ voted_rounds
@@ -208,8 +208,8 @@ pub growth : (n : ℕ) (l : List ℕ) (x : ℕ) → Standing l → Room l → n 
 growth n l x S R e high there = record {
   begun = start n l S R e x there;
   kept = λ s m d. let y = slots * (s + 1) in rw d ((so_far_alike n l S R e x there y).size ∙ S.size, so_far_room n l S R e x there y);
-  more = λ s k p m o masks h d ep em ek f.
-      f ∙ round_step n l S R e x there s m (get_or masks k 0) h d (ap₂ (λ (x : List ℕ) (i : ℕ). get_or x i 0) (rw ep at em) ek);
+  more = λ s p m o masks h d ep em f.
+      f ∙ round_step n l S R e x there s m (get_or masks s 0) h d (ap (λ (x : List ℕ). get_or x s 0) (rw ep at em));
   done = λ m d. d ∙ last_round n l S R e x there (omega arith);
 }
 

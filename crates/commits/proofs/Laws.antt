@@ -150,9 +150,9 @@ pub join_strong : (v : Records) (h : List ℕ) (r p k s : ℕ) → k ≡ r - 1 -
 unfolding join_parents join
 join_strong v h r p k s e d = rw (e, d)
 
-pub reach_start : (n : ℕ) (v : Records) (r m k : ℕ) → k ≡ r - 1 → r ≤ rounds → reach_masks n v r m ≡ fill n v (set (replicate rounds 0) k m) (r - 1)
+pub reach_start : (n : ℕ) (v : Records) (r m : ℕ) → r ≤ rounds → reach_masks n v r m ≡ fill n v (set (replicate rounds 0) (r - 1) m) (r - 1)
 unfolding reach_masks join
-reach_start n v r m k e few = rw e (ap (λ (x : ℕ). fill n v (set (replicate rounds 0) (r - 1) x) (r - 1)) (ap (λ (x : ℕ). bit_or x m) zero_word ∙ or_zero_l m))
+reach_start n v r m few = ap (λ (x : ℕ). fill n v (set (replicate rounds 0) (r - 1) x) (r - 1)) (ap (λ (x : ℕ). bit_or x m) zero_word ∙ or_zero_l m)
   where
     zero_word : ◌≡◌ {A = ℕ} (get_or (replicate rounds 0) (r - 1) 0) 0
     zero_word = get_or-replicate {A = ℕ} rounds (r - 1) 0 0 (omega arith)

@@ -207,19 +207,19 @@ module _ (n m : ℕ) (pos : 0 < n) (some : 1 ≤ m) (v : Records) (W : ValidVert
 -- ---- the walk over a state
 
 pub record Walk (l : List ℕ) (n m c q : ℕ) : Type 0 where
-  pub begun : (i p y : ℕ) → i ≡ q → p ≡ leader n q → y ≡ 2 ^ p → Walked n m (vertices l) c q (q - 1) (set (replicate rounds 0) i 1) y
-  pub took : (t : ℕ) (runs : List ℕ) (reached b p x i y : ℕ) → c ≤ t → Walked n m (vertices l) c q t runs reached
-      → b ≡ parents (vertices l) (t + 1) reached n → p ≡ leader n t → has b p ≡ true → x ≡ longest m (λ i. has b (leader_at n t i)) → i ≡ t → y ≡ 2 ^ p
-      → Walked n m (vertices l) c q (t - 1) (set runs i x) y
+  pub begun : (p y : ℕ) → p ≡ leader n q → y ≡ 2 ^ p → Walked n m (vertices l) c q (q - 1) (set (replicate rounds 0) q 1) y
+  pub took : (t : ℕ) (runs : List ℕ) (reached b p x y : ℕ) → c ≤ t → Walked n m (vertices l) c q t runs reached
+      → b ≡ parents (vertices l) (t + 1) reached n → p ≡ leader n t → has b p ≡ true → x ≡ longest m (λ i. has b (leader_at n t i)) → y ≡ 2 ^ p
+      → Walked n m (vertices l) c q (t - 1) (set runs t x) y
   pub passed : (t : ℕ) (runs : List ℕ) (reached b p : ℕ) → c ≤ t → Walked n m (vertices l) c q t runs reached
       → b ≡ parents (vertices l) (t + 1) reached n → p ≡ leader n t → has b p ≡ false → Walked n m (vertices l) c q (t - 1) runs b
   pub done : (t : ℕ) (runs : List ℕ) (reached : ℕ) → c ≡ t + 1 → Walked n m (vertices l) c q t runs reached → TakenRuns n m (vertices l) c q runs
 
 pub walk_runs : (l : List ℕ) (n m c q : ℕ) → WalkReady l n m c q → Walk l n m c q
 walk_runs l n m c q R = record {
-  begun = λ i p y a b d. rw (a, d, b) (start n m pos R.some (vertices l) W c q R.high (omega (arith, R.low, R.order)) R.order R.there);
-  took = λ t runs reached b p x i y k w eb ep h ex ei ey.
-      rw (ei, ey, ep)
+  begun = λ p y b d. rw (d, b) (start n m pos R.some (vertices l) W c q R.high (omega (arith, R.low, R.order)) R.order R.there);
+  took = λ t runs reached b p x y k w eb ep h ex ey.
+      rw (ey, ep)
       (take_run n m pos R.some (vertices l) W c q R.high t runs reached b x (omega (arith, R.low)) k w eb (rw ep at h) ex);
   passed = λ t runs reached b p k w eb ep h.
       pass_run n m pos R.some (vertices l) W c q R.high t runs reached b (omega (arith, R.low)) k w eb (rw ep at h);

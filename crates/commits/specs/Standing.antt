@@ -3,7 +3,6 @@
 use Rattle.std.specs.Prelude.{◌≡◌, true, cond, not, ◌&&◌, ◌⊎◌, List, [], ◌∷◌, ℕ, zero, suc, ◌+◌, ◌-◌, ◌*◌, ◌^◌, ◌≤◌, ◌<◌, eqb, length, get_or}
 use Rattle.record.specs.Below.{count}
 use Rattle.record.specs.Members.{legal, leader_at, leader, most_leaders, has, id_of, id_round, id_member, id_limit, rounds, slots, voted_rounds}
-use Rattle.record.specs.Handed.{QuorumOf}
 use Rattle.protocol.specs.Dag.{held}
 use Rattle.protocol.specs.Premises.{ValidVertices}
 use Rattle.record.specs.Layout.{body_size}
@@ -13,12 +12,11 @@ use Rattle.replica.specs.State.{leader_word, width, last_place}
 use Rattle.commits.specs.Commit.{enter, order_leaders, is_ready, commit_once}
 use Rattle.commits.specs.Taken.{gather}
 
--- the words of a state, its member count n, and q, which is 2f + 1 of n
-pub record GroupOf (l : List ℕ) (n q : ℕ) : Type 0 where
+-- the words of a state, and its member count n, which is not 0
+pub record GroupOf (l : List ℕ) (n : ℕ) : Type 0 where
   pub size : length l ≡ state_size
   pub members : n ≡ member_count l
   pub some : 0 < n
-  pub quorum_of : QuorumOf n q
 
 pub record Standing (l : List ℕ) : Type 0 where
   pub size : length l ≡ state_size

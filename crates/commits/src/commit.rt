@@ -1,7 +1,7 @@
 // The commits: which rounds are committable, and what committing one writes.
 ghost use Rattle.std.specs.Prelude.{◌≡◌, ◌-◌, ◌<◌, ◌≤◌, length};
+ghost use Rattle.record.specs.Below.{if_below};
 ghost use Rattle.record.specs.Members.{leader_at, most_leaders, rounds, slots, voted_rounds, id_limit};
-ghost use Rattle.record.specs.Handed.{QuorumOf};
 ghost use Rattle.protocol.specs.Dag.{backed};
 ghost use Rattle.protocol.specs.Chain.{leader_id, seats};
 ghost use Rattle.protocol.specs.Masks.{voters};
@@ -15,7 +15,8 @@ ghost use Rattle.commits.specs.Standing.{order_from, LeadersReady, Going, AtPlac
 
 use super::history::history_of;
 use super::walk::taken_runs;
-use record::layout::{STRONG, wide};
+use record::group::Group;
+use record::layout::STRONG;
 use record::members::{MASKS, Members, ROUNDS, SLOTS, has_bit, leader_at};
 use replica::layout::{
     COMMITTED_ROUND, HELD, JOURNAL, JOURNAL_COUNT, LEADER_COUNT, LEADERS, ORDERED, VOTES, cell_at,
@@ -53,29 +54,29 @@ fn voters_for(state: &[u32], n: u32, q: u32, i: u32, voted: u32) -> Members
 }
 
 // Leader i of round q is backed: its vertex is held, and it has a quorum of voters.
-fn is_backed(state: &[u32], n: u32, quorum: u32, q: u32, i: u32) -> bool
-    requires { LeaderOf state.now n q i × QuorumOf n quorum }
-    ensures { result ≡ backed n (dag state.now) q i }
+fn is_backed(state: &[u32], group: Group, q: u32, i: u32) -> bool
+    requires { LeaderOf state.now group.n q i }
+    ensures { result ≡ backed group.n (dag state.now) q i }
 {
-    let leader = leader_at(n, q, i);
+    let leader = leader_at(group.n, q, i);
     if !has_bit(mask_of(state, HELD, q), leader) {
         return false;
     }
-    let voters = voters_for(state, n, q, i, leader);
-    voters.meets_quorum(quorum)
+    let voters = voters_for(state, group.n, q, i, leader);
+    voters.meets_quorum(group.quorum)
 }
 
-// The lowest committable round, 32 if there is none.
-fn lowest_committable(state: &[u32], n: u32, quorum: u32) -> u32
-    requires { Standing state.now × (n ≡ member_count state.now) × QuorumOf n quorum × (committed_round state.now ≤ voted_rounds) }
-    ensures { result ≡ lowest state.now }
+// The lowest committable round.
+fn lowest_committable(state: &[u32], group: Group) -> Option<u32>
+    requires { Standing state.now × (group.n ≡ member_count state.now) × (committed_round state.now ≤ voted_rounds) }
+    ensures { result ≡ if_below rounds (lowest state.now) }
 {
     for q in state[COMMITTED_ROUND] + 1..ROUNDS {
-        if is_backed(state, n, quorum, q, 0) {
-            return q;
+        if is_backed(state, group, q, 0) {
+            return Some(q);
         }
     }
-    ROUNDS
+    None
 }
 
 // Leader i of the round joins the leader list.
@@ -85,7 +86,7 @@ fn append_leader(state: &mut [u32], n: u32, round: u32, i: u32)
 {
     let count = state[LEADER_COUNT];
     let id = SLOTS * round + leader_at(n, round, i);
-    state[LEADERS + wide(count)] = id;
+    state[LEADERS + count as usize] = id;
     state[LEADER_COUNT] = count + 1;
 }
 
@@ -129,7 +130,7 @@ fn append_runs(state: &mut [u32], n: u32, low: u32, taken: u32, q: u32, runs: [u
     ensures { state.new ≡ append_leaders state.old (gather n low taken runs rounds) }
 {
     for r in low..=q {
-        append_run(state, n, r, taken_of(r, low, taken), runs[wide(r)]);
+        append_run(state, n, r, taken_of(r, low, taken), runs[r as usize]);
     }
 }
 
@@ -141,7 +142,7 @@ fn enter_id(state: &mut [u32], id: u32)
     let count = state[JOURNAL_COUNT];
     let at = masks_at(id / SLOTS) + ORDERED;
     add_member(state, at, id % SLOTS);
-    state[JOURNAL + wide(count)] = id;
+    state[JOURNAL + count as usize] = id;
     state[JOURNAL_COUNT] = count + 1;
 }
 
@@ -180,7 +181,7 @@ fn order_leader(state: &mut [u32], n: u32, id: u32)
     let round = id / SLOTS;
     let masks = history_of(state, n, round, id % SLOTS);
     for r in 0..round {
-        order_round(state, masks[wide(r)], r + 1);
+        order_round(state, masks[r as usize], r + 1);
     }
 }
 
@@ -189,7 +190,7 @@ fn order_leaders(state: &mut [u32], n: u32, first: usize)
     requires { LeadersReady state.old n first }
     ensures { state.new ≡ order_from state.old first }
 {
-    let count = wide(state[LEADER_COUNT]);
+    let count = state[LEADER_COUNT] as usize;
     for i in first..count {
         let id = state[LEADERS + i];
         order_leader(state, n, id);
@@ -201,7 +202,7 @@ fn commit_round(state: &mut [u32], n: u32, committed: u32, place: u32, q: u32)
     requires { Next state.old n committed place q }
     ensures { state.new ≡ commit state.old q 0 }
 {
-    let first = wide(state[LEADER_COUNT]);
+    let first = state[LEADER_COUNT] as usize;
     let width = width_of(state);
     let low = lowest_taken(committed, place, width);
     let runs = taken_runs(state, n, width, low, q);
@@ -211,8 +212,8 @@ fn commit_round(state: &mut [u32], n: u32, committed: u32, place: u32, q: u32)
 }
 
 // The committed round grows: behind its leaders in the list, `place` of them, the next one is backed.
-fn does_grow(state: &[u32], n: u32, quorum: u32, committed: u32, place: u32) -> bool
-    requires { AtPlace state.now n committed place × QuorumOf n quorum }
+fn does_grow(state: &[u32], group: Group, committed: u32, place: u32) -> bool
+    requires { AtPlace state.now group.n committed place }
     ensures { result ≡ grows state.now }
 {
     if committed == 0 {
@@ -221,7 +222,7 @@ fn does_grow(state: &[u32], n: u32, quorum: u32, committed: u32, place: u32) -> 
     if width_of(state) <= place {
         return false;
     }
-    is_backed(state, n, quorum, committed, place)
+    is_backed(state, group, committed, place)
 }
 
 // Commits the next leader of the committed round, leader i of round q: it alone joins the leader list, and the committed round stays.
@@ -229,34 +230,33 @@ fn commit_next(state: &mut [u32], n: u32, q: u32, i: u32)
     requires { Further state.old n q i }
     ensures { state.new ≡ commit state.old q i }
 {
-    let first = wide(state[LEADER_COUNT]);
+    let first = state[LEADER_COUNT] as usize;
     append_leader(state, n, q, i);
     order_leaders(state, n, first);
 }
 
 // Commits the first committable leader, if there is one: the committed round grows before a later one is committed.
-fn commit_once(state: &mut [u32], n: u32, quorum: u32) -> bool
-    requires { Going state.old × (n ≡ member_count state.old) × QuorumOf n quorum }
+fn commit_once(state: &mut [u32], group: Group) -> bool
+    requires { Going state.old × (group.n ≡ member_count state.old) }
     ensures { (result ≡ is_ready state.old) × (state.new ≡ commit_step state.old) }
 {
     let committed = state[COMMITTED_ROUND];
-    let place = last_place(state, n);
-    if does_grow(state, n, quorum, committed, place) {
-        commit_next(state, n, committed, place);
+    let place = last_place(state, group.n);
+    if does_grow(state, group, committed, place) {
+        commit_next(state, group.n, committed, place);
         return true;
     }
-    let q = lowest_committable(state, n, quorum);
-    if ROUNDS <= q {
-        return false;
+    if let Some(q) = lowest_committable(state, group) {
+        commit_round(state, group.n, committed, place, q);
+        return true;
     }
-    commit_round(state, n, committed, place, q);
-    true
+    false
 }
 
 // And again until there is none.
-pub fn commit_all(state: &mut [u32], n: u32, quorum: u32)
-    requires { Going state.old × (n ≡ member_count state.old) × QuorumOf n quorum }
+pub fn commit_all(state: &mut [u32], group: Group)
+    requires { Going state.old × (group.n ≡ member_count state.old) }
     ensures { state.new ≡ commit_all state.old }
 {
-    while commit_once(state, n, quorum) {}
+    while commit_once(state, group) {}
 }

@@ -5,7 +5,7 @@ ghost use Rattle.record.specs.Members.{rounds, slots, id_limit, id_round, id_mem
 ghost use Rattle.replica.specs.State.{member_count, vertices};
 ghost use Rattle.commits.specs.Standing.{Standing};
 
-use record::layout::{STRONG, WEAK, WEAK_COUNT, wide};
+use record::layout::{STRONG, WEAK, WEAK_COUNT};
 use record::members::{MASKS, Members, SLOTS, has_bit, power};
 use replica::layout::cell_at;
 
@@ -14,7 +14,7 @@ fn join_id(masks: &mut [u32; MASKS], x: u32)
     requires { (slots ≤ x) × (x < id_limit) }
     ensures { masks.new ≡ join masks.old (id_round x) (2 ^ id_member x) }
 {
-    let at = wide(x / SLOTS - 1);
+    let at = (x / SLOTS - 1) as usize;
     let members = Members { bits: masks[at] };
     let more = members.with(x % SLOTS);
     masks[at] = more.bits;
@@ -26,7 +26,7 @@ fn join_weak(state: &[u32], masks: &mut [u32; MASKS], round: u32, member: u32)
     ensures { masks.new ≡ join_weak_parents (vertices state.now) masks.old round member }
 {
     let at = cell_at(round, member);
-    let count = wide(state[at + WEAK_COUNT]);
+    let count = state[at + WEAK_COUNT] as usize;
     for i in 0..count {
         join_id(masks, state[at + (WEAK + i)]);
     }
@@ -38,7 +38,7 @@ fn join_parents(state: &[u32], masks: &mut [u32; MASKS], round: u32, member: u32
     ensures { masks.new ≡ join_parents (vertices state.now) masks.old round member }
 {
     let at = cell_at(round, member);
-    let below = wide(round - 2);
+    let below = (round - 2) as usize;
     masks[below] |= state[at + STRONG];
     join_weak(state, masks, round, member);
 }
@@ -48,7 +48,7 @@ fn join_round(state: &[u32], n: u32, masks: &mut [u32; MASKS], round: u32)
     requires { Standing state.now × (n ≡ member_count state.now) × (2 ≤ round) × (round ≤ rounds) }
     ensures { masks.new ≡ join_round_parents (vertices state.now) masks.old round n }
 {
-    let mask = masks[wide(round - 1)];
+    let mask = masks[(round - 1) as usize];
     for p in 0..n {
         if has_bit(mask, p) {
             join_parents(state, masks, round, p);
@@ -62,7 +62,7 @@ pub fn reach_of(state: &[u32], n: u32, round: u32, mask: u32) -> [u32; MASKS]
     ensures { result ≡ reach_masks n (vertices state.now) round mask }
 {
     let mut masks = [0u32; MASKS];
-    masks[wide(round - 1)] = mask;
+    masks[(round - 1) as usize] = mask;
     for r in (2..=round).rev() {
         join_round(state, n, &mut masks, r);
     }

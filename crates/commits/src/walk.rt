@@ -7,7 +7,7 @@ ghost use Rattle.protocol.specs.Masks.{parents};
 ghost use Rattle.replica.specs.State.{member_count, vertices};
 ghost use Rattle.commits.specs.Standing.{Standing, WalkReady, RunBegun};
 
-use record::layout::{STRONG, wide};
+use record::layout::STRONG;
 use record::members::{MASKS, has_bit, leader_at, leader_of, power};
 use replica::layout::cell_at;
 
@@ -39,20 +39,20 @@ fn run_in(n: u32, m: u32, round: u32, mask: u32) -> u32
     m
 }
 
-// How many leaders of each round committing round q's main leader takes, of m a round, down to round low and with it. Going down, `reached` has the members
-// that strong paths reach, in the round above t, from the main leader's vertex that one stands on.
+// How many leaders of each round committing round q's main leader takes, of m a round, down to round low and with it. Going down,
+// `reached` has the members that strong paths reach, in the round above t, from the main leader's vertex that one stands on.
 pub fn taken_runs(state: &[u32], n: u32, m: u32, low: u32, q: u32) -> [u32; MASKS]
     requires { WalkReady state.now n m low q }
     ensures { TakenRuns n m (vertices state.now) low q result }
 {
     let mut runs = [0u32; MASKS];
-    runs[wide(q)] = 1;
+    runs[q as usize] = 1;
     let mut reached = power(leader_of(n, q));
     for t in (low..q).rev() {
         let below = parents_of(state, n, t + 1, reached);
         let leader = leader_of(n, t);
         reached = if has_bit(below, leader) {
-            runs[wide(t)] = run_in(n, m, t, below);
+            runs[t as usize] = run_in(n, m, t, below);
             power(leader)
         } else {
             below

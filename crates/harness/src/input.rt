@@ -26,10 +26,6 @@ pub struct Command {
     pub cursor: Cursor,
 }
 
-fn wide(x: u8) -> u32 {
-    x as u32
-}
-
 // The word at a place of the block, 0 if it does not lie within.
 fn load(block: &[u8], at: usize) -> u32 {
     if block.len() < 4 {
@@ -38,10 +34,7 @@ fn load(block: &[u8], at: usize) -> u32 {
     if block.len() - 4 < at {
         return 0;
     }
-    wide(block[at])
-        | wide(block[at + 1]) << 8
-        | wide(block[at + 2]) << 16
-        | wide(block[at + 3]) << 24
+    u32::from_le_bytes([block[at], block[at + 1], block[at + 2], block[at + 3]])
 }
 
 // Reads until the block is full or the input ends, and gives how many bytes it put at the start of the block.

@@ -32,8 +32,6 @@ mod calls;
 mod input;
 mod output;
 
-ghost use Rattle.std.specs.Prelude.{◌≤◌};
-
 use calls::call;
 use input::{Command, Cursor, next_command};
 use pending::layout::BUFFER_SIZE;
@@ -45,12 +43,6 @@ use std::io::{Read, Write};
 
 // How many bytes of the input are read at a time.
 const BLOCK: usize = 65536;
-
-fn least(a: usize, b: usize) -> usize
-    ensures { (result ≤ a) × (result ≤ b) }
-{
-    if a < b { a } else { b }
-}
 
 fn set(lent: &mut [u32], at: usize, word: u32) {
     if at < lent.len() {
@@ -76,27 +68,27 @@ fn perform<W: Write>(
     sizes: Sizes,
     command: Command,
 ) -> io::Result<Sizes> {
-    let lent = least(sizes.lent, words.len());
-    let kept = least(sizes.kept, buffer.len());
-    let length = least(sizes.length, rec.len());
+    let lent = sizes.lent.min(words.len());
+    let kept = sizes.kept.min(buffer.len());
+    let length = sizes.length.min(rec.len());
     let op = command.op;
     let at = command.a as usize;
     match op {
         1 => {
             clear(words);
-            let lent = least(at, words.len());
+            let lent = at.min(words.len());
             return Ok(Sizes { lent, kept, length });
         }
         2 => set(&mut words[..lent], at, command.b),
         13 => {
             clear(rec);
-            let length = least(at, rec.len());
+            let length = at.min(rec.len());
             return Ok(Sizes { lent, kept, length });
         }
         14 => set(&mut rec[..length], at, command.b),
         19 => {
             clear(buffer);
-            let kept = least(at, buffer.len());
+            let kept = at.min(buffer.len());
             return Ok(Sizes { lent, kept, length });
         }
         20 => set(&mut buffer[..kept], at, command.b),

@@ -3,12 +3,8 @@ use std::io;
 use std::io::Write;
 
 // A number and a space.
-fn put_wide<W: Write>(out: &mut W, x: u64) -> io::Result<()> {
-    write!(out, "{x} ")
-}
-
 pub fn put<W: Write>(out: &mut W, x: u32) -> io::Result<()> {
-    put_wide(out, x as u64)
+    write!(out, "{x} ")
 }
 
 // The last number of a line.
@@ -26,13 +22,13 @@ pub fn put_words<W: Write>(out: &mut W, words: &[u32]) -> io::Result<()> {
 
 // How many words there are, and each.
 pub fn put_list<W: Write>(out: &mut W, words: &[u32]) -> io::Result<()> {
-    put_wide(out, words.len() as u64)?;
+    write!(out, "{} ", words.len())?;
     put_words(out, words)
 }
 
 // h * 31 + word, modulo 2 to the 32.
 fn mix(h: u32, word: u32) -> u32 {
-    ((h as u64 * 31 + word as u64) % 4294967296) as u32
+    h.wrapping_mul(31).wrapping_add(word)
 }
 
 // One number that stands for every word in its place.

@@ -1,4 +1,5 @@
 -- The search for a parent that is not held: weak ids, which rise, and then the strong bits, all in rising order of ids. Assumes nothing.
+use Rattle.std.specs.Prelude.{Some, None}
 use mathlib.Core.Path.{◌≡◌, sym, ap, ◌∙◌}
 use mathlib.Core.Bool.{Bool, true, false, not}
 use mathlib.Core.Logic.{◌⊎◌, inl, inr, ⊎_elim}
@@ -11,12 +12,12 @@ use lib.Dec.{ltb}
 use lib.ListN.{length, get_or, take, drop}
 use lib.Seq.{get_or-take, get_or-drop}
 use borrow.Author.Tests.{ltb-true, ltb-false}
-use Rattle.record.specs.Below.{least}
+use Rattle.record.specs.Below.{least, if_below}
 use Rattle.record.specs.Members.{legal, has, id_of, id_round, id_member, rounds, slots, id_limit}
 use Rattle.record.specs.Layout.{body_size, weak_slots, strong_of, weak_count_of, weak_of, strong_place, weak_count_place, weak_place}
 use Rattle.record.specs.Admitted.{Admitted}
 use Rattle.record.proofs.Booleans.{which, never, and_both, and_fails_left, and_fails_right, failed}
-use Rattle.record.proofs.Below.{any_false, least_none, least_at}
+use Rattle.record.proofs.Below.{any_false, least_none, least_at, below_some, below_none}
 use Rattle.record.proofs.Masks.{legal_range, has_bound}
 use Rattle.record.proofs.Turn.{admitted}
 use Rattle.replica.specs.Layout.{state_size}
@@ -115,13 +116,12 @@ module _ (n r p : ℕ) (l body : List ℕ) (group : legal n ≡ true) (a : Admit
       (λ y b. none_below m w y (λ s t. omega (arith, has_bound n (strong_of body) (id_member y) a.strong_low t)))))
 
 -- a weak id as the code reads it
-abbrev pub weak_word : List ℕ → ℕ → ℕ → ℕ
-weak_word body count i = get_or (take (weak_place + count - weak_place) (drop weak_place body)) i 0
+abbrev pub weak_word : List ℕ → ℕ → ℕ
+weak_word body i = get_or (take (weak_place + get_or body weak_count_place 0 - weak_place) (drop weak_place body)) i 0
 
-weak_read : (body : List ℕ) (count i : ℕ) → i < count → weak_word body count i ≡ weak_of body i
+weak_read : (body : List ℕ) (i : ℕ) → i < get_or body weak_count_place 0 → weak_word body i ≡ weak_of body i
 unfolding weak_of
-weak_read body count i h =
-    get_or-take (weak_place + count - weak_place) (drop weak_place body) i 0 (omega arith) ∙ get_or-drop weak_place body i 0
+weak_read body i h = get_or-take _ (drop weak_place body) i 0 (omega arith) ∙ get_or-drop weak_place body i 0
 
 -- what each step of the search may use, in the terms of the code
 pub record Search (n r : ℕ) (l body : List ℕ) : Type 0 where
@@ -132,16 +132,17 @@ pub record Search (n r : ℕ) (l body : List ℕ) : Type 0 where
   pub few : n ≤ slots
   pub used : get_or body weak_count_place 0 ≤ weak_slots
   pub start : WeakHeld l body 0
-  pub weak_more : (count i : ℕ) → i < count → WeakHeld l body i → (t : Bool) → t ≡ held_id l (weak_word body count i) → t ≡ true → WeakHeld l body (i + 1)
-  pub weak_lacks : (count i : ℕ) → count ≡ get_or body weak_count_place 0 → i < count → WeakHeld l body i → (t : Bool)
-      → t ≡ held_id l (weak_word body count i) → t ≡ false → weak_word body count i ≡ least id_limit (missing l r body)
-  pub weak_all : (count i : ℕ) → count ≡ get_or body weak_count_place 0 → count ≤ i → WeakHeld l body i → WeakHeld l body (weak_count_of body)
+  pub weak_more : (i : ℕ) → i < get_or body weak_count_place 0 → WeakHeld l body i → (t : Bool) → t ≡ held_id l (weak_word body i) → t ≡ true
+      → WeakHeld l body (i + 1)
+  pub weak_lacks : (i : ℕ) → i < get_or body weak_count_place 0 → WeakHeld l body i → (t : Bool) → t ≡ held_id l (weak_word body i) → t ≡ false
+      → Some (weak_word body i) ≡ if_below id_limit (least id_limit (missing l r body))
+  pub weak_all : (i : ℕ) → get_or body weak_count_place 0 ≤ i → WeakHeld l body i → WeakHeld l body (weak_count_of body)
   pub strong_none : WeakHeld l body (weak_count_of body) → StrongHeld r l body 0
   pub strong_more : (m : ℕ) → StrongHeld r l body m → (b : Bool) → b ≡ has (get_or body strong_place 0) m → (b ≡ false) ⊎ (held_id l (id_of (r - 1) m) ≡ true)
       → StrongHeld r l body (m + 1)
   pub strong_lacks : (m : ℕ) → StrongHeld r l body m → m < n → (b : Bool) → b ≡ has (get_or body strong_place 0) m → b ≡ true
-      → (t : Bool) → t ≡ held_id l (id_of (r - 1) m) → not t ≡ true → id_of (r - 1) m ≡ least id_limit (missing l r body)
-  pub strong_all : (m : ℕ) → StrongHeld r l body m → n ≤ m → id_limit ≡ least id_limit (missing l r body)
+      → (t : Bool) → t ≡ held_id l (id_of (r - 1) m) → not t ≡ true → Some (id_of (r - 1) m) ≡ if_below id_limit (least id_limit (missing l r body))
+  pub strong_all : (m : ℕ) → StrongHeld r l body m → n ≤ m → None ≡ if_below id_limit (least id_limit (missing l r body))
 
 pub searched : (l : List ℕ) (n r : ℕ) (body : List ℕ) → Searching l n r body → Search n r l body
 unfolding strong_of weak_count_of weak_of
@@ -157,17 +158,20 @@ searched l n r body searching =
       few = (legal_range n pre.legit).high;
       used = weak_five n r p l body pre.legit a;
       start = λ k b. absurd (omega arith);
-      weak_more = λ count i b w t e h. one_more (λ k. held_id l (weak_of body k) ≡ true) i w (ap (held_id l) (sym (weak_read body count i b)) ∙ sym e ∙ h);
-      weak_lacks = λ count i c b w t e h.
-          let d = weak_read body count i b in
-          d ∙ weak_found n r p l body pre.legit a i (omega (arith, c)) w (ap (held_id l) (sym d) ∙ sym e ∙ h);
-      weak_all = λ count i c b w k d. w k (omega (arith, c));
+      weak_more = λ i b w t e h. one_more (λ k. held_id l (weak_of body k) ≡ true) i w (ap (held_id l) (sym (weak_read body i b)) ∙ sym e ∙ h);
+      weak_lacks = λ i b w t e h.
+          let d = weak_read body i b in
+          let small = weak_small n r p l body pre.legit a i b in
+          below_some _ _ _ (d ∙ weak_found n r p l body pre.legit a i b w (ap (held_id l) (sym d) ∙ sym e ∙ h)) (omega (arith, d, small));
+      weak_all = λ i b w k d. w k (omega arith);
       strong_none = λ w. record { weak = w; strong = λ k d. absurd (omega arith) };
       strong_more = λ m w b e h. record {
         weak = w.weak;
         strong = one_more (λ k. has (strong_of body) k ≡ true → held_id l (id_of (r - 1) k) ≡ true) m w.strong
             (λ q. ⊎_elim (λ d. never q (sym e ∙ d)) (λ d. d) h);
       };
-      strong_lacks = λ m w b q c e t f h. strong_found n r p l body pre.legit a m b w (sym c ∙ e) (failed f h);
-      strong_all = λ m w b. none_found n r p l body pre.legit a m b w;
+      strong_lacks = λ m w b q c e t f h.
+          let g = legal_range n pre.legit in
+          below_some _ _ _ (strong_found n r p l body pre.legit a m b w (sym c ∙ e) (failed f h)) (omega (arith, a.round_high));
+      strong_all = λ m w b. below_none _ _ (omega (arith, none_found n r p l body pre.legit a m b w));
     }

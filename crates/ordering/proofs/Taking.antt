@@ -1,5 +1,5 @@
 -- The calls put together: refused with the words as they were, or admitted step by step. Assumes nothing.
-use Rattle.std.specs.Prelude.{Result, Ok, Err}
+use Rattle.std.specs.Prelude.{Result, Err}
 use mathlib.Core.Path.{◌≡◌, refl, sym, ap, ◌∙◌}
 use mathlib.Core.Bool.{true}
 use mathlib.Core.List.{List, [], ◌∷◌}
@@ -214,7 +214,8 @@ module _ (l : List ℕ) (r p : ℕ) (a : Result Added Refusal) (m : List ℕ) (e
 
   pub timeout_refused : (w : Refusal) → a ≡ Err w → (b : Result Added Refusal) → b ≡ Err w → told b m ≡ take_timeout l r p
   unfolding take_timeout why
-  timeout_refused w h b d = ap (λ (x : Result Added Refusal). told x m) (d ∙ sym h) ∙ e ∙ sym (outcome_refused why why l _ refl stopped) ∙ outcome_refused why why l _ refl stopped
+  timeout_refused w h b d = ap (λ (x : Result Added Refusal). told x m) (d ∙ sym h) ∙ e ∙ sym (outcome_refused why why l _ refl stopped)
+      ∙ outcome_refused why why l _ refl stopped
     where
       stopped : number_of why ≡ 0 → ⊥
       stopped z = was_err h (ap (λ (o : Outcome). o.number) (e ∙ sym (outcome_admitted why why l _ refl z)))

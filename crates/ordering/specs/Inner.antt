@@ -2,7 +2,6 @@
 use Rattle.std.specs.Prelude.{◌≡◌, true, not, List, [], ◌∷◌, ◌++◌, ℕ, ◌≤◌, ◌<◌, length}
 use Rattle.record.specs.Members.{legal, has, rounds, slots}
 use Rattle.record.specs.Refusals.{number_of, Question, first_no}
-use Rattle.record.specs.Handed.{QuorumOf}
 use Rattle.record.specs.Layout.{round_of, source_of, body_of}
 use Rattle.record.specs.Questions.{record_questions, body_refusal}
 use Rattle.record.specs.declared.refusal.Refusal.TheVariants.{Duplicate}
@@ -26,10 +25,9 @@ pub record Searching (l : List ℕ) (n r : ℕ) (body : List ℕ) : Type 0 where
   pub source : ℕ
   pub placing : Placing l n r source body
 
--- a vertex that no question stops on a state of n members, of which q make a quorum
-pub record Unstopped (l : List ℕ) (n q : ℕ) (rec : List ℕ) : Type 0 where
+-- a vertex that no question stops on a state of n members
+pub record Unstopped (l : List ℕ) (n : ℕ) (rec : List ℕ) : Type 0 where
   pub members : n ≡ member_count l
-  pub quorum : QuorumOf n q
   pub passed : number_of (first_no (vertex_questions l (round_of rec) (source_of rec) (body_of rec))) ≡ 0
 
 -- the words of a state of n members, and the round, source and strong mask of a first message that the record's questions admit

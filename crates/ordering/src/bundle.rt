@@ -4,7 +4,8 @@ ghost use Rattle.replica.specs.Outcome.{told};
 ghost use Rattle.ordering.specs.Calls.{bundle_refusal, take_timeouts};
 
 use commits::rounds::raise_round;
-use record::members::{is_round, is_within, quorum_of};
+use record::group::Group;
+use record::members::{is_round, is_within};
 use record::refusal::Refusal;
 use replica::answer::{Added, NOTHING};
 use replica::layout::{MEMBER_COUNT, TIMEOUTS, masks_at};
@@ -37,8 +38,7 @@ pub fn take_timeouts(state: &mut [u32], round: u32, mask: u32) -> Result<Added, 
     check_bundle(state, round, mask)?;
     let at = masks_at(round) + TIMEOUTS;
     add_members(state, at, mask);
-    let n = state[MEMBER_COUNT];
-    let quorum = quorum_of(n);
-    raise_round(state, n, quorum);
+    let group = Group::of(state[MEMBER_COUNT]);
+    raise_round(state, group);
     Ok(NOTHING)
 }

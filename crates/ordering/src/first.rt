@@ -2,15 +2,15 @@
 ghost use Rattle.std.specs.Prelude.{◌≡◌, true, [], ◌∷◌, length};
 ghost use Rattle.record.specs.Refusals.{first_no};
 ghost use Rattle.record.specs.Members.{legal};
-ghost use Rattle.record.specs.Handed.{QuorumOf};
 ghost use Rattle.replica.specs.Layout.{state_size};
 ghost use Rattle.replica.specs.Outcome.{told};
 ghost use Rattle.ordering.specs.Calls.{hear, take_first_message};
 ghost use Rattle.ordering.specs.Inner.{Hearing, hearing_questions};
 
 use super::steps::settle;
+use record::group::Group;
 use record::layout::{BODY, ROUND, SOURCE, STRONG};
-use record::members::{has_bit, leader_of, quorum_of};
+use record::members::{has_bit, leader_of};
 use record::questions::check;
 use record::refusal::Refusal;
 use replica::answer::Added;
@@ -19,11 +19,11 @@ use replica::masks::{add_member, mask_of};
 use replica::status::check_state;
 
 // Questions 4 to 12, of a first message for a state whose own questions are passed.
-fn check_first(state: &[u32], n: u32, quorum: u32, rec: &[u32]) -> Result<(), Refusal>
-    requires { (length state.now ≡ state_size) × (legal n ≡ true) × QuorumOf n quorum }
-    ensures { result ≡ first_no (hearing_questions state.now n rec.now) }
+fn check_first(state: &[u32], group: Group, rec: &[u32]) -> Result<(), Refusal>
+    requires { (length state.now ≡ state_size) × (legal group.n ≡ true) }
+    ensures { result ≡ first_no (hearing_questions state.now group.n rec.now) }
 {
-    check(n, quorum, rec)?;
+    check(group, rec)?;
     if has_bit(mask_of(state, HEARD, rec[ROUND]), rec[SOURCE]) {
         return Err(Refusal::Duplicate);
     }
@@ -45,14 +45,13 @@ fn hear_record(state: &mut [u32], n: u32, round: u32, source: u32, strong: u32)
     }
 }
 
-// Takes a first message. The quorum is worked out once, for the questions and the commits.
+// Takes a first message. The group is worked out once, for the questions and the commits.
 pub fn take_first_message(state: &mut [u32], rec: &[u32]) -> Result<Added, Refusal>
     ensures { told result state.new ≡ take_first_message state.old rec.now }
 {
     check_state(state)?;
-    let n = state[MEMBER_COUNT];
-    let quorum = quorum_of(n);
-    check_first(state, n, quorum, rec)?;
-    hear_record(state, n, rec[ROUND], rec[SOURCE], rec[BODY + STRONG]);
-    Ok(settle(state, n, quorum))
+    let group = Group::of(state[MEMBER_COUNT]);
+    check_first(state, group, rec)?;
+    hear_record(state, group.n, rec[ROUND], rec[SOURCE], rec[BODY + STRONG]);
+    Ok(settle(state, group))
 }

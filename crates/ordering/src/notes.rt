@@ -5,7 +5,8 @@ ghost use Rattle.ordering.specs.Calls.{note_refusal, take_note, take_timeout, ta
 ghost use Rattle.replica.specs.Layout.{kinds};
 
 use commits::rounds::raise_round;
-use record::members::{has_bit, quorum_of};
+use record::group::Group;
+use record::members::has_bit;
 use record::questions::check_signer;
 use record::refusal::Refusal;
 use replica::answer::{Added, NOTHING};
@@ -43,9 +44,8 @@ pub fn take_timeout(state: &mut [u32], round: u32, signer: u32) -> Result<Added,
     ensures { told result state.new ≡ take_timeout state.old round signer }
 {
     let added = take_note(state, round, signer, TIMEOUTS)?;
-    let n = state[MEMBER_COUNT];
-    let quorum = quorum_of(n);
-    raise_round(state, n, quorum);
+    let group = Group::of(state[MEMBER_COUNT]);
+    raise_round(state, group);
     Ok(added)
 }
 

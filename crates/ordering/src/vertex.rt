@@ -2,7 +2,6 @@
 ghost use Rattle.std.specs.Prelude.{◌≡◌, true, ◌<◌, ◌≤◌, length, Ok};
 ghost use Rattle.record.specs.Refusals.{first_no};
 ghost use Rattle.record.specs.Members.{rounds, slots, legal};
-ghost use Rattle.record.specs.Handed.{QuorumOf};
 ghost use Rattle.record.specs.Layout.{body_size, round_of, source_of, body_of};
 ghost use Rattle.replica.specs.Layout.{state_size};
 ghost use Rattle.replica.specs.Outcome.{told};
@@ -11,11 +10,12 @@ ghost use Rattle.commits.specs.Standing.{GroupOf};
 ghost use Rattle.ordering.specs.Calls.{same_body, place_questions, admission_questions, put_vertex, carry_timeouts, take_vertex};
 ghost use Rattle.ordering.specs.Inner.{Placing, Unstopped};
 
-use super::search::{NONE, first_missing};
+use super::search::first_missing;
 use super::steps::settle;
 use commits::rounds::raise_round;
+use record::group::Group;
 use record::layout::{BODY, BODY_SIZE, RECORD_SIZE, ROUND, SOURCE, TIMEOUTS as RECORD_TIMEOUTS};
-use record::members::{has_bit, quorum_of};
+use record::members::has_bit;
 use record::questions::check;
 use record::refusal::Refusal;
 use record::words::copy_words;
@@ -59,12 +59,12 @@ fn carry_timeouts(state: &mut [u32], round: u32, mask: u32)
 }
 
 // The timeout mask of a vertex counts, and then the round rule.
-fn advance(state: &mut [u32], n: u32, quorum: u32, round: u32, mask: u32)
-    requires { GroupOf state.old n quorum × (1 ≤ round) × (round ≤ rounds) }
+fn advance(state: &mut [u32], group: Group, round: u32, mask: u32)
+    requires { GroupOf state.old group.n × (1 ≤ round) × (round ≤ rounds) }
     ensures { state.new ≡ raise_round (carry_timeouts state.old round mask) }
 {
     carry_timeouts(state, round, mask);
-    raise_round(state, n, quorum);
+    raise_round(state, group);
 }
 
 // Questions 12 to 14, of a vertex that the record's questions admit.
@@ -84,41 +84,44 @@ pub fn check_place(
         }
         return Err(Refusal::Conflict);
     }
-    let id = first_missing(state, n, round, body);
-    let lacks = id < NONE;
-    if lacks {
+    if let Some(id) = first_missing(state, n, round, body) {
         return Err(Refusal::MissingParent(id));
     }
     Ok(())
 }
 
 // Questions 4 to 14, of a vertex for a state whose own questions are passed.
-pub fn check_vertex(state: &[u32], n: u32, quorum: u32, rec: &[u32]) -> Result<(), Refusal>
-    requires { (length state.now ≡ state_size) × (legal n ≡ true) × QuorumOf n quorum }
-    ensures { result ≡ first_no (admission_questions state.now n
+pub fn check_vertex(state: &[u32], group: Group, rec: &[u32]) -> Result<(), Refusal>
+    requires { (length state.now ≡ state_size) × (legal group.n ≡ true) }
+    ensures { result ≡ first_no (admission_questions state.now group.n
         (round_of rec.now) (source_of rec.now) (body_of rec.now)) }
 {
-    check(n, quorum, rec)?;
-    check_place(state, n, rec[ROUND], rec[SOURCE], &rec[BODY..RECORD_SIZE])
+    check(group, rec)?;
+    check_place(
+        state,
+        group.n,
+        rec[ROUND],
+        rec[SOURCE],
+        &rec[BODY..RECORD_SIZE],
+    )
 }
 
 // What follows when no question stops a vertex.
-pub fn admit_vertex(state: &mut [u32], n: u32, quorum: u32, rec: &[u32]) -> Added
-    requires { Unstopped state.old n quorum rec.now }
+pub fn admit_vertex(state: &mut [u32], group: Group, rec: &[u32]) -> Added
+    requires { Unstopped state.old group.n rec.now }
     ensures { told (Ok result) state.new ≡ take_vertex state.old rec.now }
 {
     put_vertex(state, rec[ROUND], rec[SOURCE], &rec[BODY..RECORD_SIZE]);
-    advance(state, n, quorum, rec[ROUND], rec[BODY + RECORD_TIMEOUTS]);
-    settle(state, n, quorum)
+    advance(state, group, rec[ROUND], rec[BODY + RECORD_TIMEOUTS]);
+    settle(state, group)
 }
 
-// Takes a vertex. The quorum is worked out once, for the questions, the round rule and the commits.
+// Takes a vertex. The group is worked out once, for the questions, the round rule and the commits.
 pub fn take_vertex(state: &mut [u32], rec: &[u32]) -> Result<Added, Refusal>
     ensures { told result state.new ≡ take_vertex state.old rec.now }
 {
     check_state(state)?;
-    let n = state[MEMBER_COUNT];
-    let quorum = quorum_of(n);
-    check_vertex(state, n, quorum, rec)?;
-    Ok(admit_vertex(state, n, quorum, rec))
+    let group = Group::of(state[MEMBER_COUNT]);
+    check_vertex(state, group, rec)?;
+    Ok(admit_vertex(state, group, rec))
 }

@@ -8,16 +8,16 @@ use Prim.Native.Nat.{ℕ, ◌-◌, ◌≤◌, ◌<◌}
 use native.Mathlib.Omega.{arith}
 use lib.Dec.{eqb, ltb}
 use lib.ListN.{length, get_or, drop}
-use borrow.Author.Tests.{eqb-true, eqb-false, eq-eqb, ne_eqb, ltb-true, ltb-false, lt-ltb, le-ltb}
+use borrow.Author.Tests.{not-true, eqb-true, eqb-false, eq-eqb, ne_eqb, ltb-true, ltb-false, lt-ltb, le-ltb}
 use Rattle.record.specs.Members.{id_of}
-use Rattle.record.specs.Refusals.{Verdict, number_of, is_missing, first_no}
+use Rattle.record.specs.Refusals.{Verdict, no_refusal, number_of, is_missing, first_no}
 use Rattle.record.specs.Layout.{record_size, round_of, source_of, body_of, round_place, source_place}
 use Rattle.record.specs.Questions.{record_refusal}
 use Rattle.record.specs.declared.refusal.Refusal.{Refusal}
 use Rattle.record.specs.declared.refusal.Refusal.TheVariants.{StateSize, Malformed, Duplicate, Conflict, Buffer, BufferFull}
 use Rattle.record.proofs.Booleans.{which, never, cond_true, cond_false}
 use Rattle.record.proofs.Below.{all_elim}
-use Rattle.record.proofs.Turn.{never_zero, next, stop, both_yes, last_number_law}
+use Rattle.record.proofs.Turn.{never_zero, next, stop, front_err, both_yes, last_number_law}
 use Rattle.replica.specs.Layout.{state_size}
 use Rattle.replica.specs.State.{member_count, leader_count, journal_count}
 use Rattle.replica.specs.WellFormed.{well_formed}
@@ -32,7 +32,7 @@ use Rattle.ordering.proofs.Numbers.{past_state, decided}
 use Rattle.pending.specs.Layout.{buffer_slots}
 use Rattle.pending.specs.Buffer.{record_id, same_record, same_id, some, put_in, count_of, record_at, records_from, records_in, records_ok, buffer_of, buffer_ok}
 use Rattle.pending.specs.Passes.{Passed}
-use Rattle.pending.specs.Early.{later_questions, buffered_questions, early_questions, in_place, refusal_with, release_after}
+use Rattle.pending.specs.Early.{later_questions, buffered_questions, waiting_questions, early_questions, in_place, refusal_with, release_after}
 use Rattle.pending.specs.Early.{told_with, admitted_with, take_vertex_with}
 use Rattle.pending.specs.Inner.{rank, Keepable, Refused, refused_in, keep_early, Standing, Both, both, release_in}
 use Rattle.pending.proofs.Slots.{or-false, records_length, records_at, records_end}
@@ -121,10 +121,28 @@ module _ (s rec : List ℕ) (why : Refusal) where
   unfolding in_place
   early_other h = rw (h, h)
 
+  -- no record of its id waits
+  pub waits_none : no_refusal ≡ first_no (waiting_questions recs rec) → (some (same_record rec) recs ≡ false) × (some (same_id rec) recs ≡ false)
+  waits_none d =
+      let a = both_yes (not (some (same_record rec) recs)) Duplicate _ (never_zero Duplicate) (ap number_of (sym d)) in
+      let b = both_yes (not (some (same_id rec) recs)) Conflict _ (never_zero Conflict) a.1 in
+      (not-true _ a.0, not-true _ b.0)
+
   module _ (h : is_missing (Err why) ≡ true) where
     answered : (x : Refusal) → Err x ≡ first_no (early_questions recs rec why) → is_missing (Err x) ≡ false → refused_in (Err x) s ≡ keep_early s rec (Err why)
     unfolding in_place
     answered x d e = rw (h, ← d, e)
+
+    -- a record of the same id waits
+    pub early_waits : (x : Refusal) → Err x ≡ first_no (waiting_questions recs rec) → refused_in (Err x) s ≡ keep_early s rec (Err why)
+    unfolding first_no
+    early_waits x d = answered x (sym (front_err (waiting_questions recs rec) _ (sym d)))
+        (ap is_missing d ∙ other (not (some (same_record rec) recs)) (not (some (same_id rec) recs)))
+      where
+        other : (a b : Bool) → is_missing (first_no ((a, Duplicate) ∷ (b, Conflict) ∷ [])) ≡ false
+        other true true = refl
+        other true false = refl
+        other false b = refl
 
     pub early_same : some (same_record rec) recs ≡ true → refused_in (Err Duplicate) s ≡ keep_early s rec (Err why)
     early_same a = answered Duplicate (stop _ _ (ap not a)) refl
@@ -244,16 +262,16 @@ module _ (l s rec : List ℕ) (S : WellFormed l) (why : Verdict)
 -- ---- an admission
 
 -- what each step of the code may use
-pub record Admitting (l s rec : List ℕ) (n q : ℕ) (m : List ℕ) : Type 0 where
-  pub standing : Standing m n q
+pub record Admitting (l s rec : List ℕ) (n : ℕ) (m : List ℕ) : Type 0 where
+  pub standing : Standing m n
   pub grown : (k t : List ℕ) → both k t ≡ release_in m s → Later l k
   pub done : (k t : List ℕ) → both k t ≡ release_in m s
       → told_with (Ok (record { leaders = leader_count k - leader_count l; journal = journal_count k - journal_count l })) k t
       ≡ admitted_with l (release_after l s rec)
 
-pub admitting : (l s rec : List ℕ) (n q : ℕ) (m : List ℕ) (a : Added) → Unstopped l n q rec → buffer_ok n s ≡ true → told (Ok a) m ≡ take_vertex l rec
-    → Admitting l s rec n q m
-admitting l s rec n q m a U b e =
+pub admitting : (l s rec : List ℕ) (n : ℕ) (m : List ℕ) (a : Added) → Unstopped l n rec → buffer_ok n s ≡ true → told (Ok a) m ≡ take_vertex l rec
+    → Admitting l s rec n m
+admitting l s rec n m a U b e =
     let w : m ≡ (take_vertex l rec).words = ap (λ (o : Outcome). o.words) e in
     let J = joined l rec U.passed in
     let L : Later l m = rw w J.later in
@@ -261,7 +279,7 @@ admitting l s rec n q m a U b e =
     let G : Good n m = record { formed = L.formed; members = N } in
     let F = formed n s b in
     record {
-      standing = record { size = L.formed.size; formed = well_formed_lem m L.formed; members = sym N; quorum = U.quorum };
+      standing = record { size = L.formed.size; formed = well_formed_lem m L.formed; members = sym N };
       grown = λ k t d. later_then L (rw (ap (λ (x : Both). x.state) d ∙ ap (λ (p : Passed (List ℕ)). p.after) (one_pass n m (records_in s) G 0 F.records))
           (pass_later n 0 m (records_in s) G F.records));
       done = λ k t d. ap (λ (x : Both). told_with (Ok (record {

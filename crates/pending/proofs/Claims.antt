@@ -221,7 +221,8 @@ in_place_missing recs rec (Err x) e = go (which (is_missing (Err x)))
     early false false false p q r h = never h refl
     early false false true p q r h = (q, ltb-true (length recs) buffer_slots r)
 
-    go : (is_missing (Err x) ≡ true) ⊎ (is_missing (Err x) ≡ false) → (is_missing (Err x) ≡ true) × (some (same_id rec) recs ≡ false) × (length recs < buffer_slots)
+    go : (is_missing (Err x) ≡ true) ⊎ (is_missing (Err x) ≡ false) → (is_missing (Err x) ≡ true) × (some (same_id rec) recs
+        ≡ false) × (length recs < buffer_slots)
     go (inl m) = let w = early _ _ _ refl refl refl (rw m at e) in (m, w.0, w.1)
     go (inr m) = never (rw m at e) m
 

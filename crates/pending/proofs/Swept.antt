@@ -12,7 +12,6 @@ use borrow.Author.Tests.{ltb-true, ltb-false}
 use lib.ListN.{length, get_or, drop, set, replicate, length-replicate, get_or-replicate}
 use lib.Seq.{paste, length-paste, get_or-take, get_or-drop}
 use Rattle.record.specs.Refusals.{number_of, missing_number}
-use Rattle.record.specs.Handed.{QuorumOf}
 use Rattle.record.specs.Layout.{record_size}
 use Rattle.record.proofs.Booleans.{which}
 use Rattle.replica.specs.Outcome.{told}
@@ -42,7 +41,8 @@ module _ (l s m : List ℕ) where
       let n : eqb (number_of a) missing_number ≡ true = sym f ∙ h in
       rw (g, ← o, n)
 
-  pub sweep_goes : (j k : ℕ) (a : Result Added Refusal) (rec : List ℕ) → told a m ≡ take_vertex l rec → rec ≡ record_at s j → (b : Bool) → b ≡ eqb (number_of a) missing_number
+  pub sweep_goes : (j k : ℕ) (a : Result Added Refusal) (rec : List ℕ) → told a m ≡ take_vertex l rec → rec ≡ record_at s j → (b : Bool)
+      → b ≡ eqb (number_of a) missing_number
       → b ≡ false → swept k m s ≡ sweep_one l s j k
   sweep_goes j k a rec e d b f h =
       let o : told a m ≡ take_vertex l (record_at s j) = e ∙ ap (take_vertex l) d in
@@ -78,9 +78,9 @@ going_start n l s G F = record {
 }
 
 -- what is asked of the record in slot j
-pub going_trying : (n q : ℕ) (l₀ s₀ l s : List ℕ) (k j : ℕ) → Formed n s₀ → QuorumOf n q → Going n l₀ s₀ l s k j (count_of s₀) → j < count_of s₀
-    → Sweeping l s n q j k
-going_trying n q l₀ s₀ l s k j F h g b =
+pub going_trying : (n : ℕ) (l₀ s₀ l s : List ℕ) (k j : ℕ) → Formed n s₀ → Going n l₀ s₀ l s k j (count_of s₀) → j < count_of s₀
+    → Sweeping l s n j k
+going_trying n l₀ s₀ l s k j F g b =
     let few = F.few in
     let same : record_at s j ≡ record_at s₀ j = g.rest j (omega arith) (omega arith) in
     record {
@@ -88,7 +88,7 @@ going_trying n q l₀ s₀ l s k j F h g b =
       slot = omega arith;
       kept = g.few;
       trying = record {
-        state = record { size = g.good.formed.size; formed = well_formed_lem l g.good.formed; members = sym g.good.members; quorum = h };
+        state = record { size = g.good.formed.size; formed = well_formed_lem l g.good.formed; members = sym g.good.members };
         admitted = rw same (slot_passes n s₀ F j b);
       };
     }

@@ -28,17 +28,17 @@ place_decides l rec S e why d =
     k.last why d ∙ past_state l _ S
 
 -- what each step of the code may use
-pub record Tried (l : List ℕ) (n q : ℕ) (rec : List ℕ) : Type 0 where
+pub record Tried (l : List ℕ) (n : ℕ) (rec : List ℕ) : Type 0 where
   pub long : length rec ≡ record_size
   pub placing : Placing l n (round_of rec) (source_of rec) (take body_size (drop body_place rec))
   pub stopped : (why : Verdict) → why ≡ first_no (place_questions l (round_of rec) (source_of rec) (take body_size (drop body_place rec)))
       → (w : Refusal) → why ≡ Err w
       → (a : Result Added Refusal) → a ≡ Err w → told a l ≡ take_vertex l rec
   pub unstopped : (why : Verdict) → why ≡ first_no (place_questions l (round_of rec) (source_of rec) (take body_size (drop body_place rec))) → number_of why ≡ 0
-      → Unstopped l n q rec
+      → Unstopped l n rec
 
-pub tried : (l : List ℕ) (n q : ℕ) (rec : List ℕ) → Trying l n q rec → Tried l n q rec
-tried l n q rec T =
+pub tried : (l : List ℕ) (n : ℕ) (rec : List ℕ) → Trying l n rec → Tried l n rec
+tried l n rec T =
     let S = formed l T.state.size T.state.formed in
     let e : number_of (record_refusal (member_count l) rec) ≡ 0 = rw T.state.members at T.admitted in
     let k = record_known n rec (place_questions l (round_of rec) (source_of rec) (body_of rec)) (record_refusal n rec) refl T.admitted in
@@ -48,7 +48,6 @@ tried l n q rec T =
       stopped = λ why d w h a f. vertex_refused l rec why (place_decides l rec S e why (rw k.whole at d)) w h a f;
       unstopped = λ why d h. record {
         members = T.state.members;
-        quorum = T.state.quorum;
         passed = ap number_of (sym (place_decides l rec S e why (rw k.whole at d))) ∙ h;
       };
     }

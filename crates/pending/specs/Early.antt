@@ -24,13 +24,11 @@ abbrev pub buffered_questions : List ℕ → List ℕ → List ℕ → List Ques
 buffered_questions l s rec = state_questions l ++ later_questions l s (member_count l) rec
 
 -- In place of 14: a waiting record of the same id gives 12 if it is the same and 13 if not, 32 others give 20, and else it is 14.
+abbrev pub waiting_questions : List (List ℕ) → List ℕ → List Question
+waiting_questions recs rec = (not (some (same_record rec) recs), Duplicate) ∷ (not (some (same_id rec) recs), Conflict) ∷ []
+
 abbrev pub early_questions : List (List ℕ) → List ℕ → Refusal → List Question
-early_questions recs rec why =
-    (not (some (same_record rec) recs), Duplicate)
-    ∷ (not (some (same_id rec) recs), Conflict)
-    ∷ (ltb (length recs) buffer_slots, BufferFull)
-    ∷ (false, why)
-    ∷ []
+early_questions recs rec why = waiting_questions recs rec ++ ((ltb (length recs) buffer_slots, BufferFull) ∷ (false, why) ∷ [])
 
 unfoldable pub in_place : List (List ℕ) → List ℕ → Verdict → Verdict
 in_place recs rec (Ok passed) = no_refusal

@@ -3,7 +3,6 @@ use Rattle.std.specs.Prelude.{◌≡◌, true, cond, List, [], ◌∷◌, ℕ, s
 use Rattle.std.proofs.Math.Seq.{paste}
 use Rattle.record.specs.Members.{legal, rounds, slots}
 use Rattle.record.specs.Refusals.{Verdict, number_of, missing_number, is_missing}
-use Rattle.record.specs.Handed.{QuorumOf}
 use Rattle.record.specs.Layout.{record_size, round_of, source_of}
 use Rattle.record.specs.Questions.{record_refusal}
 use Rattle.record.specs.declared.refusal.Refusal.{Refusal}
@@ -49,7 +48,7 @@ pub record Keepable (s rec : List ℕ) (why : Refusal) : Type 0 where
   pub sound : is_missing (Err why) ≡ true → Sound s
   pub bounded : is_missing (Err why) ≡ true → Bounded rec
 
--- a refusal, and the words of the buffer with it
+-- a verdict, and the words of the buffer with it
 pub record Refused : Type 0 where
   pub why : Verdict
   pub buffer : List ℕ
@@ -57,29 +56,28 @@ pub record Refused : Type 0 where
 abbrev pub refused_in : Verdict → List ℕ → Refused
 refused_in why s = record { why = why; buffer = s }
 
--- the refusal in place of why: with 14 the record is put in
+-- the verdict in place of why: with 14 the record is put in
 abbrev pub keep_early : List ℕ → List ℕ → Verdict → Refused
 keep_early s rec why =
     refused_in (in_place (records_in s) rec why) (cond (is_missing (in_place (records_in s) rec why)) (buffer_of (put_in rec (records_in s))) s)
 
--- a well-formed state of n members, of which q make a quorum
-pub record Standing (l : List ℕ) (n q : ℕ) : Type 0 where
+-- a well-formed state of n members
+pub record Standing (l : List ℕ) (n : ℕ) : Type 0 where
   pub size : length l ≡ state_size
   pub formed : well_formed l ≡ true
   pub members : n ≡ member_count l
-  pub quorum : QuorumOf n q
 
 -- and a record that passes its own questions
-pub record Trying (l : List ℕ) (n q : ℕ) (rec : List ℕ) : Type 0 where
-  pub state : Standing l n q
+pub record Trying (l : List ℕ) (n : ℕ) (rec : List ℕ) : Type 0 where
+  pub state : Standing l n
   pub admitted : number_of (record_refusal n rec) ≡ 0
 
 -- so of the record in slot j, where k of those before it are kept
-pub record Sweeping (l s : List ℕ) (n q j k : ℕ) : Type 0 where
+pub record Sweeping (l s : List ℕ) (n j k : ℕ) : Type 0 where
   pub size : length s ≡ buffer_size
   pub slot : j < buffer_slots
   pub kept : k ≤ j
-  pub trying : Trying l n q (record_at s j)
+  pub trying : Trying l n (record_at s j)
 
 -- the words of state and buffer, and how many records were kept so far
 pub record Swept : Type 0 where

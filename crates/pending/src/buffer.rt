@@ -1,15 +1,15 @@
 // When a pending buffer is well formed.
 ghost use Rattle.std.specs.Prelude.{◌≡◌, true};
 ghost use Rattle.record.specs.Members.{legal};
-ghost use Rattle.record.specs.Handed.{QuorumOf};
 ghost use Rattle.pending.specs.Buffer.{record_id, records_in, records_ok, buffer_ok};
 ghost use Rattle.pending.specs.Inner.{Bounded, Sized};
 
 use super::layout::{BUFFER_SIZE, BUFFER_SLOTS, COUNT, slot_at};
+use record::group::Group;
 use record::layout::{RECORD_SIZE, ROUND, SOURCE};
 use record::members::SLOTS;
 use record::questions::check;
-use replica::wellformed::is_zero;
+use record::words::is_zero;
 
 // The id of a record.
 pub fn id_of(rec: &[u32]) -> u32
@@ -20,16 +20,16 @@ pub fn id_of(rec: &[u32]) -> u32
 }
 
 // Every record passes questions 5 to 11, and has a higher id than the one before.
-fn records_ok(buffer: &[u32], n: u32, quorum: u32) -> bool
-    requires { Sized buffer.now × (legal n ≡ true) × QuorumOf n quorum }
-    ensures { result ≡ records_ok n 0 (records_in buffer.now) }
+fn records_ok(buffer: &[u32], group: Group) -> bool
+    requires { Sized buffer.now × (legal group.n ≡ true) }
+    ensures { result ≡ records_ok group.n 0 (records_in buffer.now) }
 {
     let count = buffer[COUNT];
     let mut last: u32 = 0;
     for j in 0..count {
         let at = slot_at(j);
         let end = at + RECORD_SIZE;
-        if check(n, quorum, &buffer[at..end]).is_err() {
+        if check(group, &buffer[at..end]).is_err() {
             return false;
         }
         let id = id_of(&buffer[at..end]);
@@ -41,10 +41,10 @@ fn records_ok(buffer: &[u32], n: u32, quorum: u32) -> bool
     true
 }
 
-// The buffer is well formed for n members.
-pub fn is_buffer(buffer: &[u32], n: u32, quorum: u32) -> bool
-    requires { (legal n ≡ true) × QuorumOf n quorum }
-    ensures { result ≡ buffer_ok n buffer.now }
+// The buffer is well formed for the group.
+pub fn is_buffer(buffer: &[u32], group: Group) -> bool
+    requires { legal group.n ≡ true }
+    ensures { result ≡ buffer_ok group.n buffer.now }
 {
     if buffer.len() != BUFFER_SIZE {
         return false;
@@ -53,7 +53,7 @@ pub fn is_buffer(buffer: &[u32], n: u32, quorum: u32) -> bool
     if count > BUFFER_SLOTS {
         return false;
     }
-    if !records_ok(buffer, n, quorum) {
+    if !records_ok(buffer, group) {
         return false;
     }
     let rest = slot_at(count);

@@ -2,7 +2,6 @@
 ghost use Rattle.std.specs.Prelude.{◌≡◌, true, length, Ok, Err};
 ghost use Rattle.record.specs.Members.{legal};
 ghost use Rattle.record.specs.Refusals.{first_no};
-ghost use Rattle.record.specs.Handed.{QuorumOf};
 ghost use Rattle.replica.specs.Layout.{state_size};
 ghost use Rattle.ordering.specs.Inner.{Unstopped};
 ghost use Rattle.pending.specs.Buffer.{buffer_ok};
@@ -11,30 +10,24 @@ ghost use Rattle.pending.specs.Inner.{Keepable, refused_in, keep_early};
 
 use super::buffer::{id_of, is_buffer};
 use super::layout::{BUFFER_SLOTS, COUNT};
-use super::moves::{has_id, has_record, put_in, rank_of};
+use super::moves::{check_waiting, put_in, rank_of};
 use super::sweep::release;
 use ordering::vertex::{admit_vertex, check_vertex};
-use record::members::quorum_of;
+use record::group::Group;
 use record::refusal::Refusal;
 use replica::answer::Added;
 use replica::layout::{JOURNAL_COUNT, LEADER_COUNT, MEMBER_COUNT};
 use replica::status::check_state;
 
 // Question 19, and 4 to 14, for a state whose own questions are passed.
-fn check_early(
-    state: &[u32],
-    buffer: &[u32],
-    n: u32,
-    quorum: u32,
-    rec: &[u32],
-) -> Result<(), Refusal>
-    requires { (length state.now ≡ state_size) × (legal n ≡ true) × QuorumOf n quorum }
-    ensures { result ≡ first_no (later_questions state.now buffer.now n rec.now) }
+fn check_early(state: &[u32], buffer: &[u32], group: Group, rec: &[u32]) -> Result<(), Refusal>
+    requires { (length state.now ≡ state_size) × (legal group.n ≡ true) }
+    ensures { result ≡ first_no (later_questions state.now buffer.now group.n rec.now) }
 {
-    if !is_buffer(buffer, n, quorum) {
+    if !is_buffer(buffer, group) {
         return Err(Refusal::Buffer);
     }
-    check_vertex(state, n, quorum, rec)
+    check_vertex(state, group, rec)
 }
 
 // A record whose parent is missing is put in the buffer, unless 12, 13 or 20 is answered in place of 14. Other refusals stay.
@@ -46,11 +39,8 @@ fn keep_early(buffer: &mut [u32], rec: &[u32], why: Refusal) -> Refusal
         return why;
     }
     let j = rank_of(buffer, id_of(rec));
-    if has_record(buffer, j, rec) {
-        return Refusal::Duplicate;
-    }
-    if has_id(buffer, j, rec) {
-        return Refusal::Conflict;
+    if let Err(other) = check_waiting(buffer, j, rec) {
+        return other;
     }
     if buffer[COUNT] == BUFFER_SLOTS {
         return Refusal::BufferFull;
@@ -60,22 +50,23 @@ fn keep_early(buffer: &mut [u32], rec: &[u32], why: Refusal) -> Refusal
 }
 
 // The admission, the passes, and what they add.
-fn admit_with(state: &mut [u32], buffer: &mut [u32], n: u32, quorum: u32, rec: &[u32]) -> Added
-    requires { Unstopped state.old n quorum rec.now × (buffer_ok n buffer.old ≡ true) }
+fn admit_with(state: &mut [u32], buffer: &mut [u32], group: Group, rec: &[u32]) -> Added
+    requires { Unstopped state.old group.n rec.now × (buffer_ok group.n buffer.old ≡ true) }
     ensures { told_with (Ok result) state.new buffer.new
         ≡ admitted_with state.old (release_after state.old buffer.old rec.now) }
 {
     let leaders = state[LEADER_COUNT];
     let journal = state[JOURNAL_COUNT];
-    admit_vertex(state, n, quorum, rec);
-    release(state, buffer, n, quorum);
+    admit_vertex(state, group, rec);
+    release(state, buffer, group);
     Added {
         leaders: state[LEADER_COUNT] - leaders,
         journal: state[JOURNAL_COUNT] - journal,
     }
 }
 
-// Takes a vertex with a pending buffer: one that comes before its parents waits there, and an admitted one releases those that waited for it.
+// Takes a vertex with a pending buffer: one that comes before its parents waits there, and an admitted one releases those that waited
+// for it.
 pub fn take_vertex_with(
     state: &mut [u32],
     buffer: &mut [u32],
@@ -85,10 +76,9 @@ pub fn take_vertex_with(
         ≡ take_vertex_with state.old buffer.old rec.now }
 {
     check_state(state)?;
-    let n = state[MEMBER_COUNT];
-    let quorum = quorum_of(n);
-    if let Err(why) = check_early(state, buffer, n, quorum, rec) {
+    let group = Group::of(state[MEMBER_COUNT]);
+    if let Err(why) = check_early(state, buffer, group, rec) {
         return Err(keep_early(buffer, rec, why));
     }
-    Ok(admit_with(state, buffer, n, quorum, rec))
+    Ok(admit_with(state, buffer, group, rec))
 }

@@ -2,7 +2,7 @@
 ghost use Rattle.std.specs.Prelude.{◌≡◌, ◌≤◌};
 ghost use Rattle.pending.specs.Layout.{buffer_slots, slot_at};
 
-use record::layout::{RECORD_SIZE, wide};
+use record::layout::RECORD_SIZE;
 
 // The most records that it holds.
 pub const BUFFER_SLOTS: u32 = 32;
@@ -19,5 +19,5 @@ pub fn slot_at(j: u32) -> usize
     requires { j ≤ buffer_slots }
     ensures { result ≡ slot_at j }
 {
-    SLOTS_AT + RECORD_SIZE * wide(j)
+    SLOTS_AT + RECORD_SIZE * j as usize
 }

@@ -2,13 +2,16 @@
 ghost use Rattle.std.specs.Prelude.{◌≡◌, ◌<◌, length};
 ghost use Rattle.std.proofs.Math.Seq.{paste};
 ghost use Rattle.record.specs.Layout.{record_size};
+ghost use Rattle.record.specs.Refusals.{first_no};
 ghost use Rattle.pending.specs.Layout.{buffer_size, buffer_slots, slot_at};
-ghost use Rattle.pending.specs.Buffer.{same_record, same_id, some, put_in, count_of, record_at, records_in, buffer_of};
+ghost use Rattle.pending.specs.Buffer.{same_record, put_in, count_of, record_at, records_in, buffer_of};
+ghost use Rattle.pending.specs.Early.{waiting_questions};
 ghost use Rattle.pending.specs.Inner.{Sound, rank, PlaceOf};
 
 use super::buffer::id_of;
 use super::layout::{COUNT, slot_at};
 use record::layout::RECORD_SIZE;
+use record::refusal::Refusal;
 use record::words::copy_words;
 
 // Two records have the same words.
@@ -35,30 +38,23 @@ pub fn rank_of(buffer: &[u32], id: u32) -> u32
     count
 }
 
-// The same record waits: it does so in its place or nowhere.
-pub fn has_record(buffer: &[u32], j: u32, rec: &[u32]) -> bool
+// Whether a record of the same id waits: the same one, or another. It does so in its place or nowhere.
+pub fn check_waiting(buffer: &[u32], j: u32, rec: &[u32]) -> Result<(), Refusal>
     requires { PlaceOf buffer.now j rec.now }
-    ensures { result ≡ some (same_record rec.now) (records_in buffer.now) }
+    ensures { result ≡ first_no (waiting_questions (records_in buffer.now) rec.now) }
 {
     if j >= buffer[COUNT] {
-        return false;
+        return Ok(());
     }
     let at = slot_at(j);
     let end = at + RECORD_SIZE;
-    same_record(rec, &buffer[at..end])
-}
-
-// A record of the same id waits: it does so in that place or nowhere.
-pub fn has_id(buffer: &[u32], j: u32, rec: &[u32]) -> bool
-    requires { PlaceOf buffer.now j rec.now }
-    ensures { result ≡ some (same_id rec.now) (records_in buffer.now) }
-{
-    if j >= buffer[COUNT] {
-        return false;
+    if same_record(rec, &buffer[at..end]) {
+        return Err(Refusal::Duplicate);
     }
-    let at = slot_at(j);
-    let end = at + RECORD_SIZE;
-    id_of(rec) == id_of(&buffer[at..end])
+    if id_of(rec) == id_of(&buffer[at..end]) {
+        return Err(Refusal::Conflict);
+    }
+    Ok(())
 }
 
 // The words of a slot become those of a record.

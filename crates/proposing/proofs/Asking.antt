@@ -9,10 +9,10 @@ use lib.Count.{ones}
 use lib.Dec.{leb}
 use lib.ListN.{length, drop}
 use borrow.Author.Tests.{eq-eqb, ne_eqb, leb-true, le-leb, lt-leb}
-use Rattle.record.specs.Members.{is_round, leader, has, meets, rounds, slots}
+use Rattle.record.specs.Members.{is_round, quorum, leader, has, meets, rounds, slots}
 use Rattle.record.specs.Refusals.{Verdict, no_refusal, number_of, first_no, numbered}
 use Rattle.record.specs.Questions.{quorum_if}
-use Rattle.record.specs.Handed.{QuorumOf, handed_if}
+use Rattle.record.specs.Handed.{QuorumOf}
 use Rattle.record.specs.declared.refusal.Refusal.{Refusal}
 use Rattle.record.specs.declared.refusal.Refusal.TheVariants.{Watcher, Round, Timeouts, NoVotes, Duplicate, FewParents, Signing}
 use Rattle.record.proofs.Booleans.{and_left, and_fails_left, and_fails_right, cond_true, cond_false, passed, failed}
@@ -21,7 +21,7 @@ use Rattle.record.proofs.Turn.{was_err, next, stop, done, front_no, front_yes}
 use Rattle.record.proofs.Handed.{meets_law, wanted_law}
 use Rattle.record.proofs.Composed.{strong_law}
 use Rattle.replica.specs.Layout.{state_size, watcher, leader_count_at, journal_count_at, made_at, signed_at, masks_at, no_votes_kind}
-use Rattle.replica.specs.State.{member_count, current_round, own_word, made_rounds, signed_rounds, held_mask, add_member}
+use Rattle.replica.specs.State.{member_count, current_round, own_word, made_rounds, signed_rounds, held_mask, timeouts_mask, no_votes_mask, add_member}
 use Rattle.replica.specs.Outcome.{Outcome, told, unchanged, outcome}
 use Rattle.replica.specs.Status.{state_questions}
 use Rattle.replica.specs.declared.answer.Added.{Added}
@@ -31,10 +31,12 @@ use Rattle.ordering.proofs.Turns.{state_stops, state_past, state_formed, outcome
 use Rattle.ordering.proofs.Writing.{Calm}
 use Rattle.ordering.proofs.Taking.{told_refused}
 use Rattle.proposing.specs.Own.{is_member, marks_round, mark_round, member_questions}
-use Rattle.proposing.specs.Making.{made_strong, made_record, no_record, making_questions, propose_refusal, Proposed, told_proposal, propose_vertex}
+use Rattle.proposing.specs.Making.{made_strong, wants_timeouts, wants_no_votes, made_timeouts, made_no_votes, made_record}
+use Rattle.proposing.specs.Making.{no_record, making_questions, propose_refusal, Proposed, told_proposal, propose_vertex}
 use Rattle.proposing.specs.Signing.{signing_round, may_sign, signing_questions, sign_refusal, put_own_no_vote, sign_no_vote}
-use Rattle.proposing.specs.Inner.{Opened, Current, draft_of}
+use Rattle.proposing.specs.Inner.{Opened, Current, draft_of, enough_in}
 use Rattle.proposing.specs.declared.making.Draft.{Draft}
+use Rattle.proposing.proofs.Laws.{wanted_enough}
 use Rattle.proposing.proofs.Kept.{MemberKnown, member_passed, making_passed, signing_passed, signing_round_lem, mark_calm, signed_calm, own_most}
 
 -- ---- questions 1, 3 and 16
@@ -87,34 +89,39 @@ module _ (l : List ℕ) (n round : ℕ) (d : Draft) (C : Current l n round) (ed 
   abbrev asked : Verdict
   asked = first_no (drop 1 (making_questions l))
 
-  module _ (q : ℕ) (g : QuorumOf n q) (a : Bool) (ha : a ≡ handed_if q d.wants_timeouts d.timeouts) where
-    ea : a ≡ quorum_if n d.wants_timeouts d.timeouts
-    ea = ha ∙ wanted_law n q _ _ g
+  module _ (q : ℕ) (g : QuorumOf n q) (a : Bool) (ha : a ≡ enough_in q d.timeouts) where
+    g' : QuorumOf (member_count l) q
+    g' = g ∙ ap quorum C.opened.members
+
+    ea : a ≡ quorum_if (member_count l) (wants_timeouts l) (made_timeouts l)
+    ea = unfold made_timeouts in ha ∙ ap (λ (x : Draft). enough_in q x.timeouts) ed
+        ∙ wanted_enough q (wants_timeouts l) (timeouts_mask l (current_round l - 1)) ∙ wanted_law (member_count l) q _ _ g'
 
     pub draft_timeouts : not a ≡ true → Err Timeouts ≡ asked
     unfolding making_questions
-    draft_timeouts h = stop _ _ (rw (ed, C.opened.members) at (failed ea h))
+    draft_timeouts h = stop _ _ (failed ea h)
 
-    module _ (pa : not a ≡ false) (b : Bool) (hb : b ≡ handed_if q d.wants_no_votes d.no_votes) where
-      eb : b ≡ quorum_if n d.wants_no_votes d.no_votes
-      eb = hb ∙ wanted_law n q _ _ g
+    module _ (pa : not a ≡ false) (b : Bool) (hb : b ≡ enough_in q d.no_votes) where
+      eb : b ≡ quorum_if (member_count l) (wants_no_votes l) (made_no_votes l)
+      eb = unfold made_no_votes in hb ∙ ap (λ (x : Draft). enough_in q x.no_votes) ed
+          ∙ wanted_enough q (wants_no_votes l) (no_votes_mask l (current_round l - 1)) ∙ wanted_law (member_count l) q _ _ g'
 
       pub draft_no_votes : not b ≡ true → Err NoVotes ≡ asked
       unfolding making_questions
-      draft_no_votes h = next _ _ (rw (ed, C.opened.members) at (passed ea pa)) (stop _ _ (rw (ed, C.opened.members) at (failed eb h)))
+      draft_no_votes h = next _ _ (passed ea pa) (stop _ _ (failed eb h))
 
       module _ (pb : not b ≡ false) (m : Bool) (em : m ≡ marks_round (made_rounds l) round) where
         pub draft_made : m ≡ true → Err Duplicate ≡ asked
         unfolding making_questions
         draft_made h =
-            next _ _ (rw (ed, C.opened.members) at (passed ea pa)) (next _ _ (rw (ed, C.opened.members) at (passed eb pb))
+            next _ _ (passed ea pa) (next _ _ (passed eb pb)
             (stop _ _ (ap not (rw C.opened.current at (sym em ∙ h)))))
 
         module _ (pm : m ≡ false) where
           last_one : {r : Verdict} → r ≡ first_no (drop 4 (making_questions l)) → r ≡ asked
           unfolding making_questions
           last_one f =
-              next _ _ (rw (ed, C.opened.members) at (passed ea pa)) (next _ _ (rw (ed, C.opened.members) at (passed eb pb))
+              next _ _ (passed ea pa) (next _ _ (passed eb pb)
               (next _ _ (ap not (rw C.opened.current at (sym em ∙ pm))) f))
 
           pub draft_first : round ≡ 1 → no_refusal ≡ asked
@@ -124,18 +131,18 @@ module _ (l : List ℕ) (n round : ℕ) (d : Draft) (C : Current l n round) (ed 
               last_one (next _ _ (rw one (strong_law (member_count l)).0) done)
 
           module _ (later : round ≡ 1 → ⊥) (z : Bool) (hz : z ≡ leb q (ones d.strong)) where
-            ez : z ≡ meets n d.strong
-            ez = hz ∙ meets_law n q _ g
+            ez : z ≡ meets (member_count l) (made_strong l)
+            ez = hz ∙ ap (λ (x : Draft). leb q (ones x.strong)) ed ∙ meets_law (member_count l) q _ g'
 
             pub draft_few : not z ≡ true → Err FewParents ≡ asked
             unfolding making_questions
             draft_few h = last_one (stop _ _ ((strong_law (member_count l)).1 (current_round l) (made_strong l) (λ x. later (C.opened.current ∙ x))
-                ∙ (rw (ed, C.opened.members) at (failed ez h))))
+                ∙ (failed ez h)))
 
             pub draft_done : not z ≡ false → no_refusal ≡ asked
             unfolding making_questions
             draft_done h = last_one (next _ _ ((strong_law (member_count l)).1 (current_round l) (made_strong l) (λ x. later (C.opened.current ∙ x))
-                ∙ (rw (ed, C.opened.members) at (passed ez h))) done)
+                ∙ (passed ez h)) done)
 
 -- ---- making
 

@@ -1,4 +1,7 @@
 -- Each case of the definitions, as a law. Assumes nothing.
+use Rattle.std.specs.Prelude.{Option, Some, None}
+use Rattle.record.specs.Refusals.{or_zero}
+use Rattle.record.specs.Handed.{handed_if}
 use mathlib.Core.Path.{◌≡◌, refl, sym, ap, ap₂, ◌∙◌}
 use mathlib.Core.Bool.{Bool, true, false, cond, not, ◌&&◌}
 use mathlib.Core.List.{List}
@@ -17,14 +20,12 @@ use Rattle.record.proofs.Rounds.{round_range, id_member_lem}
 use Rattle.replica.specs.Layout.{timeouts_kind, no_votes_kind}
 use Rattle.replica.specs.State.{current_round, own_word, signed_rounds, held_mask, mask_of}
 use Rattle.record.specs.Questions.{lacks_leader}
-use Rattle.record.specs.Inner.{terms_of}
 use Rattle.record.specs.declared.members.Members.{Members}
-use Rattle.record.specs.declared.questions.Terms.{Terms}
 use Rattle.record.proofs.Composed.{lacking_law}
 use Rattle.proposing.specs.declared.making.Draft.{Draft}
 use Rattle.proposing.specs.Own.{marks_round}
-use Rattle.proposing.specs.Making.{parents_in, made_strong, made_timeouts, made_no_votes, wants_timeouts, wants_no_votes}
-use Rattle.proposing.specs.Inner.{Current, draft_of, count_in, add_weak, offer_id, offer_round, offer_rounds}
+use Rattle.proposing.specs.Making.{parents_in, made_strong, wants_timeouts, wants_no_votes}
+use Rattle.proposing.specs.Inner.{Current, draft_of, enough_in, count_in, add_weak, offer_id, offer_round, offer_rounds}
 
 -- ---- marks of rounds
 
@@ -90,14 +91,14 @@ pub rounds_none : (rec : List ℕ) (most : ℕ) (l reached : List ℕ) → rec �
 unfolding offer_rounds
 rounds_none rec most l reached = refl
 
-pub rounds_more : (rec : List ℕ) (most : ℕ) (l reached : List ℕ) (t k held : ℕ) (x y : List ℕ) → x ≡ offer_rounds rec most l reached t
-    → held ≡ held_mask l (t + 1) → k ≡ t → y ≡ offer_round x most held (get_or reached k 0) (t + 1) slots → y ≡ offer_rounds rec most l reached (t + 1)
+pub rounds_more : (rec : List ℕ) (most : ℕ) (l reached : List ℕ) (t held : ℕ) (x y : List ℕ) → x ≡ offer_rounds rec most l reached t
+    → held ≡ held_mask l (t + 1) → y ≡ offer_round x most held (get_or reached t 0) (t + 1) slots → y ≡ offer_rounds rec most l reached (t + 1)
 unfolding offer_rounds
-rounds_more rec most l reached t k held x y e h j d = rw (add-one t) (d ∙ same)
+rounds_more rec most l reached t held x y e h d = rw (add-one t) (d ∙ same)
   where
-    same : offer_round x most held (get_or reached k 0) (t + 1) slots
+    same : offer_round x most held (get_or reached t 0) (t + 1) slots
         ≡ offer_round (offer_rounds rec most l reached t) most (held_mask l (suc t)) (get_or reached t 0) (suc t) slots
-    same = rw (h, j, e, add-one t)
+    same = rw (h, e, add-one t)
 
 -- ---- the strong mask
 
@@ -125,10 +126,6 @@ module _ (l : List ℕ) (n round : ℕ) (C : Current l n round) where
 
 -- ---- the draft
 
--- terms that are those of n are those of their own member count
-pub terms_self : (t : Terms) (n r : ℕ) → t ≡ terms_of n r → t ≡ terms_of t.n r
-terms_self t n r e = e ∙ ap (λ (x : Terms). terms_of x.n r) (sym e)
-
 -- a certificate is wanted from round 2 on only
 pub wanted_later : (n r s : ℕ) (a : Bool) → a ≡ lacks_leader n r s → a ≡ true → 2 ≤ r
 wanted_later n r s a e h = lacking_law n r s (sym e ∙ h)
@@ -136,23 +133,31 @@ wanted_later n r s a e h = lacking_law n r s (sym e ∙ h)
 pub led_later : (n r s : ℕ) (a b c : Bool) → a ≡ lacks_leader n r s → b ≡ (a && c) → b ≡ true → 2 ≤ r
 led_later n r s a b c e d h = wanted_later n r s a e (and_left a c (sym d ∙ h))
 
-abbrev draft : ℕ → ℕ → ℕ → Bool → Bool → Draft
-draft s x y a b = record { strong = s; timeouts = x; no_votes = y; wants_timeouts = a; wants_no_votes = b }
+-- a mask as an option where it is wanted is the mask itself, and 0 where not
+pub wanted_mask : (w : Bool) (m : ℕ) → or_zero (cond w (Some m) None) ≡ cond w m 0
+wanted_mask true m = refl
+wanted_mask false m = refl
 
-pub draft_is : (l : List ℕ) (n round : ℕ) → Current l n round → (t : Terms) → t ≡ terms_of n round → (s : ℕ) → s ≡ made_strong l
-    → (a : Bool) → a ≡ lacks_leader t.n round s → (b : Bool) → b ≡ (a && eqb (own_word l - 1) t.leader)
-    → (x : ℕ) → x ≡ cond a (mask_of l timeouts_kind (round - 1)) 0 → (y : ℕ) → y ≡ cond b (mask_of l no_votes_kind (round - 1)) 0
-    → draft s x y a b ≡ draft_of l
-unfolding made_timeouts made_no_votes
-draft_is l n round C t et s es a ea b eb x ex y ey = all_same es
-    (ex ∙ ap₂ (λ (w : Bool) (r : ℕ). cond w (mask_of l timeouts_kind (r - 1)) 0) wants C.opened.current)
-    (ey ∙ ap₂ (λ (w : Bool) (r : ℕ). cond w (mask_of l no_votes_kind (r - 1)) 0) leads C.opened.current) wants leads
+pub wanted_enough : (q : ℕ) (w : Bool) (m : ℕ) → enough_in q (cond w (Some m) None) ≡ handed_if q w (cond w m 0)
+unfolding handed_if
+wanted_enough q true m = refl
+wanted_enough q false m = refl
+
+pub draft_is : (l : List ℕ) (n round : ℕ) → Current l n round → (s : ℕ) → s ≡ made_strong l
+    → (a : Bool) → a ≡ lacks_leader n round s → (b : Bool) → b ≡ (a && eqb (own_word l - 1) (leader n round))
+    → (x : Option ℕ) → x ≡ cond a (Some (mask_of l timeouts_kind (round - 1))) None
+    → (y : Option ℕ) → y ≡ cond b (Some (mask_of l no_votes_kind (round - 1))) None
+    → record { strong = s; timeouts = x; no_votes = y } ≡ draft_of l
+draft_is l n round C s es a ea b eb x ex y ey = all_same es
+    (ex ∙ ap₂ (λ (w : Bool) (r : ℕ). cond w (Some (mask_of l timeouts_kind (r - 1))) None) wants C.opened.current)
+    (ey ∙ ap₂ (λ (w : Bool) (r : ℕ). cond w (Some (mask_of l no_votes_kind (r - 1))) None) leads C.opened.current)
   where
     wants : a ≡ wants_timeouts l
-    wants = ea ∙ rw (et, es, C.opened.members, C.opened.current)
+    wants = ea ∙ rw (es, C.opened.members, C.opened.current)
 
     leads : b ≡ wants_no_votes l
-    leads = eb ∙ ap₂ ◌&&◌ wants (rw (et, C.opened.members, C.opened.current))
+    leads = eb ∙ ap₂ ◌&&◌ wants (rw (C.opened.members, C.opened.current))
 
-    all_same : {s x y s' x' y' : ℕ} {a b a' b' : Bool} → s ≡ s' → x ≡ x' → y ≡ y' → a ≡ a' → b ≡ b' → draft s x y a b ≡ draft s' x' y' a' b'
-    all_same p q r u v = cc
+    all_same : {s s' : ℕ} {x y x' y' : Option ℕ} → s ≡ s' → x ≡ x' → y ≡ y'
+        → ◌≡◌ {A = Draft} (record { strong = s; timeouts = x; no_votes = y }) (record { strong = s'; timeouts = x'; no_votes = y' })
+    all_same p q r = cc

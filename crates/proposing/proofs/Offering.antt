@@ -28,6 +28,8 @@ use Rattle.commits.proofs.Steps.{select_zero}
 use Rattle.proposing.specs.Own.{was_signed}
 use Rattle.proposing.specs.Making.{parents_in, made_strong, made_timeouts, made_no_votes, is_reached, is_unreached, made_record}
 use Rattle.proposing.specs.Inner.{Current, draft_of, count_in, add_weak, offer_id, offer_round, offer_rounds}
+use Rattle.record.specs.Refusals.{or_zero}
+use Rattle.proposing.proofs.Laws.{wanted_mask}
 use Rattle.proposing.specs.declared.making.Draft.{Draft}
 
 -- ---- the numbers that satisfy a test, and the first f of them
@@ -254,7 +256,7 @@ module _ (l : List ℕ) (n round : ℕ) (C : Current l n round) where
   few_faulty = omega (arith, C.opened.few)
 
   module _ (digest : List ℕ) (size : length digest ≡ digest_size) (d : Draft) (ed : d ≡ draft_of l) (first : List ℕ)
-      (ef : first ≡ record_words round (own_word l - 1) d.strong d.timeouts d.no_votes digest []) where
+      (ef : first ≡ record_words round (own_word l - 1) d.strong (or_zero d.timeouts) (or_zero d.no_votes) digest []) where
     -- the record with these weak ids
     abbrev record_with : List ℕ → List ℕ
     record_with = whole round (own_word l - 1) (made_strong l) (made_timeouts l) (made_no_votes l) digest size
@@ -264,7 +266,7 @@ module _ (l : List ℕ) (n round : ℕ) (C : Current l n round) where
     made_is = rw (← weak_below, C.opened.members, C.opened.current)
 
     start : first ≡ record_with (take (faulty n) (select slots (is_unreached l)))
-    start = ef ∙ rw (ed, none_yet) (ap record_with (sym (take_empty (faulty n))))
+    start = ef ∙ rw (ed, none_yet, wanted_mask, wanted_mask) (unfold made_timeouts made_no_votes in ap record_with (sym (take_empty (faulty n))))
       where
         take_empty : (k : ℕ) → ◌≡◌ {A = List ℕ} (take k []) []
         take_empty zero = refl

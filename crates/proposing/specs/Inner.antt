@@ -1,11 +1,12 @@
 -- What the inner functions of making and signing ask and answer. No claim rests on it.
-use Rattle.std.specs.Prelude.{◌≡◌, true, cond, not, ◌&&◌, List, ℕ, zero, suc, ◌+◌, ◌≤◌, ◌<◌, ltb, length, get_or, set}
+use Rattle.std.specs.Prelude.{◌≡◌, Bool, true, cond, not, ◌&&◌, List, ℕ, zero, suc, ◌+◌, ◌-◌, ◌≤◌, ◌<◌, leb, ltb, length, get_or, set, Option, Some, None}
+use Rattle.std.specs.Int.Count.{ones}
 use Rattle.record.specs.Members.{rounds, slots, has, id_of, id_member}
 use Rattle.record.specs.Layout.{body_place, weak_count_place, weak_place}
 use Rattle.replica.specs.Layout.{state_size}
-use Rattle.replica.specs.State.{member_count, current_round, held_mask, own_word}
+use Rattle.replica.specs.State.{member_count, current_round, held_mask, timeouts_mask, no_votes_mask, own_word}
 use Rattle.replica.specs.WellFormed.{well_formed}
-use Rattle.proposing.specs.Making.{made_strong, made_timeouts, made_no_votes, wants_timeouts, wants_no_votes}
+use Rattle.proposing.specs.Making.{made_strong, wants_timeouts, wants_no_votes}
 use Rattle.proposing.specs.declared.making.Draft.{Draft}
 
 -- the words of a member's well-formed state, its member count and its current round
@@ -25,15 +26,18 @@ pub record Current (l : List ℕ) (n round : ℕ) : Type 0 where
   pub opened : Opened l n round
   pub high : round ≤ rounds
 
--- the masks of the record that is made
+-- the masks of the record that is made: those of the round before where they are wanted
 abbrev pub draft_of : List ℕ → Draft
 draft_of l = record {
   strong = made_strong l;
-  timeouts = made_timeouts l;
-  no_votes = made_no_votes l;
-  wants_timeouts = wants_timeouts l;
-  wants_no_votes = wants_no_votes l;
+  timeouts = cond (wants_timeouts l) (Some (timeouts_mask l (current_round l - 1))) None;
+  no_votes = cond (wants_no_votes l) (Some (no_votes_mask l (current_round l - 1))) None;
 }
+
+-- a mask that is wanted has at least q members
+abbrev pub enough_in : ℕ → Option ℕ → Bool
+enough_in q None = true
+enough_in q (Some m) = leb q (ones m)
 
 -- ---- weak ids, one after the other
 

@@ -58,7 +58,7 @@ made_weak l = take (faulty (member_count l)) (select id_limit (is_unreached l))
 unfoldable pub made_record : List ℕ → List ℕ → List ℕ
 made_record l digest = record_words (current_round l) (own_member l) (made_strong l) (made_timeouts l) (made_no_votes l) digest (made_weak l)
 
--- the record that is answered where making is refused
+-- in the place of a record where making is refused
 abbrev pub no_record : List ℕ
 no_record = replicate record_size 0
 

@@ -1,35 +1,34 @@
 // Making our own vertex.
-ghost use Rattle.std.specs.Prelude.{◌≡◌, true, cond, ◌&&◌, [], ◌-◌, ◌<◌, ◌≤◌, eqb, length, drop};
+ghost use Rattle.std.specs.Prelude.{◌≡◌, true, cond, ◌&&◌, [], ◌-◌, ◌<◌, ◌≤◌, eqb, length, drop, Some, None};
 ghost use Rattle.record.specs.Members.{rounds};
-ghost use Rattle.record.specs.Refusals.{first_no};
+ghost use Rattle.record.specs.Refusals.{first_no, or_zero};
 ghost use Rattle.record.specs.Layout.{record_words};
 ghost use Rattle.replica.specs.Layout.{state_size, kinds};
 ghost use Rattle.replica.specs.State.{mask_of};
 ghost use Rattle.proposing.specs.Making.{made_strong, made_record, making_questions, propose_refusal, told_proposal, propose_vertex};
-ghost use Rattle.proposing.specs.Inner.{Current, draft_of};
+ghost use Rattle.proposing.specs.Inner.{Current, draft_of, enough_in};
 
 use super::own::{check_member, mark_round, marks_round};
 use super::weak::offer_rounds;
 use commits::history::reach_of;
+use record::group::{Group, Terms};
 use record::layout::{
     BODY, DIGEST, DIGEST_SIZE, NO_VOTES as RECORD_NO_VOTES, RECORD_SIZE, ROUND, SOURCE, STRONG,
     TIMEOUTS as RECORD_TIMEOUTS,
 };
-use record::members::{Members, ROUNDS, faulty_of, leader_of, quorum_of};
-use record::questions::{lacks_leader, quorum_if, terms_of};
+use record::members::{Members, ROUNDS, faulty_of, leader_of};
+use record::questions::lacks_leader;
 use record::refusal::Refusal;
 use record::words::copy_words;
 use replica::layout::{CURRENT_ROUND, HELD, MADE, MEMBER_COUNT, NO_VOTES, OWN, SIGNED, TIMEOUTS};
 use replica::masks::mask_of;
 
-// The masks of the record, and whether question 9 wants timeouts and question 10 no-votes.
+// The masks of the record: timeouts where question 9 wants them, and no-votes where question 10 does.
 #[derive(Clone, Copy)]
 struct Draft {
     strong: u32,
-    timeouts: u32,
-    no_votes: u32,
-    wants_timeouts: bool,
-    wants_no_votes: bool,
+    timeouts: Option<u32>,
+    no_votes: Option<u32>,
 }
 
 // All held of the round before, less its leader if we signed a no-vote for that round.
@@ -50,15 +49,15 @@ fn strong_of(state: &[u32], n: u32, round: u32) -> u32
     rest.bits
 }
 
-// The mask of that kind of the round before where it is wanted, and 0 where not.
-fn copied(state: &[u32], kind: usize, round: u32, wanted: bool) -> u32
+// The mask of that kind of the round before, where it is wanted.
+fn copied(state: &[u32], kind: usize, round: u32, wanted: bool) -> Option<u32>
     requires { (length state.now ≡ state_size) × (kind < kinds) × (wanted ≡ true → 2 ≤ round) × (round ≤ rounds) }
-    ensures { result ≡ cond wanted (mask_of state.now kind (round - 1)) 0 }
+    ensures { result ≡ cond wanted (Some (mask_of state.now kind (round - 1))) None }
 {
     if !wanted {
-        return 0;
+        return None;
     }
-    mask_of(state, kind, round - 1)
+    Some(mask_of(state, kind, round - 1))
 }
 
 // No-votes are wanted where timeouts are and the own member leads the round.
@@ -72,35 +71,40 @@ fn leads(wants_timeouts: bool, own: u32, leader: u32) -> bool
     own - 1 == leader
 }
 
-fn draft_of(state: &[u32], n: u32, round: u32) -> Draft
-    requires { Current state.now n round }
+fn draft_of(state: &[u32], group: Group, round: u32) -> Draft
+    requires { Current state.now group.n round }
     ensures { result ≡ draft_of state.now }
 {
-    let terms = terms_of(n, round);
-    let strong = strong_of(state, n, round);
-    let wants_timeouts = lacks_leader(terms, round, strong);
+    let terms = Terms::of(group, round);
+    let strong = strong_of(state, group.n, round);
+    let wants_timeouts = lacks_leader(&terms, strong);
     let wants_no_votes = leads(wants_timeouts, state[OWN], terms.leader);
-    let timeouts = copied(state, TIMEOUTS, round, wants_timeouts);
-    let no_votes = copied(state, NO_VOTES, round, wants_no_votes);
     Draft {
         strong,
-        timeouts,
-        no_votes,
-        wants_timeouts,
-        wants_no_votes,
+        timeouts: copied(state, TIMEOUTS, round, wants_timeouts),
+        no_votes: copied(state, NO_VOTES, round, wants_no_votes),
     }
 }
 
-// Questions 9, 10, 12 and 18. The quorum is worked out once.
-fn check_draft(state: &[u32], n: u32, round: u32, draft: Draft) -> Result<(), Refusal>
-    requires { Current state.now n round × (draft ≡ draft_of state.now) }
+// A mask that is wanted is a quorum.
+fn is_enough(quorum: u32, mask: Option<u32>) -> bool
+    ensures { result ≡ enough_in quorum mask }
+{
+    match mask {
+        Some(bits) => Members { bits }.meets_quorum(quorum),
+        None => true,
+    }
+}
+
+// Questions 9, 10, 12 and 18.
+fn check_draft(state: &[u32], group: Group, round: u32, draft: Draft) -> Result<(), Refusal>
+    requires { Current state.now group.n round × (draft ≡ draft_of state.now) }
     ensures { result ≡ first_no (drop 1 (making_questions state.now)) }
 {
-    let quorum = quorum_of(n);
-    if !quorum_if(quorum, draft.wants_timeouts, draft.timeouts) {
+    if !is_enough(group.quorum, draft.timeouts) {
         return Err(Refusal::Timeouts);
     }
-    if !quorum_if(quorum, draft.wants_no_votes, draft.no_votes) {
+    if !is_enough(group.quorum, draft.no_votes) {
         return Err(Refusal::NoVotes);
     }
     if marks_round(state[MADE], round) {
@@ -110,7 +114,7 @@ fn check_draft(state: &[u32], n: u32, round: u32, draft: Draft) -> Result<(), Re
         return Ok(());
     }
     let parents = Members { bits: draft.strong };
-    if !parents.meets_quorum(quorum) {
+    if !parents.meets_quorum(group.quorum) {
         return Err(Refusal::FewParents);
     }
     Ok(())
@@ -123,14 +127,14 @@ fn plain_record(
     draft: Draft,
     digest: &[u32; DIGEST_SIZE],
 ) -> [u32; RECORD_SIZE]
-    ensures { result ≡ record_words round source draft.strong draft.timeouts draft.no_votes digest.now [] }
+    ensures { result ≡ record_words round source draft.strong (or_zero draft.timeouts) (or_zero draft.no_votes) digest.now [] }
 {
     let mut words = [0u32; RECORD_SIZE];
     words[ROUND] = round;
     words[SOURCE] = source;
     words[BODY + STRONG] = draft.strong;
-    words[BODY + RECORD_TIMEOUTS] = draft.timeouts;
-    words[BODY + RECORD_NO_VOTES] = draft.no_votes;
+    words[BODY + RECORD_TIMEOUTS] = draft.timeouts.unwrap_or(0);
+    words[BODY + RECORD_NO_VOTES] = draft.no_votes.unwrap_or(0);
     let start = BODY + DIGEST;
     let end = start + DIGEST_SIZE;
     copy_words(&mut words[start..end], digest);
@@ -142,26 +146,31 @@ fn check_propose(state: &[u32]) -> Result<(), Refusal>
     ensures { result ≡ propose_refusal state.now }
 {
     check_member(state)?;
-    let n = state[MEMBER_COUNT];
+    let group = Group::of(state[MEMBER_COUNT]);
     let round = state[CURRENT_ROUND];
     if ROUNDS < round {
         return Err(Refusal::Round);
     }
-    check_draft(state, n, round, draft_of(state, n, round))
+    check_draft(state, group, round, draft_of(state, group, round))
 }
 
 // The record. Below round 3 there is nothing two rounds down.
-fn record_of(state: &[u32], n: u32, round: u32, digest: &[u32; DIGEST_SIZE]) -> [u32; RECORD_SIZE]
-    requires { Current state.now n round }
+fn record_of(
+    state: &[u32],
+    group: Group,
+    round: u32,
+    digest: &[u32; DIGEST_SIZE],
+) -> [u32; RECORD_SIZE]
+    requires { Current state.now group.n round }
     ensures { result ≡ made_record state.now digest.now }
 {
-    let draft = draft_of(state, n, round);
+    let draft = draft_of(state, group, round);
     let mut words = plain_record(round, state[OWN] - 1, draft, digest);
     if round < 3 {
         return words;
     }
-    let reached = reach_of(state, n, round - 1, draft.strong);
-    offer_rounds(state, &mut words, faulty_of(n), reached, round);
+    let reached = reach_of(state, group.n, round - 1, draft.strong);
+    offer_rounds(state, &mut words, faulty_of(group.n), reached, round);
     words
 }
 
@@ -173,8 +182,9 @@ pub fn propose(
     ensures { told_proposal result state.new ≡ propose_vertex state.old digest.now }
 {
     check_propose(state)?;
+    let group = Group::of(state[MEMBER_COUNT]);
     let round = state[CURRENT_ROUND];
-    let words = record_of(state, state[MEMBER_COUNT], round, digest);
+    let words = record_of(state, group, round, digest);
     mark_round(state, MADE, round);
     Ok(words)
 }

@@ -4,7 +4,7 @@ ghost use Rattle.record.specs.Members.{rounds};
 ghost use Rattle.record.specs.Refusals.{first_no};
 ghost use Rattle.proposing.specs.Own.{marks_round, mark_round, member_questions};
 
-use record::members::{has_bit, is_round, with_bit};
+use record::members::{has_bit, is_round, power};
 use record::refusal::Refusal;
 use replica::layout::{OWN, WATCHER};
 use replica::status::check_state;
@@ -24,8 +24,7 @@ pub fn mark_round(state: &mut [u32], at: usize, round: u32)
     requires { (at < length state.old) × (1 ≤ round) × (round ≤ rounds) }
     ensures { state.new ≡ mark_round state.old at round }
 {
-    let marked = with_bit(state[at], round - 1);
-    state[at] = marked;
+    state[at] |= power(round - 1);
 }
 
 // Questions 1, 3 and 16.

@@ -5,7 +5,7 @@ ghost use Rattle.record.specs.Layout.{weak_slots};
 ghost use Rattle.replica.specs.Layout.{state_size};
 ghost use Rattle.proposing.specs.Inner.{count_in, add_weak, offer_id, offer_round, offer_rounds};
 
-use record::layout::{BODY, RECORD_SIZE, WEAK, WEAK_COUNT, wide};
+use record::layout::{BODY, RECORD_SIZE, WEAK, WEAK_COUNT};
 use record::members::{MASKS, SLOTS, has_bit};
 use replica::layout::HELD;
 use replica::masks::mask_of;
@@ -16,11 +16,12 @@ fn add_weak(words: &mut [u32; RECORD_SIZE], id: u32)
     ensures { words.new ≡ add_weak words.old id }
 {
     let count = words[BODY + WEAK_COUNT];
-    words[BODY + WEAK + wide(count)] = id;
+    words[BODY + WEAK + count as usize] = id;
     words[BODY + WEAK_COUNT] = count + 1;
 }
 
-// The id becomes a weak id if the held mask, of its round, has its member and the reached one has not, and the record has fewer than that many.
+// The id becomes a weak id if the held mask, of its round, has its member and the reached one has not, and the record has fewer than
+// that many.
 fn offer_id(words: &mut [u32; RECORD_SIZE], most: u32, held: u32, reached: u32, id: u32)
     requires { most ≤ weak_slots }
     ensures { words.new ≡ offer_id words.old most held reached id }
@@ -66,7 +67,7 @@ pub fn offer_rounds(
             words,
             most,
             mask_of(state, HELD, t + 1),
-            reached[wide(t)],
+            reached[t as usize],
             t + 1,
         );
     }

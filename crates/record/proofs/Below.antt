@@ -13,13 +13,13 @@ use Rattle.std.specs.Fn.{Called, CalledAt}
 use Rattle.std.specs.Iterator.{ChecksAll, FindsItem}
 use Rattle.std.specs.List.{list_all, range_with_len}
 use Rattle.std.specs.Option.{MatchOption, unwrap_or}
-use Rattle.std.proofs.Common.{Option, None, Some, Bor}
+use Rattle.std.proofs.Common.{Option, None, Some, Bor, is_some}
 use Rattle.std.proofs.iter.Yields.{nat_range_steps}
 use Rattle.std.proofs.lemmas.Iterator.{YieldsList-from_range, first_from_Range}
 use Rattle.std.proofs.lemmas.Iterator.Search.{all_from_yields_List}
 use Rattle.std.specs.declared.ops.Range.{Range}
-use borrow.Author.Tests.{ltb-true, ltb-false}
-use Rattle.record.specs.Below.{all, any, count, select, least}
+use borrow.Author.Tests.{ltb-true, ltb-false, lt-ltb, le-ltb}
+use Rattle.record.specs.Below.{all, any, count, select, least, if_below}
 use Rattle.record.proofs.Booleans.{which, and_left, and_right, and_both, and_fails_left, and_fails_right, or_cases, or_left, or_right}
 use Rattle.record.proofs.Booleans.{bool_ext, cond_false}
 
@@ -258,3 +258,29 @@ least_sat (suc k) t h = go (which (any k t)) (which (t k)) (least_sat k t)
     go (inl e) d r = let w = any_elim k t e in rw e (r (omega (arith, w.1, least_below k t w.0 w.1 w.2)))
     go (inr e) (inl d) r = rw (e, d) d
     go (inr e) (inr d) r = absurd (omega (arith, rw (e, d) at h))
+
+-- ---- a number where it lies below k
+
+pub below_some : (k x y : ℕ) → y ≡ x → y < k → Some y ≡ if_below k x
+below_some k x y e h = ap Some e ∙ sym (ap (λ (b : Bool). cond b (Some x) None) (lt-ltb x k (rw (← e) h)))
+
+pub below_none : (k x : ℕ) → k ≤ x → None ≡ if_below k x
+below_none k x h = sym (ap (λ (b : Bool). cond b (Some x) None) (le-ltb x k h))
+
+pub below_is : (k x y : ℕ) → Some y ≡ if_below k x → (y ≡ x) × (y < k)
+below_is k x y e = go (which (ltb x k))
+  where
+    go : (ltb x k ≡ true) ⊎ (ltb x k ≡ false) → (y ≡ x) × (y < k)
+    go (inl h) = let s : y ≡ x = ap (or y) (rw h at e) in (s, rw s (ltb-true x k h))
+      where
+        or : ℕ → Option ℕ → ℕ
+        or d None = d
+        or d (Some z) = z
+    go (inr h) = absurd (true≢false (ap is_some (rw h at e)))
+
+pub below_off : (k x : ℕ) → None ≡ if_below k x → k ≤ x
+below_off k x e = go (which (ltb x k))
+  where
+    go : (ltb x k ≡ true) ⊎ (ltb x k ≡ false) → k ≤ x
+    go (inl h) = absurd (false≢true (ap is_some (rw h at e)))
+    go (inr h) = ltb-false x k h

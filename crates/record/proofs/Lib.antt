@@ -10,3 +10,4 @@ pub mod Spans
 pub mod Weak
 pub mod Composed
 pub mod Claims
+pub mod Zeros

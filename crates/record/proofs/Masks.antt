@@ -14,7 +14,7 @@ use lib.Pow.{pow_mono, pow-lt, pow_pos, shl_exact}
 use borrow.Author.Tests.{leb-true, leb-false, le-leb, lt-ltb, le-ltb, ltb-true, ltb-false, eqb-true, eq-eqb, ne_eqb}
 use Rattle.record.specs.Below.{count}
 use Rattle.record.specs.Members.{legal, faulty, quorum, leader_at, leader, has, add, remove, within, meets, rounds, slots}
-use Rattle.record.specs.Inner.{largest_mask}
+use Rattle.record.specs.Terms.{largest_mask}
 use Rattle.record.proofs.Booleans.{which, and_left, and_right, and_both, and_fails_right, or_right, bool_ext, cond_true, cond_false}
 use Rattle.record.proofs.Below.{count_cong, count_low}
 

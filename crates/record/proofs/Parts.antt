@@ -16,8 +16,8 @@ use Rattle.record.specs.Refusals.{Verdict, number_of}
 use Rattle.record.specs.Layout.{strong_of, timeouts_of, no_votes_of, body_size}
 use Rattle.record.specs.Questions.{masks_ok, lacks_leader, weak_ok, signer_questions, record_questions, body_refusal}
 use Rattle.record.specs.Handed.{QuorumOf, handed_strong, handed_if, handed_timeouts, handed_no_votes, handed_questions, handed_refusal}
-use Rattle.record.specs.Inner.{largest_mask, terms_of, Known, certified, masks_admitted}
-use Rattle.record.specs.declared.questions.Terms.{Terms}
+use Rattle.record.specs.Inner.{Known, certified, masks_admitted}
+use Rattle.record.specs.Terms.{largest_mask, largest_strong}
 use Rattle.record.proofs.Booleans.{which, and_left, and_right, and_both, and_fails_left, and_fails_right, bool_ext, passed, failed}
 use Rattle.record.proofs.Booleans.{cond_true, cond_false}
 use Rattle.record.proofs.Masks.{or_zero, lt_within, within_or, within_largest}
@@ -27,7 +27,7 @@ use Rattle.record.proofs.Turn.{next, done, known, both_yes}
 
 -- ---- the strong mask: 7 and 8 of it together
 
-module _ (n q round strong most : ℕ) (e : most ≡ cond (eqb round 1) 0 (largest_mask n)) where
+module _ (n q round strong most : ℕ) (e : most ≡ largest_strong n round) where
   -- one above the largest is refused
   pub strong_above : strong < 2 ^ 32 → most < strong → false ≡ (within n strong && handed_strong q round strong)
   unfolding handed_strong
@@ -65,9 +65,8 @@ strong_asked n q round body b m e = e ∙ ap (λ (x : Bool). x && handed_strong 
 -- ---- the two other masks, where the strong mask lacks the previous leader
 
 -- their largest is that of the group
-pub lacks_largest : (t : Terms) (round strong : ℕ) → t ≡ terms_of t.n round → lacks_leader t.n round strong ≡ true → t.largest ≡ largest_mask t.n
-lacks_largest t round strong e k =
-    ap (λ (x : Terms). x.largest) e ∙ cond_false _ _ (ne_eqb round 1 (λ d. omega (arith, lacking_law t.n round strong k)))
+pub lacks_largest : (n round strong most : ℕ) → most ≡ largest_strong n round → lacks_leader n round strong ≡ true → most ≡ largest_mask n
+lacks_largest n round strong most e k = e ∙ cond_false _ _ (ne_eqb round 1 (λ d. omega (arith, lacking_law n round strong k)))
 
 module _ (n q most timeouts no_votes : ℕ) (leads : Bool) (e : most ≡ largest_mask n) (x : timeouts < 2 ^ 32) (y : no_votes < 2 ^ 32) where
   both : leb (bit_or timeouts no_votes) most ≡ (within n timeouts && within n no_votes)
@@ -160,15 +159,15 @@ module _ (n q round source : ℕ) (body : List ℕ) where
 
 -- ---- the test of a body of which 4 to 6 are answered yes
 
-module _ (t : Terms) (q round source : ℕ) (body : List ℕ) (k : Known t round source body × QuorumOf t.n q) (m : Bool)
-    (e : m ≡ masks_admitted t.n q round source body) where
-  decides : eqb (number_of (body_refusal t.n round source body)) 0 ≡ (masks_admitted t.n q round source body && weak_ok t.n round body)
+module _ (n q round source : ℕ) (body : List ℕ) (k : Known n round source body) (h : QuorumOf n q) (m : Bool)
+    (e : m ≡ masks_admitted n q round source body) where
+  decides : eqb (number_of (body_refusal n round source body)) 0 ≡ (masks_admitted n q round source body && weak_ok n round body)
   decides =
-      ap (λ (w : Verdict). eqb (number_of w) 0) (sym (handed_law t.n q k.1 round source body))
-      ∙ admitted_parts t.n q round source body k.0.round_low k.0.round_high k.0.source_low k.0.size
+      ap (λ (w : Verdict). eqb (number_of w) 0) (sym (handed_law n q h round source body))
+      ∙ admitted_parts n q round source body k.round_low k.round_high k.source_low k.size
 
-  pub masks_no : not m ≡ true → false ≡ eqb (number_of (body_refusal t.n round source body)) 0
+  pub masks_no : not m ≡ true → false ≡ eqb (number_of (body_refusal n round source body)) 0
   masks_no h = sym (decides ∙ and_fails_left _ (failed e h))
 
-  pub weak_decides : not m ≡ false → (w : Bool) → w ≡ weak_ok t.n round body → w ≡ eqb (number_of (body_refusal t.n round source body)) 0
+  pub weak_decides : not m ≡ false → (w : Bool) → w ≡ weak_ok n round body → w ≡ eqb (number_of (body_refusal n round source body)) 0
   weak_decides h w d = d ∙ sym (decides ∙ rw (passed e h))

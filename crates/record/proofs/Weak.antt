@@ -1,12 +1,10 @@
 -- Laws of question 11, asked of one weak id after the other and then of the slots that are not used. Assumes nothing.
 use mathlib.Core.Path.{◌≡◌, refl, sym, ap, ◌∙◌}
-use mathlib.Core.Bool.{Bool, true, false, cond, not, ◌&&◌, ◌||◌, and-true}
+use mathlib.Core.Bool.{Bool, true, false, cond, not, ◌&&◌, ◌||◌}
 use mathlib.Core.Logic.{◌⊎◌, inl, inr}
 use mathlib.Core.List.{List}
 use Prim.Native.Nat.{ℕ, zero, suc, ◌+◌, ◌-◌, ◌*◌, ◌≤◌, ◌<◌}
 use native.Mathlib.Omega.{arith}
-use native.Mathlib.Numerals.{add-one}
-use lib.Bits.{bit_or}
 use lib.Dec.{eqb, leb, ltb}
 use borrow.Author.Tests.{le-ltb, leb-true, leb-false, le-leb, lt-leb, lt-ltb, ltb-true, ne_eqb, not-true, not-false}
 use Rattle.record.specs.Below.{all}
@@ -16,7 +14,6 @@ use Rattle.record.specs.Questions.{weak_id_ok, rises, used_ok, slot_ok, weak_ok}
 use Rattle.record.specs.Inner.{used_slots, before_ids}
 use Rattle.record.proofs.Booleans.{which, and_left, and_right, and_both, and_fails_left, bool_ext, cond_true, cond_false, passed, failed}
 use Rattle.record.proofs.Below.{all_cong, all_none, all_more, all_stop, all_intro, all_elim}
-use Rattle.record.proofs.Masks.{or_zero}
 use Rattle.record.proofs.Turn.{weak_id}
 
 -- ---- one weak id after the other
@@ -147,27 +144,3 @@ module _ (n round : ℕ) (body : List ℕ) (f : ℕ) (e : f ≡ faulty n) where
 
     pub slots_decide : not b ≡ false → (z : Bool) → z ≡ rest_zero body k → z ≡ weak_ok n round body
     slots_decide t z ez = ez ∙ sym (decides ∙ rw (passed eb t))
-
--- ---- slots, joined
-
--- the joined words of the slots below i that are not used, with one more
-module _ (body : List ℕ) (count i j : ℕ) (e : eqb j 0 ≡ all i (λ k. ltb k count || eqb (weak_of body k) 0)) where
-  pub joined_more : count ≤ i → eqb (bit_or j (weak_of body i)) 0 ≡ all (i + 1) (λ k. ltb k count || eqb (weak_of body k) 0)
-  unfolding all
-  joined_more h = rw (add-one i, or_zero j (weak_of body i), le-ltb i count h, e)
-
-  pub joined_same : i < count → eqb j 0 ≡ all (i + 1) (λ k. ltb k count || eqb (weak_of body k) 0)
-  unfolding all
-  joined_same h = rw (add-one i, lt-ltb i count h, and-true) e
-
-five : (t : ℕ → Bool) → all weak_slots t ≡ ((((t 0 && t 1) && t 2) && t 3) && t 4)
-unfolding all
-five t = refl
-
-joined : (a b c d e : ℕ) → eqb (bit_or (bit_or (bit_or (bit_or a b) c) d) e) 0 ≡ ((((eqb a 0 && eqb b 0) && eqb c 0) && eqb d 0) && eqb e 0)
-joined a b c d e = rw (or_zero (bit_or (bit_or (bit_or a b) c) d) e, or_zero (bit_or (bit_or a b) c) d, or_zero (bit_or a b) c, or_zero a b)
-
-pub none_used : (body : List ℕ)
-    → eqb (bit_or (bit_or (bit_or (bit_or (weak_of body 0) (weak_of body 1)) (weak_of body 2)) (weak_of body 3)) (weak_of body 4)) 0 ≡ rest_zero body 0
-none_used body =
-    joined (weak_of body 0) (weak_of body 1) (weak_of body 2) (weak_of body 3) (weak_of body 4) ∙ sym (five (λ i. ltb i 0 || eqb (weak_of body i) 0))

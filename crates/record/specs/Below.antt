@@ -1,5 +1,5 @@
 -- Tests of all the numbers below k. Each combinator goes by rising numbers, so that a rising loop keeps it at its index.
-use Rattle.std.specs.Prelude.{Bool, true, false, cond, not, ◌&&◌, ◌||◌, List, [], ◌∷◌, ◌++◌, ℕ, zero, suc, ◌+◌}
+use Rattle.std.specs.Prelude.{Bool, true, false, cond, not, ◌&&◌, ◌||◌, List, [], ◌∷◌, ◌++◌, ℕ, zero, suc, ◌+◌, ltb, Option, Some, None}
 
 -- every number below k satisfies t
 unfoldable pub all : ℕ → (ℕ → Bool) → Bool
@@ -25,6 +25,10 @@ select (suc k) t = select k t ++ cond (t k) (k ∷ []) []
 unfoldable pub least : ℕ → (ℕ → Bool) → ℕ
 least zero t = 0
 least (suc k) t = cond (any k t) (least k t) (cond (t k) k (suc k))
+
+-- x where it lies below k
+abbrev pub if_below : ℕ → ℕ → Option ℕ
+if_below k x = cond (ltb x k) (Some x) None
 
 -- the length of the longest run, from 0 on, of numbers below k that satisfy t
 unfoldable pub longest : ℕ → (ℕ → Bool) → ℕ

@@ -1,30 +1,15 @@
 -- What the inner functions of the questions ask and answer. No claim rests on it.
-use Rattle.std.specs.Prelude.{◌≡◌, Bool, true, cond, ◌&&◌, List, ℕ, ◌-◌, ◌^◌, ◌≤◌, ◌<◌, eqb, leb, ltb, length}
-use Rattle.record.specs.Members.{rounds, leader, within, slots}
+use Rattle.std.specs.Prelude.{◌≡◌, Bool, true, cond, ◌&&◌, List, ℕ, ◌-◌, ◌≤◌, ◌<◌, leb, length}
+use Rattle.record.specs.Members.{rounds, within, slots}
 use Rattle.record.specs.Layout.{body_size, weak_slots, strong_of, weak_count_of}
 use Rattle.record.specs.Questions.{masks_ok}
 use Rattle.record.specs.Handed.{handed_strong, handed_if, handed_timeouts, handed_no_votes}
-use Rattle.record.specs.declared.questions.Terms.{Terms}
 
--- the largest mask of n members: of 32 or more every word is one
-unfoldable pub largest_mask : ℕ → ℕ
-largest_mask n = cond (ltb n 32) (2 ^ n - 1) (2 ^ 32 - 1)
-
--- what the questions need of n and the round, as `Terms`
-abbrev pub terms_of : ℕ → ℕ → Terms
-terms_of n round = record {
-  n = n;
-  previous = leader n (round - 1);
-  leader = leader n round;
-  largest = cond (eqb round 1) 0 (largest_mask n);
-}
-
--- a body of which 4 to 6 are answered yes, with the terms of its round
-pub record Known (terms : Terms) (round source : ℕ) (body : List ℕ) : Type 0 where
-  pub terms_are : terms ≡ terms_of terms.n round
+-- a body of a record of n members of which 4 to 6 are answered yes
+pub record Known (n round source : ℕ) (body : List ℕ) : Type 0 where
   pub round_low : 1 ≤ round
   pub round_high : round ≤ rounds
-  pub source_low : source < terms.n
+  pub source_low : source < n
   pub size : length body ≡ body_size
 
 -- 9 and 10, and 7 of the two masks, where the strong mask lacks the previous leader

@@ -4,6 +4,7 @@ pub mod Refusals
 pub mod Layout
 pub mod Questions
 pub mod Handed
+pub mod Terms
 pub mod Inner
 pub mod Admitted
 pub mod Claims

@@ -68,7 +68,7 @@ record_questions n round source body =
     ∷ (weak_ok n round body, Weak)
     ∷ []))
 
--- the refusal of a round and a signer, of a body whose round and source are given, and of a whole record
+-- the verdict on a round and a signer, on a body whose round and source are given, and of a whole record
 abbrev pub signer_refusal : ℕ → ℕ → ℕ → Verdict
 signer_refusal n round signer = first_no (signer_questions n round signer)
 

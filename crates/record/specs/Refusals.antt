@@ -83,7 +83,7 @@ is_missing why = eqb (number_of why) missing_number
 abbrev pub Question : Type 0
 Question = Bool × Refusal
 
--- the refusal of the first question that is answered no
+-- the refusal of the first question that is answered no, and none where all are answered yes
 unfoldable pub first_no : List Question → Verdict
 first_no [] = no_refusal
 first_no ((true, why) ∷ rest) = first_no rest

@@ -1,5 +1,4 @@
 // The words of a record: round, source, and a body. Every size and place of them is written here.
-ghost use Rattle.std.specs.Prelude.{◌≡◌};
 
 // Of a whole record.
 pub const ROUND: usize = 0;
@@ -29,10 +28,3 @@ pub const WEAK_SLOTS: usize = 5;
 pub const BODY_SIZE: usize = WEAK + WEAK_SLOTS;
 
 pub const RECORD_SIZE: usize = BODY + BODY_SIZE;
-
-// A word as a place or a count.
-pub fn wide(x: u32) -> usize
-    ensures { result ≡ x }
-{
-    x as usize
-}

@@ -2,8 +2,8 @@
 ghost use Rattle.std.specs.Prelude.{◌≡◌, ◌<◌, ◌≤◌, ◌^◌, leb};
 ghost use Rattle.std.specs.Int.Count.{ones};
 ghost use Rattle.record.specs.Members.{rounds, is_round, legal, faulty, quorum, leader_at, leader, most_leaders};
-ghost use Rattle.record.specs.Members.{has, add, remove, within, with, without};
-ghost use Rattle.record.specs.Inner.{largest_mask};
+ghost use Rattle.record.specs.Members.{has, within, with, without};
+ghost use Rattle.record.specs.Terms.{largest_mask};
 
 pub const ROUNDS: u32 = 32;
 
@@ -94,22 +94,6 @@ pub fn has_bit(word: u32, p: u32) -> bool
     (word >> p) % 2 == 1
 }
 
-// The word with bit p set.
-pub fn with_bit(word: u32, p: u32) -> u32
-    requires { p < 32 }
-    ensures { result ≡ add word p }
-{
-    word | power(p)
-}
-
-// The word with bit p cleared.
-pub fn without_bit(word: u32, p: u32) -> u32
-    requires { p < 32 }
-    ensures { result ≡ remove word p }
-{
-    word ^ (word & power(p))
-}
-
 // The largest mask of n members. Of 32 or more every word is one.
 pub fn largest_mask(n: u32) -> u32
     ensures { result ≡ largest_mask n }
@@ -133,7 +117,7 @@ impl Members {
         ensures { result ≡ with self p }
     {
         Members {
-            bits: with_bit(self.bits, p),
+            bits: self.bits | power(p),
         }
     }
 
@@ -142,7 +126,7 @@ impl Members {
         ensures { result ≡ without self p }
     {
         Members {
-            bits: without_bit(self.bits, p),
+            bits: self.bits ^ (self.bits & power(p)),
         }
     }
 

@@ -6,53 +6,21 @@ ghost use Rattle.record.specs.Refusals.{number_of};
 ghost use Rattle.record.specs.Layout.{body_size, weak_slots, weak_of};
 ghost use Rattle.record.specs.Questions.{all_within, lacks_leader, weak_id_ok, used_ok, weak_ok};
 ghost use Rattle.record.specs.Questions.{signer_refusal, body_refusal, record_refusal};
-ghost use Rattle.record.specs.Handed.{QuorumOf, handed_strong, handed_if, handed_refusal};
-ghost use Rattle.record.specs.Inner.{largest_mask, certified, masks_admitted, terms_of, Known, used_slots, before_ids};
+ghost use Rattle.record.specs.Handed.{handed_strong, handed_if, handed_refusal};
+ghost use Rattle.record.specs.Inner.{certified, masks_admitted, Known, used_slots, before_ids};
+ghost use Rattle.record.specs.Terms.{largest_mask};
 
+use super::group::{Group, Terms};
 use super::layout::{
     BODY, BODY_SIZE, NO_VOTES, RECORD_SIZE, ROUND, SOURCE, STRONG, TIMEOUTS, WEAK, WEAK_COUNT,
-    WEAK_SLOTS, wide,
+    WEAK_SLOTS,
 };
-use super::members::{
-    Members, SLOTS, faulty_of, has_bit, is_round, is_within, largest_mask, leader_of,
-};
+use super::members::{Members, SLOTS, faulty_of, has_bit, is_round, is_within};
 use super::refusal::Refusal;
+use super::words::is_zero;
 
 // The number before the first id.
 const BEFORE_IDS: u32 = SLOTS - 1;
-
-// What the questions need of the group and the round, worked out once for all records of a round.
-#[derive(Clone, Copy)]
-pub struct Terms {
-    pub n: u32,
-    pub previous: u32,
-    pub leader: u32,
-    // The largest strong mask: 0 in round 1, and that of the group later.
-    pub largest: u32,
-}
-
-pub fn terms_of(n: u32, round: u32) -> Terms
-    requires { (0 < n) × (1 ≤ round) }
-    ensures { result ≡ terms_of n round }
-{
-    let leader = leader_of(n, round);
-    if round == 1 {
-        return Terms {
-            n,
-            previous: 0,
-            leader,
-            largest: 0,
-        };
-    }
-    let previous = leader_of(n, round - 1);
-    let largest = largest_mask(n);
-    Terms {
-        n,
-        previous,
-        leader,
-        largest,
-    }
-}
 
 // 7
 fn masks_ok(n: u32, strong: u32, timeouts: u32, no_votes: u32) -> bool
@@ -62,26 +30,25 @@ fn masks_ok(n: u32, strong: u32, timeouts: u32, no_votes: u32) -> bool
 }
 
 // 8, and 7 of the strong mask.
-fn strong_ok(terms: Terms, quorum: u32, round: u32, strong: u32) -> bool
-    requires { terms ≡ terms_of terms.n round }
-    ensures { result ≡ (within terms.n strong && handed_strong quorum round strong) }
+fn strong_ok(terms: &Terms, strong: u32) -> bool
+    ensures { result ≡ (within terms.now.group.n strong && handed_strong terms.now.group.quorum terms.now.round strong) }
 {
     if terms.largest < strong {
         return false;
     }
-    if round == 1 {
+    if terms.round == 1 {
         return true;
     }
     let members = Members { bits: strong };
-    members.meets_quorum(quorum)
+    members.meets_quorum(terms.group.quorum)
 }
 
 // The strong mask lacks the previous leader.
-pub fn lacks_leader(terms: Terms, round: u32, strong: u32) -> bool
-    requires { (terms ≡ terms_of terms.n round) × (round ≤ rounds) }
-    ensures { result ≡ lacks_leader terms.n round strong }
+pub fn lacks_leader(terms: &Terms, strong: u32) -> bool
+    requires { terms.now.round ≤ rounds }
+    ensures { result ≡ lacks_leader terms.now.group.n terms.now.round strong }
 {
-    if round < 2 {
+    if terms.round < 2 {
         return false;
     }
     !has_bit(strong, terms.previous)
@@ -99,12 +66,12 @@ pub fn quorum_if(quorum: u32, wanted: bool, mask: u32) -> bool
 }
 
 // 10
-fn no_votes_ok(terms: Terms, quorum: u32, source: u32, lack: bool, no_votes: u32) -> bool
-    ensures { result ≡ handed_if quorum (lack && eqb source terms.leader) no_votes }
+fn no_votes_ok(terms: &Terms, source: u32, lack: bool, no_votes: u32) -> bool
+    ensures { result ≡ handed_if terms.now.group.quorum (lack && eqb source terms.now.leader) no_votes }
 {
     let leads = source == terms.leader;
     if leads {
-        return quorum_if(quorum, lack, no_votes);
+        return quorum_if(terms.group.quorum, lack, no_votes);
     }
     no_votes == 0
 }
@@ -138,27 +105,12 @@ fn weak_ids_ok(n: u32, round: u32, body: &[u32], count: usize) -> bool
     true
 }
 
-// The slots from so many on are 0. Their words are joined and tested once.
+// The slots from so many on are 0.
 fn slots_zero(body: &[u32], count: usize) -> bool
-    requires { length body.now ≡ body_size }
+    requires { (length body.now ≡ body_size) × (count ≤ weak_slots) }
     ensures { result ≡ all weak_slots (λ i. ltb i count || eqb (weak_of body.now i) 0) }
 {
-    let mut joined: u32 = 0;
-    for i in 0..WEAK_SLOTS {
-        let word = body[WEAK + i];
-        if count <= i {
-            joined |= word;
-        }
-    }
-    joined == 0
-}
-
-// All slots are 0.
-fn slots_blank(body: &[u32]) -> bool
-    requires { length body.now ≡ body_size }
-    ensures { result ≡ all weak_slots (λ i. ltb i 0 || eqb (weak_of body.now i) 0) }
-{
-    body[WEAK] | body[WEAK + 1] | body[WEAK + 2] | body[WEAK + 3] | body[WEAK + 4] == 0
+    is_zero(&body[WEAK + count..BODY_SIZE])
 }
 
 // How many slots are used. Only a group of more than 16 members may use more weak ids than there are slots.
@@ -166,7 +118,7 @@ fn used_slots(body: &[u32]) -> usize
     requires { length body.now ≡ body_size }
     ensures { result ≡ used_slots body.now }
 {
-    let count = wide(body[WEAK_COUNT]);
+    let count = body[WEAK_COUNT] as usize;
     if WEAK_SLOTS < count {
         return WEAK_SLOTS;
     }
@@ -179,7 +131,7 @@ fn weak_ok(n: u32, round: u32, body: &[u32]) -> bool
     ensures { result ≡ weak_ok n round body.now }
 {
     if body[WEAK_COUNT] == 0 {
-        return slots_blank(body);
+        return slots_zero(body, 0);
     }
     let most = faulty_of(n);
     if most < body[WEAK_COUNT] {
@@ -193,77 +145,71 @@ fn weak_ok(n: u32, round: u32, body: &[u32]) -> bool
 }
 
 // 9 and 10, and 7 of the two masks, where the strong mask lacks the previous leader. The round is not the first then.
-fn certificates_ok(terms: Terms, quorum: u32, source: u32, timeouts: u32, no_votes: u32) -> bool
-    requires { terms.largest ≡ largest_mask terms.n }
-    ensures { result ≡ certified terms.n quorum (eqb source terms.leader) timeouts no_votes }
+fn certificates_ok(terms: &Terms, source: u32, timeouts: u32, no_votes: u32) -> bool
+    requires { terms.now.largest ≡ largest_mask terms.now.group.n }
+    ensures { result ≡ certified terms.now.group.n terms.now.group.quorum (eqb source terms.now.leader) timeouts no_votes }
 {
     if terms.largest < timeouts | no_votes {
         return false;
     }
-    if !quorum_if(quorum, true, timeouts) {
+    if !quorum_if(terms.group.quorum, true, timeouts) {
         return false;
     }
-    no_votes_ok(terms, quorum, source, true, no_votes)
+    no_votes_ok(terms, source, true, no_votes)
 }
 
 // 7 to 10, of a body of which 4 to 6 are known to be answered yes. Most masks have the previous leader: for them the other two masks
 // are tested at once.
-fn masks_admitted(terms: Terms, quorum: u32, round: u32, source: u32, body: &[u32]) -> bool
-    requires { Known terms round source body.now }
-    ensures { result ≡ masks_admitted terms.n quorum round source body.now }
+fn masks_admitted(terms: &Terms, source: u32, body: &[u32]) -> bool
+    requires { Known terms.now.group.n terms.now.round source body.now }
+    ensures { result ≡ masks_admitted terms.now.group.n terms.now.group.quorum terms.now.round source body.now }
 {
     let strong = body[STRONG];
     let timeouts = body[TIMEOUTS];
     let no_votes = body[NO_VOTES];
-    if !strong_ok(terms, quorum, round, strong) {
+    if !strong_ok(terms, strong) {
         return false;
     }
-    if lacks_leader(terms, round, strong) {
-        return certificates_ok(terms, quorum, source, timeouts, no_votes);
+    if lacks_leader(terms, strong) {
+        return certificates_ok(terms, source, timeouts, no_votes);
     }
     timeouts | no_votes == 0
 }
 
 // Whether 5 to 11 are all answered yes, of a body of which 4 to 6 are known to be.
-pub fn is_admitted(terms: Terms, quorum: u32, round: u32, source: u32, body: &[u32]) -> bool
-    requires { Known terms round source body.now × QuorumOf terms.n quorum }
-    ensures { result ≡ eqb (number_of (body_refusal terms.n round source body.now)) 0 }
+pub fn is_admitted(terms: &Terms, source: u32, body: &[u32]) -> bool
+    requires { Known terms.now.group.n terms.now.round source body.now }
+    ensures { result ≡ eqb (number_of (body_refusal terms.now.group.n terms.now.round source body.now)) 0 }
 {
-    if !masks_admitted(terms, quorum, round, source, body) {
+    if !masks_admitted(terms, source, body) {
         return false;
     }
-    weak_ok(terms.n, round, body)
+    weak_ok(terms.group.n, terms.round, body)
 }
 
 // 7 to 11 in turn, of a body of which 4 to 6 are known to be answered yes.
-fn check_known(
-    terms: Terms,
-    quorum: u32,
-    round: u32,
-    source: u32,
-    body: &[u32],
-) -> Result<(), Refusal>
-    requires { Known terms round source body.now }
-    ensures { result ≡ handed_refusal terms.n quorum round source body.now }
+fn check_known(terms: &Terms, source: u32, body: &[u32]) -> Result<(), Refusal>
+    requires { Known terms.now.group.n terms.now.round source body.now }
+    ensures { result ≡ handed_refusal terms.now.group.n terms.now.group.quorum terms.now.round source body.now }
 {
-    let n = terms.n;
+    let n = terms.group.n;
     let strong = body[STRONG];
     let timeouts = body[TIMEOUTS];
     let no_votes = body[NO_VOTES];
     if !masks_ok(n, strong, timeouts, no_votes) {
         return Err(Refusal::MaskBits);
     }
-    if !strong_ok(terms, quorum, round, strong) {
+    if !strong_ok(terms, strong) {
         return Err(Refusal::Strong);
     }
-    let lack = lacks_leader(terms, round, strong);
-    if !quorum_if(quorum, lack, timeouts) {
+    let lack = lacks_leader(terms, strong);
+    if !quorum_if(terms.group.quorum, lack, timeouts) {
         return Err(Refusal::Timeouts);
     }
-    if !no_votes_ok(terms, quorum, source, lack, no_votes) {
+    if !no_votes_ok(terms, source, lack, no_votes) {
         return Err(Refusal::NoVotes);
     }
-    if !weak_ok(n, round, body) {
+    if !weak_ok(n, terms.round, body) {
         return Err(Refusal::Weak);
     }
     Ok(())
@@ -283,24 +229,22 @@ pub fn check_signer(n: u32, round: u32, signer: u32) -> Result<(), Refusal>
 }
 
 // 4 to 11 in turn, of a body whose round and source are given.
-pub fn check_body(n: u32, quorum: u32, round: u32, source: u32, body: &[u32]) -> Result<(), Refusal>
-    requires { QuorumOf n quorum }
-    ensures { result ≡ body_refusal n round source body.now }
+pub fn check_body(group: Group, round: u32, source: u32, body: &[u32]) -> Result<(), Refusal>
+    ensures { result ≡ body_refusal group.n round source body.now }
 {
     if body.len() != BODY_SIZE {
         return Err(Refusal::RecordSize);
     }
-    check_signer(n, round, source)?;
-    check_known(terms_of(n, round), quorum, round, source, body)
+    check_signer(group.n, round, source)?;
+    check_known(&Terms::of(group, round), source, body)
 }
 
 // 4 to 11 in turn, of a whole record.
-pub fn check(n: u32, quorum: u32, rec: &[u32]) -> Result<(), Refusal>
-    requires { QuorumOf n quorum }
-    ensures { result ≡ record_refusal n rec.now }
+pub fn check(group: Group, rec: &[u32]) -> Result<(), Refusal>
+    ensures { result ≡ record_refusal group.n rec.now }
 {
     if rec.len() != RECORD_SIZE {
         return Err(Refusal::RecordSize);
     }
-    check_body(n, quorum, rec[ROUND], rec[SOURCE], &rec[BODY..RECORD_SIZE])
+    check_body(group, rec[ROUND], rec[SOURCE], &rec[BODY..RECORD_SIZE])
 }

@@ -10,7 +10,6 @@ use lib.ListN.{length, get_or, take, drop, length-drop}
 use lib.Seq.{length-take-le}
 use Rattle.record.specs.Below.{all}
 use Rattle.record.specs.Members.{legal, has, rounds, slots}
-use Rattle.record.specs.declared.questions.Terms.{Terms}
 use Rattle.record.proofs.Booleans.{which, cond_true, cond_false, and_fails_left, passed, failed}
 use Rattle.record.proofs.Below.{all_none, all_cong, all_join}
 use Rattle.record.proofs.Masks.{has_zero, has_bound, legal_range}
@@ -19,7 +18,7 @@ use Rattle.replica.specs.Layout.{cell_at, state_size, round_size}
 use Rattle.replica.specs.State.{member_count, held_mask, cell}
 use Rattle.replica.specs.WellFormed.{each_round, masks_within, record_ok, cell_ok}
 use Rattle.replica.specs.Inner.{GroupedRound, KnownIn}
-use Rattle.replica.proofs.Laws.{blank, part_zero}
+use Rattle.record.proofs.Zeros.{blank, part_zero}
 use Rattle.replica.proofs.Words.{masks_small, round_elim}
 
 -- the lent part is the cell
@@ -59,13 +58,11 @@ module _ (l : List ℕ) (r p at h : ℕ) (b : Bool) (place : at ≡ cell_at r p)
       e ∙ words_part l at (at + body_size) (cell_at r p) body_size place (omega arith) (omega arith) ∙ sym (cell_empty l r p (failed (rw mask at bit) t))
 
   -- or it is held: of its record 4 to 6 are answered yes, and it decides
-  pub cell_known : not b ≡ false → p < slots → (t : Terms) (q : ℕ) → GroupedRound l t q r → KnownIn l t q r p (take ((at + body_size) - at) (drop at l))
-  cell_known held few t q g = rw g.terms_are (record {
+  pub cell_known : not b ≡ false → p < slots → (n : ℕ) → GroupedRound l n r → KnownIn l n r p (take ((at + body_size) - at) (drop at l))
+  cell_known held few n g = rw g.members (record {
     words = g.words;
     members = refl;
-    quorum_of = g.quorum_of;
     known = record {
-      terms_are = refl;
       round_low = g.low;
       round_high = g.high;
       source_low = has_bound _ _ _ (masks_small l r (round_elim (masks_within l) g.words.masks r g.low g.high)).held (passed (rw mask at bit) held);
@@ -121,20 +118,21 @@ module _ (l : List ℕ) (r start : ℕ) (size : length l ≡ state_size) (low : 
       ez ∙ words_part l start (start + round_size) (cell_at r 0) round_size place (omega arith) (omega arith) ∙ round_empty l r (sym eh ∙ e)
 
   -- or the cells of the members and then the others decide
-  module _ (g : legal (member_count l) ≡ true) (w : each_round (masks_within l) ≡ true) (m : Bool) (em : m ≡ all (member_count l) (cell_ok l r)) where
-    decides : (all (member_count l) (cell_ok l r) && all (body_size * (slots - member_count l)) (λ i. eqb (get_or l (cell_at r (member_count l) + i) 0) 0))
+  module _ (n : ℕ) (en : n ≡ member_count l) (g : legal (member_count l) ≡ true) (w : each_round (masks_within l) ≡ true) (m : Bool)
+      (em : m ≡ all n (cell_ok l r)) where
+    decides : (all (n) (cell_ok l r) && all (body_size * (slots - n)) (λ i. eqb (get_or l (cell_at r (n) + i) 0) 0))
         ≡ all slots (cell_ok l r)
-    decides = round_rest l r (member_count l) (legal_range _ g).high (masks_small l r (round_elim (masks_within l) w r low high)).held
+    decides = round_rest l r n (rw en (legal_range _ g).high) (rw en (masks_small l r (round_elim (masks_within l) w r low high)).held)
 
     pub members_no : not m ≡ true → false ≡ all slots (cell_ok l r)
     members_no t = sym (sym decides ∙ and_fails_left _ (failed em t))
 
     pub others_decide : not m ≡ false → (z : Bool)
-        → z ≡ all (body_size * (slots - member_count l)) (λ i. eqb (get_or l (start + body_size * member_count l + i) 0) 0)
+        → z ≡ all (body_size * (slots - n)) (λ i. eqb (get_or l (start + body_size * n + i) 0) 0)
         → z ≡ all slots (cell_ok l r)
     others_decide t z ez =
-        let rest : start + body_size * member_count l ≡ cell_at r (member_count l) = omega arith in
-        ez ∙ ap (λ (a : ℕ). all (body_size * (slots - member_count l)) (λ i. eqb (get_or l (a + i) 0) 0)) rest ∙ rw (passed em t) at decides
+        let rest : start + body_size * n ≡ cell_at r (n) = omega arith in
+        ez ∙ ap (λ (a : ℕ). all (body_size * (slots - n)) (λ i. eqb (get_or l (a + i) 0) 0)) rest ∙ rw (passed em t) at decides
 
 -- the cells from n on, for each n
 pub record RestCells (l : List ℕ) (n start : ℕ) : Type 0 where

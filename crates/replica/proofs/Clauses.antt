@@ -2,23 +2,21 @@
 use mathlib.Core.Path.{◌≡◌, refl, sym, ap, ◌∙◌}
 use mathlib.Core.Bool.{Bool, true, false, not, ◌&&◌, ◌||◌, and-true, and-false}
 use mathlib.Core.List.{List, [], ◌∷◌}
-use mathlib.Core.Logic.{⊎_elim}
-use Prim.Native.Nat.{ℕ, zero, suc, ◌+◌, ◌-◌, ◌≤◌, ◌<◌}
+use Prim.Native.Nat.{ℕ, zero, suc, ◌+◌, ◌≤◌, ◌<◌}
 use native.Mathlib.Omega.{arith}
 use lib.Bits.{bit_or}
 use lib.Dec.{eqb, leb, ltb}
 use lib.ListN.{length, get_or, take, drop}
-use borrow.Author.Tests.{leb-true, le-leb, lt-leb, le-ltb, ltb-false, eq-eqb, ne_eqb}
+use borrow.Author.Tests.{leb-true, le-leb, lt-leb, eq-eqb, ne_eqb}
 use Rattle.record.specs.Below.{all}
 use Rattle.record.specs.Members.{legal, rounds, slots, voted_rounds}
-use Rattle.record.proofs.Booleans.{which, and_left, and_right, and_fails_left, and_fails_right, or_left, or_right, or_cases, never, bool_ext, passed, failed}
-use Rattle.record.proofs.Below.{all_intro, all_elim}
+use Rattle.record.proofs.Booleans.{and_left, and_right, and_fails_left, and_fails_right, passed, failed}
 use Rattle.record.proofs.Masks.{or_zero}
 use Rattle.replica.specs.Layout.{state_size, leaders_at, leaders_size, journal_at, journal_size, leaders_end, journal_end}
 use Rattle.replica.specs.State.{member_count, current_round, committed_round, leader_count, journal_count, held_mask, heard_mask, votes_mask, ordered_mask}
 use Rattle.replica.specs.State.{own_word, made_rounds, signed_rounds}
 use Rattle.replica.specs.WellFormed.{own_ok, each_round, subset, masks_within, cell_ok, leaders_ok, journal_ok, rest_zero, every, clauses, well_formed}
-use Rattle.replica.proofs.Laws.{blank, part_zero}
+use Rattle.record.proofs.Zeros.{blank, rest_part}
 
 -- ---- the five parts of the test
 
@@ -152,45 +150,17 @@ counts l e =
 
 -- ---- list words beyond the counts
 
--- the words of a list of so many from the count on
-rest_words : (l : List ℕ) (at size count : ℕ) → count ≤ size
-    → all (size - count) (λ i. eqb (get_or l (at + count + i) 0) 0) ≡ all size (λ i. ltb i count || eqb (get_or l (at + i) 0) 0)
-rest_words l at size count h =
-    bool_ext
-    (λ e. all_intro size (λ i. ltb i count || eqb (get_or l (at + i) 0) 0)
-    (λ i b. ⊎_elim
-    (λ t. or_left (eqb (get_or l (at + i) 0) 0) t)
-    (λ t. let g : count ≤ i = ltb-false i count t in
-    let same : at + count + (i - count) ≡ at + i = omega arith in
-    let low : i - count < size - count = omega arith in
-    or_right (ltb i count) (rw same at (all_elim (size - count) (λ k. eqb (get_or l (at + count + k) 0) 0) e (i - count) low)))
-    (which (ltb i count))))
-    (λ e. all_intro (size - count) (λ i. eqb (get_or l (at + count + i) 0) 0)
-    (λ i b. let same : at + (count + i) ≡ at + count + i = omega arith in
-    rw same at (⊎_elim
-    (λ t. never t (le-ltb (count + i) count (omega arith)))
-    (λ t. t)
-    (or_cases (ltb (count + i) count) (eqb (get_or l (at + (count + i)) 0) 0)
-    (all_elim size (λ k. ltb k count || eqb (get_or l (at + k) 0) 0) e (count + i) (omega arith))))))
-
--- the part from the count to the end of the list
-rest_part : (l : List ℕ) (at size count start : ℕ) → count ≤ size → at + size ≤ length l → start ≡ count
-    → blank l (at + start) (at + size) ≡ all size (λ i. ltb i count || eqb (get_or l (at + i) 0) 0)
-rest_part l at size count start h k e =
-    let d : (at + size) - (at + count) ≡ size - count = omega arith in
-    rw (e, d) (part_zero l (at + count) (size - count) (omega arith) ∙ rest_words l at size count h)
-
 -- the two lists decide, one after the other
-module _ (l : List ℕ) (a : ℕ) (size : length l ≡ state_size) (few : leader_count l ≤ leaders_size) (ea : a ≡ leader_count l) (y : Bool)
-    (ey : y ≡ blank l (leaders_at + a) leaders_end) where
+module _ (l : List ℕ) (size : length l ≡ state_size) (few : leader_count l ≤ leaders_size) (y : Bool)
+    (ey : y ≡ blank l (leaders_at + leader_count l) leaders_end) where
   rest_leaders : y ≡ all leaders_size (λ i. ltb i (leader_count l) || eqb (get_or l (leaders_at + i) 0) 0)
-  rest_leaders = ey ∙ rest_part l leaders_at leaders_size _ a few (omega arith) ea
+  rest_leaders = ey ∙ rest_part l leaders_at leaders_size _ few (omega arith)
 
   pub rest_no : not y ≡ true → false ≡ rest_zero l
   unfolding rest_zero
   rest_no h = simp (failed rest_leaders h)
 
-  pub rest_journal : not y ≡ false → (b : ℕ) (z : Bool) → journal_count l ≤ journal_size → b ≡ journal_count l → z ≡ blank l (journal_at + b) journal_end
+  pub rest_journal : not y ≡ false → (z : Bool) → journal_count l ≤ journal_size → z ≡ blank l (journal_at + journal_count l) journal_end
       → z ≡ rest_zero l
   unfolding rest_zero
-  rest_journal h b z many eb ez = simp (passed rest_leaders h) (ez ∙ rest_part l journal_at journal_size _ b many (omega arith) eb)
+  rest_journal h z many ez = simp (passed rest_leaders h) (ez ∙ rest_part l journal_at journal_size _ many (omega arith))

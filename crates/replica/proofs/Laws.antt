@@ -1,20 +1,15 @@
 -- Laws of a loop's tests, of zero words, of masks that are joined, and of one mask within another. Assumes nothing.
 use mathlib.Core.Path.{◌≡◌, refl, sym, ap, ◌∙◌}
 use mathlib.Core.Bool.{Bool, true, false, not, ◌&&◌}
-use mathlib.Core.List.{List}
-use Prim.Native.Nat.{ℕ, ◌+◌, ◌-◌, ◌^◌, ◌≤◌, ◌<◌}
-use native.Mathlib.Numerals.{add-one}
+use Prim.Native.Nat.{ℕ, ◌+◌, ◌^◌, ◌≤◌, ◌<◌}
 use native.Mathlib.Omega.{arith}
 use lib.Bits.{bit_or, bit_and, and_le_l}
-use lib.Dec.{eqb}
-use lib.ListN.{length, get_or, take, drop, length-drop}
-use lib.Seq.{length-take-le, get_or-take, get_or-drop}
 use borrow.Author.Tests.{eqb-true, eq-eqb}
 use Rattle.record.specs.Below.{all}
 use Rattle.record.specs.Members.{has, within}
 use Rattle.record.proofs.Booleans.{and_left, and_right, and_both, bool_ext, passed, failed}
-use Rattle.record.proofs.Below.{all_more, all_stop, all_cong}
-use Rattle.record.proofs.Masks.{or_zero, has_and, mask_ext, within_or}
+use Rattle.record.proofs.Below.{all_more, all_stop}
+use Rattle.record.proofs.Masks.{has_and, mask_ext, within_or}
 use Rattle.replica.specs.WellFormed.{subset}
 
 -- ---- a loop that tests each number below n
@@ -27,30 +22,6 @@ all_yes t i b h e f = all_more i t h (passed e f)
 
 pub all_end : (n : ℕ) (t : ℕ → Bool) (i : ℕ) → i ≤ n → n ≤ i → all i t ≡ true → true ≡ all n t
 all_end n t i a b h = let e : i ≡ n = omega arith in sym (rw e at h)
-
--- ---- words that are zero
-
-pub all_suc : (i : ℕ) (t : ℕ → Bool) → all (i + 1) t ≡ (all i t && t i)
-unfolding all
-all_suc i t = rw (add-one i)
-
--- a turn of the loop that joins the words
-pub zero_more : (part : List ℕ) (joined i : ℕ) → eqb joined 0 ≡ all i (λ k. eqb (get_or part k 0) 0)
-    → eqb (bit_or joined (get_or part i 0)) 0 ≡ all (i + 1) (λ k. eqb (get_or part k 0) 0)
-zero_more part joined i e =
-    or_zero joined (get_or part i 0) ∙ ap (λ (b : Bool). b && eqb (get_or part i 0) 0) e ∙ sym (all_suc i (λ k. eqb (get_or part k 0) 0))
-
--- every word of the part from one place to another is 0
-abbrev pub blank : List ℕ → ℕ → ℕ → Bool
-blank l at end = all (length (take (end - at) (drop at l))) (λ i. eqb (get_or (take (end - at) (drop at l)) i 0) 0)
-
--- the words of a part are those of the whole
-pub part_zero : (l : List ℕ) (a k : ℕ) → a + k ≤ length l
-    → all (length (take k (drop a l))) (λ i. eqb (get_or (take k (drop a l)) i 0) 0) ≡ all k (λ i. eqb (get_or l (a + i) 0) 0)
-part_zero l a k h =
-    rw (length-take-le k (drop a l) (omega (arith, length-drop a l)))
-    (all_cong k (λ i. eqb (get_or (take k (drop a l)) i 0) 0) (λ i. eqb (get_or l (a + i) 0) 0)
-    (λ i b. ap (λ (x : ℕ). eqb x 0) (get_or-take k (drop a l) i 0 b ∙ get_or-drop a l i 0)))
 
 -- ---- masks
 

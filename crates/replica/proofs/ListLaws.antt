@@ -90,7 +90,7 @@ pub record Handing (x : Bor (List ℕ)) (k first count : ℕ) : Type 0 where
   pub size : length x.now ≡ state_size
   pub low : k ≤ count
   pub high : first + count ≤ state_size
-  pub done : (a b : ℕ) → a ≡ k → b ≡ count → between x (first + a) (first + b) ≡ cut x (hand_list x.now k first count)
+  pub done : between x (first + k) (first + count) ≡ cut x (hand_list x.now k first count)
 
 module _ (x : Bor (List ℕ)) (k first c : ℕ) (at : ListAt first c) (a : Result Added Refusal) (e : told a x.now
     ≡ ask_list x.now k (get_or x.now c 0))
@@ -116,9 +116,9 @@ module _ (x : Bor (List ℕ)) (k first c : ℕ) (at : ListAt first c) (a : Resul
             (λ p. rw (p.0, p.1) (omega (arith, (counts x.now w.1).0)))
             (λ p. rw (p.0, p.1) (omega (arith, (counts x.now w.1).1)))
             at.list;
-        done = λ i j p q.
-            let d : (first + j) - (first + i) ≡ get_or x.now c 0 - k = omega arith in
-            rw (d, p) (sym (ap (cut x) (span_some _ first k (get_or x.now c 0) (sym asked ∙ ok_number a (sym f ∙ z)))));
+        done =
+            let d : (first + get_or x.now c 0) - (first + k) ≡ get_or x.now c 0 - k = omega arith in
+            rw d (sym (ap (cut x) (span_some _ first k (get_or x.now c 0) (sym asked ∙ ok_number a (sym f ∙ z)))));
       }
 
 -- ---- the law of hand-overs

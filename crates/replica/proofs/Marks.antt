@@ -121,14 +121,14 @@ entry_ordered l i e = and_left (ordered_id l (journal_word l i)) _ e
 
 -- ---- the journal
 
-pub journal_long : (l : List ℕ) (count : ℕ) → count ≡ journal_count l → journal_size < count → false ≡ journal_ok l
+pub journal_long : (l : List ℕ) → journal_size < journal_count l → false ≡ journal_ok l
 unfolding journal_ok
-journal_long l count e h = sym (and_fails_left _ (lt-leb (journal_count l) journal_size (omega arith)))
+journal_long l h = sym (and_fails_left _ (lt-leb (journal_count l) journal_size h))
 
-journal_stop : (l : List ℕ) (count i : ℕ) → count ≡ journal_count l → i < count → entry_ok l i ≡ false → false ≡ journal_ok l
+journal_stop : (l : List ℕ) (i : ℕ) → i < journal_count l → entry_ok l i ≡ false → false ≡ journal_ok l
 unfolding journal_ok
-journal_stop l count i c h e =
-    sym (and_fails_right (leb (journal_count l) journal_size) (and_fails_left _ (all_stop (journal_count l) (entry_ok l) i (omega arith) e)))
+journal_stop l i h e =
+    sym (and_fails_right (leb (journal_count l) journal_size) (and_fails_left _ (all_stop (journal_count l) (entry_ok l) i h e)))
 
 pub imply : (a b : Bool) → (a ≡ true → b ≡ true) → (not a || b) ≡ true
 imply true b h = h refl
@@ -225,52 +225,49 @@ journal_decides l marks e g w f h m = bool_ext
 -- ---- the test, entry after entry
 
 -- the first i entries are new ids, and the marks are theirs
-pub record Reading (l : List ℕ) (count i : ℕ) (marks : List ℕ) : Type 0 where
-  pub below : i ≤ count
-  pub whole : count ≡ journal_count l
-  pub few : count ≤ journal_size
+pub record Reading (l : List ℕ) (i : ℕ) (marks : List ℕ) : Type 0 where
+  pub below : i ≤ journal_count l
+  pub few : journal_count l ≤ journal_size
   pub new : all i (new_id l) ≡ true
   pub marked : Marked l i marks
 
-pub reading_start : (l : List ℕ) (count : ℕ) → count ≡ journal_count l → count ≤ journal_size → Reading l count 0 (replicate rounds 0)
-reading_start l count e f = record { below = omega arith; whole = e; few = f; new = all_none (new_id l); marked = marked_none l }
+pub reading_start : (l : List ℕ) → journal_count l ≤ journal_size → Reading l 0 (replicate rounds 0)
+reading_start l f = record { below = omega arith; few = f; new = all_none (new_id l); marked = marked_none l }
 
 -- x is entry i
-module _ (l : List ℕ) (count i : ℕ) (marks : List ℕ) (R : Reading l count i marks) (h : i < count) (x : ℕ) (is : x ≡ journal_word l i) (b : Bool)
+module _ (l : List ℕ) (i : ℕ) (marks : List ℕ) (R : Reading l i marks) (h : i < journal_count l) (x : ℕ) (is : x ≡ journal_word l i) (b : Bool)
     (e : b ≡ is_round (id_round x)) where
   word : b ≡ is_round (id_round (journal_word l i))
   word = rw is at e
 
   -- it is no id
   pub reading_strange : not b ≡ true → false ≡ journal_ok l
-  reading_strange t = journal_stop l count i R.whole h (entry_strange l i (failed word t))
+  reading_strange t = journal_stop l i h (entry_strange l i (failed word t))
 
   -- or it is one: it stops the test if it is marked, and is marked if it is not
-  module _ (t : not b ≡ false) (at : ℕ) (d : at ≡ id_round x - 1) (m : Bool) (f : m ≡ has (get_or marks at 0) (id_member x)) where
+  module _ (t : not b ≡ false) (m : Bool) (f : m ≡ has (get_or marks (id_round x - 1) 0) (id_member x)) where
     entry_range : (1 ≤ id_round x) × (id_round x ≤ rounds)
     entry_range = round_range _ (passed e t)
 
     entry_mark : among (take i (journal_list l)) (journal_word l i) ≡ m
-    entry_mark = rw (← is) (sym (f ∙ mark_at l i marks x at R.marked entry_range.0 entry_range.1 d))
+    entry_mark = rw (← is) (sym (f ∙ mark_at l i marks x _ R.marked entry_range.0 entry_range.1 refl))
 
     pub reading_twice : m ≡ true → false ≡ journal_ok l
-    reading_twice y = journal_stop l count i R.whole h (entry_twice l i (entry_mark ∙ y))
+    reading_twice y = journal_stop l i h (entry_twice l i (entry_mark ∙ y))
 
-    pub reading_more : m ≡ false → (b : ℕ) → b ≡ add (get_or marks at 0) (id_member x) → length l ≡ state_size
-        → Reading l count (i + 1) (set marks at b)
+    pub reading_more : m ≡ false → (b : ℕ) → b ≡ add (get_or marks (id_round x - 1) 0) (id_member x) → length l ≡ state_size
+        → Reading l (i + 1) (set marks (id_round x - 1) b)
     reading_more y b g size = record {
       below = omega arith;
-      whole = R.whole;
       few = R.few;
       new = all_more _ _ R.new (entry_new l i (passed word t) (entry_mark ∙ y));
-      marked = rw g (marked_more l i marks x at size (omega (arith, R.few, R.whole)) (omega (arith, R.whole)) is R.marked
-          entry_range.0 entry_range.1 d);
+      marked = rw g (marked_more l i marks x _ size (omega (arith, R.few)) h is R.marked entry_range.0 entry_range.1 refl);
     }
 
 -- at the end the marks decide
-pub reading_decides : (l : List ℕ) (count i : ℕ) (marks : List ℕ) (z : Bool) → Reading l count i marks → count ≤ i → length l ≡ state_size
+pub reading_decides : (l : List ℕ) (i : ℕ) (marks : List ℕ) (z : Bool) → Reading l i marks → journal_count l ≤ i → length l ≡ state_size
     → legal (member_count l) ≡ true → each_round (masks_within l) ≡ true → z ≡ all rounds (λ k. eqb (get_or marks k 0) (ordered_mask l (k + 1)))
     → z ≡ journal_ok l
-reading_decides l count i marks z R h e g w d =
+reading_decides l i marks z R h e g w d =
     let same : i ≡ journal_count l = omega arith in
     d ∙ journal_decides l marks e g w (omega arith) (rw same at R.new) (rw same at R.marked)

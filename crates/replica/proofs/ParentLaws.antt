@@ -15,7 +15,6 @@ use Rattle.record.specs.Members.{rounds, legal, has, id_of, id_round, id_member,
 use Rattle.record.specs.Layout.{body_size, weak_slots, strong_of, weak_count_of, weak_of}
 use Rattle.record.specs.Refusals.{number_of}
 use Rattle.record.specs.Questions.{body_refusal}
-use Rattle.record.specs.declared.questions.Terms.{Terms}
 use Rattle.record.specs.Admitted.{Admitted}
 use Rattle.record.proofs.Booleans.{never, and_left, and_right, and_both, and_fails_left, or_left, or_right, or_cases, bool_ext, passed, failed}
 use Rattle.record.proofs.Below.{all_intro, all_elim, any_intro, any_elim, any_false, any_off}
@@ -164,8 +163,8 @@ weak_held_id l body W i low b e = rw (round_in _ (W.low i low) (W.high i low)) e
 
 -- ---- the test of a record: it is admitted, and then its parents decide
 
-module _ (l : List ℕ) (t : Terms) (q r p : ℕ) (body : List ℕ) (k : KnownIn l t q r p body) (m : Bool)
-    (em : m ≡ eqb (number_of (body_refusal t.n r p body)) 0) where
+module _ (l : List ℕ) (n r p : ℕ) (body : List ℕ) (k : KnownIn l n r p body) (m : Bool)
+    (em : m ≡ eqb (number_of (body_refusal n r p body)) 0) where
   asked : m ≡ eqb (number_of (body_refusal (member_count l) r p body)) 0
   asked = rw k.members at em
 

@@ -6,7 +6,6 @@ use mathlib.Core.List.{List}
 use Prim.Native.Nat.{ℕ, zero, suc, ◌+◌, ◌-◌, ◌≤◌, ◌<◌}
 use native.Mathlib.Omega.{arith}
 use lib.Dec.{eqb, ltb}
-use lib.ListN.{get_or}
 use borrow.Author.Tests.{eq-eqb, ne_eqb, lt-ltb, le-ltb, not-true}
 use Rattle.record.specs.Below.{any, least}
 use Rattle.record.specs.Members.{leader_at, most_leaders, id_round, id_member, is_round, rounds, slots}
@@ -15,7 +14,6 @@ use Rattle.record.proofs.Below.{any_false, least_at, least_le}
 use Rattle.record.proofs.Masks.{leader_at_lt, leaders_apart}
 use Rattle.record.proofs.Rounds.{round_range, round_in, id_round_lem, id_member_lem}
 use Rattle.protocol.specs.Chain.{leader_id}
-use Rattle.replica.specs.Layout.{leaders_at}
 use Rattle.replica.specs.State.{member_count, leader_count, leader_word, width, leader_index, last_leader, last_place, held_id}
 use Rattle.replica.specs.WellFormed.{round_before, place_before, comes_next, leader_ok}
 use Rattle.replica.proofs.Width.{width_most, width_same}
@@ -76,9 +74,9 @@ place_kept l m e f g = go (leader_count l) refl
         ∙ sym (place_some l (λ z. omega arith))
 
 -- what reading it needs of the last entry
-pub end_at : (l : List ℕ) (count : ℕ) → count ≡ leader_count l → (count ≡ 0 → ⊥)
-    → (leader_index l (get_or l (leaders_at + (count - 1)) 0) ≤ most_leaders) × (leader_index l (get_or l (leaders_at + (count - 1)) 0) + 1 ≡ last_place l)
-end_at l count e h = rw e (omega (arith, index_le l (last_leader l), width_most l), sym (place_some l (λ d. h (e ∙ d))))
+pub end_at : (l : List ℕ) → (leader_count l ≡ 0 → ⊥)
+    → (leader_index l (last_leader l) ≤ most_leaders) × (leader_index l (last_leader l) + 1 ≡ last_place l)
+end_at l h = (omega (arith, index_le l (last_leader l), width_most l), sym (place_some l h))
 
 -- ---- an entry of the list
 

@@ -1,10 +1,10 @@
 -- Laws of the state's questions. Assumes nothing.
-use mathlib.Core.Path.{◌≡◌, refl, sym, ap, ◌∙◌}
+use mathlib.Core.Path.{◌≡◌, refl}
 use mathlib.Core.Bool.{true}
 use mathlib.Core.List.{List}
 use Prim.Native.Nat.{ℕ}
 use lib.ListN.{length}
-use borrow.Author.Tests.{eqb-true, eqb-false, eq-eqb, ne_eqb}
+use borrow.Author.Tests.{eqb-true, eqb-false}
 use Rattle.record.specs.Refusals.{number_of, first_no, numbered}
 use Rattle.record.proofs.Turn.{both_yes}
 use Rattle.replica.specs.Layout.{state_size}

@@ -4,9 +4,7 @@ use Rattle.record.specs.Members.{rounds, legal, id_round}
 use Rattle.record.specs.Layout.{body_size, weak_slots, weak_count_of, weak_of}
 use Rattle.record.specs.Refusals.{number_of}
 use Rattle.record.specs.Questions.{body_refusal}
-use Rattle.record.specs.Handed.{QuorumOf}
-use Rattle.record.specs.Inner.{terms_of, Known}
-use Rattle.record.specs.declared.questions.Terms.{Terms}
+use Rattle.record.specs.Inner.{Known}
 use Rattle.replica.specs.Layout.{state_size, leaders_at, leader_count_at, journal_at, journal_count_at}
 use Rattle.replica.specs.State.{member_count}
 use Rattle.replica.specs.WellFormed.{each_round, masks_within}
@@ -24,20 +22,18 @@ pub record Grouped (l : List ℕ) : Type 0 where
   pub group : legal (member_count l) ≡ true
   pub masks : each_round (masks_within l) ≡ true
 
--- such words, a round with its terms, and q, which is 2f + 1
-pub record GroupedRound (l : List ℕ) (terms : Terms) (q r : ℕ) : Type 0 where
+-- such words of n members, and a round
+pub record GroupedRound (l : List ℕ) (n r : ℕ) : Type 0 where
   pub words : Grouped l
-  pub terms_are : terms ≡ terms_of (member_count l) r
-  pub quorum_of : QuorumOf (member_count l) q
+  pub members : n ≡ member_count l
   pub low : 1 ≤ r
   pub high : r ≤ rounds
 
--- such words, and the body of a record of round r and member p of which 4 to 6 are answered yes, with the terms and q
-pub record KnownIn (l : List ℕ) (terms : Terms) (q r p : ℕ) (body : List ℕ) : Type 0 where
+-- such words, and the body of a record of round r and member p of which 4 to 6 are answered yes
+pub record KnownIn (l : List ℕ) (n r p : ℕ) (body : List ℕ) : Type 0 where
   pub words : Grouped l
-  pub members : terms.n ≡ member_count l
-  pub quorum_of : QuorumOf terms.n q
-  pub known : Known terms r p body
+  pub members : n ≡ member_count l
+  pub known : Known n r p body
 
 -- the words of a state, and the body of a record of round r that its group admits
 pub record AdmittedIn (l : List ℕ) (r : ℕ) (body : List ℕ) : Type 0 where

@@ -3,7 +3,7 @@ ghost use Rattle.std.specs.Prelude.{◌≡◌, ◌<◌, ◌≤◌};
 ghost use Rattle.record.specs.Members.{rounds, slots, id_round, is_round};
 ghost use Rattle.replica.specs.Layout.{masks_at, cell_at};
 
-use record::layout::{BODY_SIZE, wide};
+use record::layout::BODY_SIZE;
 use record::members::{ID_LIMIT, ROUNDS, SLOTS};
 
 // The head: words 0 to 7.
@@ -70,14 +70,14 @@ pub fn masks_at(round: u32) -> usize
     requires { (1 ≤ round) × (round ≤ rounds) }
     ensures { result ≡ masks_at round }
 {
-    wide(HEAD_SIZE as u32 + KINDS as u32 * (round - 1))
+    HEAD_SIZE + KINDS * (round - 1) as usize
 }
 
 pub fn cell_at(round: u32, member: u32) -> usize
     requires { (1 ≤ round) × (round ≤ rounds) × (member < slots) }
     ensures { result ≡ cell_at round member }
 {
-    wide(CELLS as u32 + BODY_SIZE as u32 * (SLOTS * (round - 1) + member))
+    CELLS + BODY_SIZE * (SLOTS * (round - 1) + member) as usize
 }
 
 // The number is the id of a vertex of rounds 1 to 32.

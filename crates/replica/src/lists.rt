@@ -9,7 +9,6 @@ ghost use Rattle.replica.specs.Lists.{ask_list, ask_leaders, ask_journal, hand_l
 use super::answer::{Added, NOTHING};
 use super::layout::{JOURNAL, JOURNAL_COUNT, LEADER_COUNT, LEADERS};
 use super::status::check_state;
-use record::layout::wide;
 use record::refusal::Refusal;
 
 // Asks for a list from entry k on. Its count is the word `count`.
@@ -32,8 +31,8 @@ fn hand_list(state: &[u32], k: u32, first: usize, count: usize) -> &[u32]
     if ask_list(state, k, count).is_err() {
         return &state[..0];
     }
-    let start = first + wide(k);
-    let end = first + wide(state[count]);
+    let start = first + k as usize;
+    let end = first + state[count] as usize;
     &state[start..end]
 }
 

@@ -11,7 +11,7 @@ ghost use Rattle.replica.specs.Inner.{AdmittedIn, WeakIn};
 
 use super::layout::HELD;
 use super::masks::mask_of;
-use record::layout::{STRONG, WEAK, WEAK_COUNT, WEAK_SLOTS, wide};
+use record::layout::{STRONG, WEAK, WEAK_COUNT, WEAK_SLOTS};
 use record::members::{SLOTS, has_bit};
 
 // The strong parents, in the round before, are held.
@@ -27,7 +27,7 @@ fn weak_held(state: &[u32], body: &[u32]) -> bool
     requires { WeakIn state.now body.now }
     ensures { result ≡ all (weak_count_of body.now) (λ i. held_id state.now (weak_of body.now i)) }
 {
-    let count = wide(body[WEAK_COUNT]);
+    let count = body[WEAK_COUNT] as usize;
     for i in 0..WEAK_SLOTS {
         if count <= i {
             return true;

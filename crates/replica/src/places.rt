@@ -4,7 +4,6 @@ ghost use Rattle.replica.specs.Layout.{state_size, leaders_size};
 ghost use Rattle.replica.specs.State.{member_count, leader_count, width, leader_index, last_place};
 
 use super::layout::{LEADER_COUNT, LEADERS, is_id};
-use record::layout::wide;
 use record::members::{SLOTS, leader_at};
 
 // How many leaders a round has: one so far.
@@ -36,7 +35,7 @@ pub fn last_place(state: &[u32], n: u32) -> u32
     requires { (length state.now ≡ state_size) × (n ≡ member_count state.now) × (0 < n) × (leader_count state.now ≤ leaders_size) }
     ensures { result ≡ last_place state.now }
 {
-    let count = wide(state[LEADER_COUNT]);
+    let count = state[LEADER_COUNT] as usize;
     if count == 0 {
         return 0;
     }

@@ -2,7 +2,6 @@
 ghost use Rattle.std.specs.Prelude.{◌≡◌, true, ◌+◌, ◌-◌, ◌*◌, ◌<◌, ◌≤◌, eqb, length, get_or, take, drop};
 ghost use Rattle.record.specs.Below.{all};
 ghost use Rattle.record.specs.Members.{rounds, slots, legal, id_round};
-ghost use Rattle.record.specs.Handed.{QuorumOf};
 ghost use Rattle.record.specs.Layout.{body_size};
 ghost use Rattle.replica.specs.Layout.{cell_at, state_size, kinds, leaders_size, journal_size, round_size};
 ghost use Rattle.replica.specs.State.{member_count, committed_round, leader_count, journal_count, ordered_mask, leader_index};
@@ -19,25 +18,14 @@ use super::layout::{
 use super::masks::{is_marked, mask_of};
 use super::parents::parents_held;
 use super::places::{index_of, width_of};
-use record::layout::{BODY_SIZE, wide};
-use record::members::{
-    MASKS, Members, ROUNDS, SLOTS, VOTED_ROUNDS, has_bit, is_legal, is_within, quorum_of,
-};
-use record::questions::{Terms, is_admitted, terms_of};
+use record::group::{Group, Terms};
+use record::layout::BODY_SIZE;
+use record::members::{MASKS, Members, ROUNDS, SLOTS, VOTED_ROUNDS, has_bit, is_legal, is_within};
+use record::questions::is_admitted;
+use record::words::is_zero;
 
 // The current round when the last one is passed.
 const AFTER_LAST: u32 = ROUNDS + 1;
-
-// Every word of the part is 0. The words are joined before they are tested, so that no word costs a branch.
-pub fn is_zero(part: &[u32]) -> bool
-    ensures { result ≡ all (length part.now) (λ i. eqb (get_or part.now i 0) 0) }
-{
-    let mut joined: u32 = 0;
-    for word in part {
-        joined |= *word;
-    }
-    joined == 0
-}
 
 // Words 5 to 7. A watcher has made no record and signed no no-vote.
 fn own_ok(state: &[u32]) -> bool
@@ -107,45 +95,38 @@ fn kind_within(state: &[u32], kind: usize, other: usize) -> bool
 }
 
 // The record passes questions 5 to 11 and 14.
-fn record_ok(
-    state: &[u32],
-    terms: Terms,
-    quorum: u32,
-    round: u32,
-    source: u32,
-    body: &[u32],
-) -> bool
-    requires { KnownIn state.now terms quorum round source body.now }
-    ensures { result ≡ record_ok state.now round source body.now }
+fn record_ok(state: &[u32], terms: &Terms, source: u32, body: &[u32]) -> bool
+    requires { KnownIn state.now terms.now.group.n terms.now.round source body.now }
+    ensures { result ≡ record_ok state.now terms.now.round source body.now }
 {
-    if !is_admitted(terms, quorum, round, source, body) {
+    if !is_admitted(terms, source, body) {
         return false;
     }
-    parents_held(state, round, body)
+    parents_held(state, terms.round, body)
 }
 
 // A held record passes questions 5 to 11 and 14, and a cell not held is zero. The cell stands at the given word.
-fn cell_ok(state: &[u32], terms: Terms, quorum: u32, round: u32, member: u32, at: usize) -> bool
-    requires { GroupedRound state.now terms quorum round × (member < slots) × (at ≡ cell_at round member) }
-    ensures { result ≡ cell_ok state.now round member }
+fn cell_ok(state: &[u32], terms: &Terms, member: u32, at: usize) -> bool
+    requires { GroupedRound state.now terms.now.group.n terms.now.round × (member < slots) × (at ≡ cell_at terms.now.round member) }
+    ensures { result ≡ cell_ok state.now terms.now.round member }
 {
     let end = at + BODY_SIZE;
-    if !has_bit(mask_of(state, HELD, round), member) {
+    if !has_bit(mask_of(state, HELD, terms.round), member) {
         return is_zero(&state[at..end]);
     }
-    record_ok(state, terms, quorum, round, member, &state[at..end])
+    record_ok(state, terms, member, &state[at..end])
 }
 
 // The cells of the members pass.
-fn members_ok(state: &[u32], n: u32, quorum: u32, round: u32) -> bool
-    requires { Grouped state.now × (n ≡ member_count state.now) × QuorumOf n quorum × (1 ≤ round) × (round ≤ rounds) }
-    ensures { result ≡ all n (cell_ok state.now round) }
+fn members_ok(state: &[u32], group: Group, round: u32) -> bool
+    requires { GroupedRound state.now group.n round }
+    ensures { result ≡ all group.n (cell_ok state.now round) }
 {
-    let terms = terms_of(n, round);
+    let terms = Terms::of(group, round);
     // `all` over the members, with `cell_at` for each, was tried: the test of a state with 31 full rounds took 28% longer.
     let mut at = cell_at(round, 0);
-    for p in 0..n {
-        if !cell_ok(state, terms, quorum, round, p, at) {
+    for p in 0..group.n {
+        if !cell_ok(state, &terms, p, at) {
             return false;
         }
         at += BODY_SIZE;
@@ -179,29 +160,28 @@ fn rest_cells_zero(state: &[u32], n: u32, start: usize) -> bool
 }
 
 // Cells that nobody holds are tested together: all of a round that holds none, and those from n on.
-fn round_cells_ok(state: &[u32], quorum: u32, round: u32) -> bool
-    requires { Grouped state.now × QuorumOf (member_count state.now) quorum × (1 ≤ round) × (round ≤ rounds) }
+fn round_cells_ok(state: &[u32], group: Group, round: u32) -> bool
+    requires { GroupedRound state.now group.n round }
     ensures { result ≡ all slots (cell_ok state.now round) }
 {
-    let n = state[MEMBER_COUNT];
     let start = cell_at(round, 0);
     let end = start + ROUND_SIZE;
     if mask_of(state, HELD, round) == 0 {
         return is_zero(&state[start..end]);
     }
-    if !members_ok(state, n, quorum, round) {
+    if !members_ok(state, group, round) {
         return false;
     }
-    rest_cells_zero(state, n, start)
+    rest_cells_zero(state, group.n, start)
 }
 
-// The quorum is worked out here, ahead of the loops over rounds and members, and handed on to the questions of every record.
+// The group is worked out here, ahead of the loops over rounds and members, and handed on to the questions of every record.
 fn cells_ok(state: &[u32]) -> bool
     requires { Grouped state.now }
     ensures { result ≡ each_round (λ r. all slots (cell_ok state.now r)) }
 {
-    let quorum = quorum_of(state[MEMBER_COUNT]);
-    (0..ROUNDS).all(|i| round_cells_ok(state, quorum, i + 1))
+    let group = Group::of(state[MEMBER_COUNT]);
+    (0..ROUNDS).all(|i| round_cells_ok(state, group, i + 1))
 }
 
 // Leader `index` of x's round comes next behind the entry before x.
@@ -253,7 +233,7 @@ fn leaders_ok(state: &[u32]) -> bool
     ensures { result ≡ leaders_ok state.now }
 {
     let n = state[MEMBER_COUNT];
-    let count = wide(state[LEADER_COUNT]);
+    let count = state[LEADER_COUNT] as usize;
     if LEADERS_SIZE < count {
         return false;
     }
@@ -268,7 +248,7 @@ fn all_marked(state: &[u32], marks: [u32; MASKS]) -> bool
     requires { length state.now ≡ state_size }
     ensures { result ≡ all rounds (λ i. eqb (get_or marks i 0) (ordered_mask state.now (i + 1))) }
 {
-    (0..ROUNDS).all(|i| marks[wide(i)] == mask_of(state, ORDERED, i + 1))
+    (0..ROUNDS).all(|i| marks[i as usize] == mask_of(state, ORDERED, i + 1))
 }
 
 // Each entry is an id and, in the marks of its round, new; it is marked there. In the end the marks are the ordered masks.
@@ -276,7 +256,7 @@ fn journal_ok(state: &[u32]) -> bool
     requires { Grouped state.now }
     ensures { result ≡ journal_ok state.now }
 {
-    let count = wide(state[JOURNAL_COUNT]);
+    let count = state[JOURNAL_COUNT] as usize;
     if JOURNAL_SIZE < count {
         return false;
     }
@@ -285,7 +265,7 @@ fn journal_ok(state: &[u32]) -> bool
         if !is_id(x) {
             return false;
         }
-        let at = wide(x / SLOTS - 1);
+        let at = (x / SLOTS - 1) as usize;
         let marked = Members { bits: marks[at] };
         if marked.has(x % SLOTS) {
             return false;
@@ -301,8 +281,8 @@ fn rest_zero(state: &[u32]) -> bool
     requires { (length state.now ≡ state_size) × (leader_count state.now ≤ leaders_size) × (journal_count state.now ≤ journal_size) }
     ensures { result ≡ rest_zero state.now }
 {
-    let leaders = LEADERS + wide(state[LEADER_COUNT]);
-    let journal = JOURNAL + wide(state[JOURNAL_COUNT]);
+    let leaders = LEADERS + state[LEADER_COUNT] as usize;
+    let journal = JOURNAL + state[JOURNAL_COUNT] as usize;
     if !is_zero(&state[leaders..LEADERS_END]) {
         return false;
     }

@@ -3,7 +3,7 @@
 use Rattle.std.specs.Prelude.{Ok, Err}
 use mathlib.Core.Path.{◌≡◌, refl, sym, ap, ap₂, ◌∙◌}
 use mathlib.Core.Bool.{true, false, cond, not, ◌&&◌}
-use mathlib.Core.Logic.{◌⊎◌, inl, inr, ⊎_elim}
+use mathlib.Core.Logic.{◌⊎◌, inl, inr}
 use mathlib.Core.List.{List, [], ◌∷◌, ◌++◌}
 use Prim.Native.Nat.{ℕ, zero, suc, ◌+◌, ◌<◌}
 use native.Mathlib.Omega.{arith}
@@ -14,7 +14,6 @@ use Rattle.record.specs.Members.{legal, has}
 use Rattle.record.specs.Refusals.{Verdict, number_of, Question, first_no}
 use Rattle.record.specs.Layout.{round_of, source_of, body_of}
 use Rattle.record.specs.Questions.{signer_questions, record_questions}
-use Rattle.record.specs.declared.refusal.Refusal.{Refusal}
 use Rattle.record.specs.declared.refusal.Refusal.TheVariants.{MemberCount, Source, PastEnd, Duplicate, Watcher}
 use Rattle.record.proofs.Booleans.{which, and_left, and_right, cond_true, cond_false}
 use Rattle.record.proofs.Turn.{next, done}
@@ -31,7 +30,6 @@ use Rattle.replica.specs.Opening.{opened, open_state}
 use Rattle.replica.specs.Status.{state_questions, head_if, status_of}
 use Rattle.replica.specs.Place.{Span, words_in}
 use Rattle.replica.specs.Lists.{span_if, hand_list}
-use Rattle.replica.specs.declared.answer.Status.{Status}
 use Rattle.replica.proofs.Formed.{WellFormed, formed, well_formed_lem}
 use Rattle.replica.proofs.Opened.{opened_formed}
 use Rattle.commits.specs.Commit.{raise_round, append_leaders, order_leaders, commit, lowest, grows, is_ready, commit_once, commit_up_to, most_commits}

@@ -1,5 +1,5 @@
 -- Laws of what is printed at the end. Assumes nothing.
-use mathlib.Core.Path.{◌≡◌, refl, ap}
+use mathlib.Core.Path.{◌≡◌, ap}
 use mathlib.Core.List.{List, [], ◌∷◌}
 use Prim.Native.Nat.{ℕ, ◌+◌, ◌*◌, ◌≤◌}
 use native.Mathlib.Omega.{arith}
@@ -7,18 +7,9 @@ use denote.Ref.{Bor}
 use lib.ListN.{length, length-append, length-take, length-drop, drop}
 use Rattle.replica.specs.Place.{Span, words_in, Part, part_of, cut}
 use Rattle.replica.specs.Lists.{hand_leaders, hand_journal}
-use Rattle.transcript.specs.Text.{item_size, items, other_text, list_text, Appended, line_feed}
-use Rattle.transcript.proofs.Digits.{appended_none, appended_then, items_few}
+use Rattle.transcript.specs.Text.{item_size, items, list_text, Appended, line_feed}
+use Rattle.transcript.proofs.Digits.{appended_then, items_few}
 use Rattle.sheetlog.specs.Output.{rest_text, end_text}
-
-pub rest_none : (rest d : List ℕ) → length rest ≡ 0 → Appended d 0 (rest_text rest) d 0
-rest_none [] d e = appended_none d 0
-rest_none (b ∷ s) d e = absurd (omega (arith, e))
-
-pub rest_some : (rest : List ℕ) {d e : List ℕ} {end : ℕ} → (length rest ≡ 0 → ⊥)
-    → Appended d 0 other_text e end → Appended d 0 (rest_text rest) e end
-rest_some [] h a = absurd (h refl)
-rest_some (b ∷ s) h a = a
 
 pub rest_few : (rest : List ℕ) → length (rest_text rest) ≤ 2
 rest_few [] = omega arith

@@ -1,16 +1,16 @@
 -- Laws of bytes that are fed, and of a line of which only the start is kept. Assumes nothing.
+use Rattle.std.specs.Prelude.{Option}
 use mathlib.Core.Path.{◌≡◌, refl, sym, ap, ap₂, ◌∙◌}
 use mathlib.Core.Bool.{true, false}
 use mathlib.Core.Logic.{◌⊎◌, inl, inr, ⊎_elim}
 use mathlib.Core.List.{List, [], ◌∷◌, ◌++◌, append_assoc}
-use Prim.Native.Nat.{ℕ, ◌+◌, ◌*◌, ◌≤◌, ◌<◌}
+use Prim.Native.Nat.{ℕ, ◌+◌, ◌≤◌, ◌<◌}
 use native.Mathlib.Numerals.{add-one}
 use native.Mathlib.Omega.{arith}
 use lib.Dec.{eqb, leb}
-use lib.ListN.{length, length-append, length-take, length-replicate, get_or, take, set, replicate}
+use lib.ListN.{length, length-append, length-take, get_or, take, set}
 use lib.Seq.{take_all, take-suc, take-suc-set, take-append-le}
 use borrow.Author.Tests.{eq-eqb, ne_eqb, leb-true, leb-false}
-use Rattle.replica.specs.Layout.{state_size}
 use Rattle.transcript.specs.Text.{Appended, line_feed}
 use Rattle.transcript.specs.Claims.{longest_answer}
 use Rattle.transcript.specs.Commands.{command_of}
@@ -20,7 +20,7 @@ use Rattle.transcript.proofs.Claims.{kept_lines}
 use Rattle.transcript.proofs.Digits.{appended_fits}
 use Rattle.sheetlog.specs.Reply.{outcome_of, reply_text}
 use Rattle.sheetlog.specs.Output.{Reading, feed_byte, feed}
-use Rattle.sheetlog.specs.Blocks.{kept_size, block_size, end_size, cut, block, held, Holds, Room}
+use Rattle.sheetlog.specs.Blocks.{kept_size, cut, block, held, Holds, Room}
 use Rattle.sheetlog.specs.declared.buffers.Fill.{Fill}
 use Rattle.sheetlog.proofs.Replies.{reply_few}
 
@@ -58,7 +58,7 @@ unfolding feed_byte
 cut_byte r b = go (which (eqb b line_feed))
   where
     go : (eqb b line_feed ≡ true) ⊎ (eqb b line_feed ≡ false) → cut (feed_byte (cut r) b) ≡ cut (feed_byte r b)
-    go (inl e) = rw e (ap (λ (c : Command). record {
+    go (inl e) = rw e (ap (λ (c : Option Command). record {
       printed = r.printed ++ reply_text c r.state;
       line = [];
       state = (outcome_of c r.state).words;
@@ -161,20 +161,3 @@ holds_turn first began s i l h t =
       filled = t.filled;
       equal = t.equal ∙ ap (λ (r : Reading). cut (feed_byte r (get_or s i 0))) h.equal ∙ block_turn first began s i l;
     }
-
-pub holds_all : (first began s : List ℕ) (i : ℕ) {line out state : List ℕ} {fill : Fill} → length s ≤ i
-    → Holds (block first began (take i s)) line fill out state → Holds (block first began s) line fill out state
-holds_all first began s i l h = rw (take_all i s l) at h
-
--- ---- room
-
-pub room_part : (n : ℕ) (s line out : List ℕ) (kept : ℕ) → length line ≡ kept_size → kept ≤ length line → longest_answer * length s ≤ length out
-    → Room (length (take n s)) line (record { kept = kept; filled = 0 }) out
-room_part n s line out kept e l h = record { line_size = e; kept = l; replies = omega (arith, length-take n s) }
-
--- buffers of n and m bytes
-pub room_first : (n m : ℕ) → longest_answer * n ≤ m → 0 + longest_answer * length {A = ℕ} (replicate n 0) ≤ length {A = ℕ} (replicate m 0)
-room_first n m h = omega (arith, length-replicate {A = ℕ} n 0, length-replicate {A = ℕ} m 0)
-
-pub room_last : (state out : ℕ) → state ≡ state_size → out ≡ longest_answer * block_size → end_size state ≤ out
-room_last state out e f = omega arith

@@ -1,8 +1,8 @@
 -- Laws of what is answered of a reader's bytes. Assumes nothing.
-use Rattle.std.proofs.Common.{◌≡◌, refl, sym, ap, ◌∙◌, subst, List, [], ◌++◌, append-nil, ℕ, ◌-◌, ◌^◌, ◌≤◌, length, length-append, take, arith}
+use Rattle.std.proofs.Common.{◌≡◌, refl, sym, ap, ◌∙◌, subst, List, [], ◌++◌, ℕ, take}
 use Rattle.std.proofs.Common.{Option, None, Some, IfSome}
-use Rattle.std.specs.Io.KnownBytes.{Appends, Consumes, IsAtEnd}
-use Rattle.std.proofs.KnownBytes.{Appends-nil, Appends-trans, Consumes-trans, Consumes-whole}
+use Rattle.std.specs.Io.KnownBytes.{Appends}
+use Rattle.std.proofs.KnownBytes.{Appends-nil, Appends-trans}
 use Rattle.transcript.specs.Text.{Appended}
 use Rattle.sheetlog.specs.Output.{Reading, feed, zeros, end_text, output}
 use Rattle.sheetlog.specs.Blocks.{kept_size, cut, block, held, Holds}
@@ -38,27 +38,6 @@ answered_more bytes more began {a} {b} {c} {line} {line'} {out} {state} {state'}
       line_kept = ap (λ (q : Reading). q.line) now ∙ sym (ap (λ (q : Reading). take kept_size q.line) all);
       state_left = ap (λ (q : Reading). q.state) now ∙ sym (ap (λ (q : Reading). q.state) all);
     }
-
-if_short : (u : Option (List ℕ)) (P : List ℕ → Type 0) → IfSome u P → IfSome u (λ all. IsShort all → P all)
-if_short None P h = tt
-if_short (Some all) P h = λ short. h
-
--- so many bytes were read that the input is not short
-pub answered_few : (u v : Option (List ℕ)) (bytes : List ℕ) (turns : ℕ) (P : List ℕ → Type 0) → Consumes u v bytes → turns ≤ length bytes
-    → turns ≡ 2 ^ 64 - 1 → IfSome u (λ all. IsShort all → P all)
-answered_few None v bytes turns P p h e = tt
-answered_few (Some all) None bytes turns P p h e = absurd p
-answered_few (Some all) (Some rest) bytes turns P p h e =
-    λ short. absurd (omega (arith, short, h, e, ap length p, length-append bytes rest))
-
--- a read that gives nothing, at the end of the input
-pub answered_all : (u v w : Option (List ℕ)) (bytes began buf : List ℕ) (n : ℕ) {a b : Option (List ℕ)} {line state : List ℕ} {kept : ℕ}
-    → n ≡ 0 → Consumes u v bytes → Consumes v w (take n buf) → IsAtEnd w → Answered bytes began a b line kept state
-    → IfSome u (λ all. IsShort all → Answered all began a b line kept state)
-answered_all u v w bytes began buf n {a} {b} {line} {state} {kept} z p q e h =
-    let none : Consumes v w [] = subst (λ (k : ℕ). Consumes v w (take k buf)) z q in
-    if_short u _ (Consumes-whole u w bytes (λ all. Answered all began a b line kept state)
-    (subst (Consumes u w) (append-nil bytes) (Consumes-trans u v w bytes [] p none)) e h)
 
 -- with what is printed at the end, it is the whole output
 pub answered_output : (a b c : Option (List ℕ)) (bytes : List ℕ) {line state out out' : List ℕ} {kept filled : ℕ}

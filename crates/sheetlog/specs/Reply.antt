@@ -1,5 +1,5 @@
 -- What a line does and prints: the call that its command stands for, and the answer's number with the four numbers of the status.
-use Rattle.std.specs.Prelude.{Bool, true, false, cond, List, [], ◌∷◌, ℕ, get_or, Result, Ok, Err}
+use Rattle.std.specs.Prelude.{List, [], ◌∷◌, ℕ, Option, Some, None, Result, Ok, Err}
 use Rattle.record.specs.Refusals.{no_refusal}
 use Rattle.record.specs.declared.refusal.Refusal.{Refusal}
 use Rattle.replica.specs.Layout.{watcher}
@@ -9,30 +9,21 @@ use Rattle.replica.specs.Status.{status_of}
 use Rattle.replica.specs.declared.answer.Status.{Status}
 use Rattle.ordering.specs.Calls.{take_vertex, take_first_message, take_timeout, take_no_vote}
 use Rattle.transcript.specs.Text.{answer_text, other_text}
-use Rattle.transcript.specs.declared.command.Kind.{Kind}
-use Rattle.transcript.specs.declared.command.Kind.TheVariants.{Other, Open, Vertex, First, Timeout, NoVote}
 use Rattle.transcript.specs.declared.command.Command.{Command}
+use Rattle.transcript.specs.declared.command.Command.TheVariants.{Open, Vertex, First, Timeout, NoVote}
 
--- a line of another form makes no call
-abbrev pub is_other : Kind → Bool
-is_other Other = true
-is_other Open = false
-is_other Vertex = false
-is_other First = false
-is_other Timeout = false
-is_other NoVote = false
+-- the call on a state. A state is opened for a watcher
+abbrev pub call_for : Command → List ℕ → Outcome
+call_for (Open n) state = open_state state n watcher
+call_for (Vertex words) state = take_vertex state words
+call_for (First words) state = take_first_message state words
+call_for (Timeout round signer) state = take_timeout state round signer
+call_for (NoVote round signer) state = take_no_vote state round signer
 
--- the call on a state, with the line's words; none leaves the state as it is. A state is opened for a watcher
-abbrev pub call_for : Kind → List ℕ → List ℕ → Outcome
-call_for Other words state = unchanged no_refusal state
-call_for Open words state = open_state state (get_or words 0 0) watcher
-call_for Vertex words state = take_vertex state words
-call_for First words state = take_first_message state words
-call_for Timeout words state = take_timeout state (get_or words 0 0) (get_or words 1 0)
-call_for NoVote words state = take_no_vote state (get_or words 0 0) (get_or words 1 0)
-
-abbrev pub outcome_of : Command → List ℕ → Outcome
-outcome_of command state = call_for command.kind command.words state
+-- a line of another form makes no call, which leaves the state as it is
+abbrev pub outcome_of : Option Command → List ℕ → Outcome
+outcome_of None state = unchanged no_refusal state
+outcome_of (Some command) state = call_for command state
 
 -- the four numbers of the status, 0 where it is refused
 abbrev pub status_words : Result Status Refusal → List ℕ
@@ -44,5 +35,6 @@ abbrev pub outcome_text : Outcome → List ℕ
 outcome_text o = answer_text o.number (status_words (status_of o.words))
 
 -- the line that is printed
-unfoldable pub reply_text : Command → List ℕ → List ℕ
-reply_text command state = cond (is_other command.kind) other_text (outcome_text (outcome_of command state))
+abbrev pub reply_text : Option Command → List ℕ → List ℕ
+reply_text None state = other_text
+reply_text (Some command) state = outcome_text (outcome_of (Some command) state)

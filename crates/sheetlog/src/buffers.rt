@@ -8,9 +8,7 @@ ghost use Rattle.sheetlog.specs.Blocks.{kept_size, end_size, cut, block, held, H
 use super::reply::reply;
 use record::layout::RECORD_SIZE;
 use replica::lists::{hand_journal, hand_leaders};
-use transcript::text::{ANSWER_SIZE, ITEM_SIZE, put_list, put_other};
-
-const LINE_FEED: u8 = 10;
+use transcript::text::{ANSWER_SIZE, ITEM_SIZE, LINE_FEED, put_list, put_other};
 
 // One byte more than the longest line of the form has: a letter, and the words of a record.
 // Of a longer line only these bytes are kept; they are of another form, as it is.

@@ -1,4 +1,5 @@
 -- Terms of the claims. Assumes nothing.
+use Rattle.std.specs.Prelude.{Option, Some, None, option_and_then}
 use mathlib.Core.Path.{◌≡◌, refl, sym, ap, ◌∙◌}
 use mathlib.Core.Bool.{true, false, not}
 use mathlib.Core.Logic.{◌⊎◌, inl, inr, ⊎_elim}
@@ -6,16 +7,17 @@ use mathlib.Core.List.{List, [], ◌∷◌, ◌++◌}
 use Prim.Native.Nat.{ℕ, zero, suc, ◌+◌, ◌-◌, ◌*◌, ◌/◌, ◌%◌, ◌≤◌, ◌<◌}
 use native.Mathlib.Omega.{arith}
 use lib.Dec.{eqb, leb}
-use lib.ListN.{length, length-append, length-drop, get_or, drop, take, get_or-append}
+use lib.ListN.{length, length-append, length-drop, get_or, take, get_or-append}
 use lib.Seq.{take_all, length-take-le}
 use borrow.Author.Tests.{eqb-true, eqb-false, ne_eqb, le-leb, leb-true, leb-false, not-true}
 use Rattle.record.specs.Layout.{record_size}
-use Rattle.transcript.specs.Grammar.{is_digit, all_digits, value_from, value_of, led_ok, numeral_ok, numeral_value, largest, first_word, after_word, words_ok}
-use Rattle.transcript.specs.Commands.{word_count, kind_of, other_form, command_from, command_of}
+use Rattle.transcript.specs.Grammar.{is_digit, all_digits, value_from, value_of, led_ok, numeral_ok}
+use Rattle.transcript.specs.Grammar.{numeral_value, largest, first_word, after_word, words_ok, scanned}
+use Rattle.transcript.specs.Commands.{word_count, kind_of, command_from, command_of}
 use Rattle.transcript.specs.Text.{item_size, digits_from, decimal, items}
 use Rattle.transcript.specs.Claims.{AnswerSize, ReadBack, LongLines, KeptLines}
 use Rattle.transcript.specs.declared.command.Kind.{Kind}
-use Rattle.record.proofs.Booleans.{which, and_left, and_right, and_both, and_fails_right, cond_false}
+use Rattle.record.proofs.Booleans.{which, and_left, and_right, and_both}
 use Rattle.transcript.specs.Grammar.{space, zero_digit}
 use Rattle.transcript.proofs.Numerals.{digit_low, value_grows, a_numeral}
 use Rattle.transcript.proofs.Words.{few_words}
@@ -76,15 +78,20 @@ words_few (suc k) s e =
     let few = numeral_few (first_word s) (and_left (numeral_ok (first_word s)) _ rest) in
     omega (arith, words_few k (after_word s) (and_right (numeral_ok (first_word s)) _ rest), length-drop (1 + length (first_word s)) s)
 
-long_other : (kind : Kind) (s : List ℕ) → item_size * record_size < length s → command_from kind s ≡ other_form
-unfolding command_from
+long_other : (kind : Kind) (s : List ℕ) → item_size * record_size < length s → command_from kind s ≡ None
+unfolding scanned
 long_other kind s l =
     ⊎_elim (λ (h : words_ok (word_count kind) s ≡ true). absurd (omega (arith, words_few (word_count kind) s h, few_words kind)))
-    (λ h. cond_false _ _ (and_fails_right (not (eqb (word_count kind) 0)) h))
+    (λ h. rw h refl)
     (which (words_ok (word_count kind) s))
 
 pub long_lines : LongLines
-long_lines line l = long_other (kind_of (get_or line 0 0)) (drop 1 line) (omega (arith, length-drop 1 line))
+long_lines [] l = refl
+long_lines (letter ∷ s) l = go (kind_of letter)
+  where
+    go : (k : Option Kind) → option_and_then (λ (kind : Kind). command_from kind s) k ≡ None
+    go None = refl
+    go (Some kind) = long_other kind s (omega arith)
 
 pub kept_lines : KeptLines
 kept_lines line kept l =
@@ -119,7 +126,7 @@ value_snoc (d ∷ s) v b = value_snoc s (v * 10 + (d - zero_digit)) b
 positive : (n : ℕ) → (n ≡ 0 → ⊥) → 1 ≤ n
 positive n h = omega arith
 
-zero_back : (n : ℕ) → n ≡ 0 → numeral_value (decimal n) ≡ n
+zero_back : (n : ℕ) → n ≡ 0 → numeral_value (decimal n) ≡ Some n
 unfolding decimal numeral_value numeral_ok led_ok all_digits is_digit value_from
 zero_back n e = rw e refl
 
@@ -171,5 +178,5 @@ read_back n l =
     let p : 1 ≤ n = positive n (eqb-false n 0 e) in
     let r = read_digits 10 n (omega arith) in
     let led = first_led (digits_from 10 n) (first_digits 10 n (omega arith) p) in
-    ap numeral_value (sym (decimal_more n (eqb-false n 0 e))) ∙ sym (a_numeral (digits_from 10 n) led r.0 (omega (arith, r.1))) ∙ r.1)
+    ap numeral_value (sym (decimal_more n (eqb-false n 0 e))) ∙ sym (a_numeral (digits_from 10 n) led r.0 (omega (arith, r.1))) ∙ ap Some r.1)
     (which (eqb n 0))

@@ -3,12 +3,12 @@ use mathlib.Core.Path.{◌≡◌, refl, sym, ap, ap₂, ◌∙◌}
 use mathlib.Core.Bool.{true, false}
 use mathlib.Core.Logic.{◌⊎◌, inl, inr}
 use mathlib.Core.List.{List, [], ◌∷◌, ◌++◌, append_assoc, append-nil}
-use Prim.Native.Nat.{ℕ, zero, suc, ◌+◌, ◌-◌, ◌*◌, ◌/◌, ◌%◌, ◌≤◌, ◌<◌}
+use Prim.Native.Nat.{ℕ, zero, suc, ◌+◌, ◌*◌, ◌/◌, ◌%◌, ◌≤◌, ◌<◌}
 use native.Mathlib.Numerals.{add-one}
 use native.Mathlib.Omega.{arith}
 use lib.Dec.{eqb}
-use lib.ListN.{length, length-append, length-drop, length-set, length-take, get_or, drop, take, set}
-use lib.Seq.{drop-cons, drop-set-lt, get_or-set_same, append_snoc, take-suc, take-suc-set, take_all, take_at}
+use lib.ListN.{length, length-append, length-set, length-take, get_or, drop, take, set}
+use lib.Seq.{drop-cons, drop-set-lt, get_or-set_same, append_snoc, take-suc}
 use borrow.Author.Tests.{eq-eqb, ne_eqb}
 use Rattle.transcript.specs.Text.{item_size, digits_from, decimal, items, Appended}
 use Rattle.record.proofs.Booleans.{which, cond_true, cond_false}
@@ -103,34 +103,9 @@ appended_then {d} {e} {f} {s} {t} {a} {b} {c} p q = record {
   held = q.held ∙ ap (λ (r : List ℕ). r ++ t) p.held ∙ append_assoc (take a d) s t;
 }
 
-pub appended_byte : (d : List ℕ) (at b : ℕ) → at < length d → Appended d at (b ∷ []) (set d at b) (at + 1)
-appended_byte d at b l = record { size = length-set d at b; last = omega arith; held = rw (add-one at) (take-suc-set d at b l) }
-
 pub appended_fits : {d e s : List ℕ} {a b : ℕ} → Appended d a s e b → a ≤ length d → b ≤ length e
 appended_fits {d} {e} {s} {a} {b} p l =
     omega (arith, p.last, ap length p.held, length-append (take a d) s, length-take a d, length-take b e)
-
--- a part that was lent and has come back with the text
-pub appended_part : (d t : List ℕ) (at : ℕ) → at + length t ≤ length d → (ys : List ℕ) → ys ≡ t
-    → Appended d at t (take at d ++ (ys ++ drop (at + length t - at) (drop at d))) (at + length t)
-appended_part d t at fits ys e = record {
-  size = omega (
-    arith,
-    size,
-    length-append (take at d) (ys ++ drop (at + length t - at) (drop at d)),
-    length-append ys (drop (at + length t - at) (drop at d)),
-    length-take at d,
-    length-drop at d,
-    length-drop (at + length t - at) (drop at d),
-  );
-  last = refl;
-  held = ap (take (at + length t)) (sym (append_assoc (take at d) ys (drop (at + length t - at) (drop at d))))
-      ∙ take_at (take at d ++ ys) (drop (at + length t - at) (drop at d)) (at + length t) (omega (arith, size, length-append (take at d) ys, length-take at d))
-      ∙ ap (λ (r : List ℕ). take at d ++ r) e;
-}
-  where
-    size : length ys ≡ length t
-    size = ap length e
 
 -- a turn of the loop of `put_items`: a space, and the digits of n
 pub appended_item : {d e f g : List ℕ} (t : List ℕ) (at i b c k : ℕ) → i < length t → Appended d at (items (take i t)) e b
@@ -140,10 +115,3 @@ appended_item t at i b c k l p q r =
     let one : items (take (i + 1) t) ≡ items (take i t) ++ space ∷ decimal (get_or t i 0) = rw (add-one i) (ap items (take-suc t i 0 l)
     ∙ items_one (take i t) (get_or t i 0)) in
     rw one (appended_then p (appended_then q r))
-
--- the digits that `put_number` hands on
-pub digits_part : (s : List ℕ) (start n : ℕ) → length s ≡ 10 → drop start s ≡ decimal n → take (10 - start) (drop start s) ≡ decimal n
-digits_part s start n e d = take_all (10 - start) (drop start s) (omega (arith, length-drop start s)) ∙ d
-
-pub items_all : {d e : List ℕ} (t : List ℕ) (at i b : ℕ) → length t ≤ i → Appended d at (items (take i t)) e b → Appended d at (items t) e b
-items_all t at i b l p = rw (take_all i t l) at p

@@ -1,4 +1,5 @@
 -- Laws of numerals. Assumes nothing.
+use Rattle.std.specs.Prelude.{Some, None}
 use mathlib.Core.Path.{◌≡◌, refl, sym, ap, ◌∙◌}
 use mathlib.Core.Bool.{Bool, true, false, not}
 use mathlib.Core.List.{List, [], ◌∷◌}
@@ -65,21 +66,25 @@ value_grows (b ∷ s) v = omega (arith, value_grows s (v * 10 + (b - zero_digit)
 
 -- ---- what `numeral` answers
 
-pub not_led : (s : List ℕ) (t : Bool) → t ≡ led_ok s → not t ≡ true → 4294967296 ≡ numeral_value s
-unfolding numeral_value numeral_ok
-not_led s t e h = sym (cond_false (value_of s) 4294967296 (and_fails_left _ (failed e h)))
+no_numeral : (s : List ℕ) → numeral_ok s ≡ false → None ≡ numeral_value s
+unfolding numeral_value
+no_numeral s e = sym (cond_false (Some (value_of s)) None e)
 
-not_digits : (s : List ℕ) → all_digits s ≡ false → 4294967296 ≡ numeral_value s
-unfolding numeral_value numeral_ok
-not_digits s e = sym (cond_false (value_of s) 4294967296 (and_fails_right (led_ok s) (and_fails_left _ e)))
+pub not_led : (s : List ℕ) (t : Bool) → t ≡ led_ok s → not t ≡ true → None ≡ numeral_value s
+unfolding numeral_ok
+not_led s t e h = no_numeral s (and_fails_left _ (failed e h))
 
-too_large : (s : List ℕ) → largest < value_of s → 4294967296 ≡ numeral_value s
-unfolding numeral_value numeral_ok
-too_large s h = sym (cond_false (value_of s) 4294967296 (and_fails_right (led_ok s) (and_fails_right (all_digits s) (lt-leb _ _ h))))
+not_digits : (s : List ℕ) → all_digits s ≡ false → None ≡ numeral_value s
+unfolding numeral_ok
+not_digits s e = no_numeral s (and_fails_right (led_ok s) (and_fails_left _ e))
 
-pub a_numeral : (s : List ℕ) → led_ok s ≡ true → all_digits s ≡ true → value_of s ≤ largest → value_of s ≡ numeral_value s
+too_large : (s : List ℕ) → largest < value_of s → None ≡ numeral_value s
+unfolding numeral_ok
+too_large s h = no_numeral s (and_fails_right (led_ok s) (and_fails_right (all_digits s) (lt-leb _ _ h)))
+
+pub a_numeral : (s : List ℕ) → led_ok s ≡ true → all_digits s ≡ true → value_of s ≤ largest → Some (value_of s) ≡ numeral_value s
 unfolding numeral_value numeral_ok
-a_numeral s p q h = sym (cond_true (value_of s) 4294967296 (and_both p (and_both q (le-leb _ _ h))))
+a_numeral s p q h = sym (cond_true (Some (value_of s)) None (and_both p (and_both q (le-leb _ _ h))))
 
 -- ---- the loop of `numeral`: i digits are read, of that value
 
@@ -89,34 +94,31 @@ pub record Counting (s : List ℕ) (value i : ℕ) : Type 0 where
   pub digits : all_digits s ≡ all_digits (drop i s)
   pub valued : value_of s ≡ value_from value (drop i s)
 
-pub counting : (s : List ℕ) → Counting s 0 0
-counting s = record { small = omega arith; digits = refl; valued = refl }
-
--- what is known of a byte that is a digit; w is the digit's value
+-- what is known of a byte that is a digit; v is the value with that digit
 pub record DigitRead (s : List ℕ) (value i : ℕ) : Type 0 where
   pub low : zero_digit ≤ get_or s i 0
   pub high : get_or s i 0 ≤ (zero_digit + 9)
-  pub over : (w : ℕ) → w ≡ get_or s i 0 - zero_digit → largest < value * 10 + w → 4294967296 ≡ numeral_value s
-  pub next : (w : ℕ) → w ≡ get_or s i 0 - zero_digit → value * 10 + w ≤ largest → Counting s (value * 10 + w) (i + 1)
+  pub over : (v : ℕ) → v ≡ value * 10 + (get_or s i 0 - zero_digit) → largest < v → None ≡ numeral_value s
+  pub next : (v : ℕ) → v ≡ value * 10 + (get_or s i 0 - zero_digit) → v ≤ largest → Counting s v (i + 1)
 
 module _ (s : List ℕ) (value i : ℕ) (c : Counting s value i) where
-  pub no_digit : i < length s → (t : Bool) → t ≡ is_digit (get_or s i 0) → not t ≡ true → 4294967296 ≡ numeral_value s
+  pub no_digit : i < length s → (t : Bool) → t ≡ is_digit (get_or s i 0) → not t ≡ true → None ≡ numeral_value s
   no_digit l t e h = not_digits s (c.digits ∙ digits_stop s i l (failed e h))
 
   pub digit_read : i < length s → (t : Bool) → t ≡ is_digit (get_or s i 0) → not t ≡ false → DigitRead s value i
   digit_read l t e h = record {
     low = digit_low _ (passed e h);
     high = digit_high _ (passed e h);
-    over = λ w d k. too_large s (omega (arith, value_turn w d, value_grows (drop (i + 1) s) (value * 10 + w)));
-    next = λ w d k. record { small = k; digits = c.digits ∙ digits_next s i l (passed e h); valued = value_turn w d };
+    over = λ v d k. too_large s (omega (arith, value_turn v d, value_grows (drop (i + 1) s) v));
+    next = λ v d k. record { small = k; digits = c.digits ∙ digits_next s i l (passed e h); valued = value_turn v d };
   }
     where
-      value_turn : (w : ℕ) → w ≡ get_or s i 0 - zero_digit → value_of s ≡ value_from (value * 10 + w) (drop (i + 1) s)
-      value_turn w d = c.valued ∙ value_next s i l value ∙ rw d
+      value_turn : (v : ℕ) → v ≡ value * 10 + (get_or s i 0 - zero_digit) → value_of s ≡ value_from v (drop (i + 1) s)
+      value_turn v d = c.valued ∙ value_next s i l value ∙ rw d
 
-  pub counted : length s ≤ i → (t : Bool) → t ≡ led_ok s → not t ≡ false → value ≡ numeral_value s
+  pub counted : length s ≤ i → (t : Bool) → t ≡ led_ok s → not t ≡ false → Some value ≡ numeral_value s
   unfolding value_from all_digits
   counted l t e h =
       let none = drop_of_length-le s l in
       let v : value_of s ≡ value = c.valued ∙ ap (value_from value) none in
-      sym v ∙ a_numeral s (passed e h) (c.digits ∙ ap all_digits none) (rw v c.small)
+      ap Some (sym v) ∙ a_numeral s (passed e h) (c.digits ∙ ap all_digits none) (rw v c.small)

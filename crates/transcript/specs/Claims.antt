@@ -1,8 +1,8 @@
 -- Claims about the grammar and the printed numbers. Each has a term in `proofs/Claims`.
-use Rattle.std.specs.Prelude.{◌≡◌, List, ℕ, ◌+◌, ◌*◌, ◌≤◌, ◌<◌, length, take}
+use Rattle.std.specs.Prelude.{◌≡◌, List, ℕ, ◌+◌, ◌*◌, ◌≤◌, ◌<◌, length, take, Some, None}
 use Rattle.record.specs.Layout.{record_size}
 use Rattle.transcript.specs.Grammar.{largest, numeral_value}
-use Rattle.transcript.specs.Commands.{other_form, command_of}
+use Rattle.transcript.specs.Commands.{command_of}
 use Rattle.transcript.specs.Text.{item_size, status_size, decimal, answer_text}
 
 -- the longest line of the form: a letter, and the words of a record
@@ -18,11 +18,11 @@ AnswerSize = (number : ℕ) (status : List ℕ) → length status ≡ status_siz
 
 -- what is printed is a numeral, and is read back
 abbrev pub ReadBack : Type 0
-ReadBack = (n : ℕ) → n ≤ largest → numeral_value (decimal n) ≡ n
+ReadBack = (n : ℕ) → n ≤ largest → numeral_value (decimal n) ≡ Some n
 
 -- a longer line is of another form
 abbrev pub LongLines : Type 0
-LongLines = (line : List ℕ) → longest_line < length line → command_of line ≡ other_form
+LongLines = (line : List ℕ) → longest_line < length line → command_of line ≡ None
 
 -- so whoever reads lines of any length need keep only one byte more
 abbrev pub KeptLines : Type 0

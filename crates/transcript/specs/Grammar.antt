@@ -1,8 +1,8 @@
 -- Numerals and words of an input line, as lists of bytes.
 use Rattle.std.specs.Prelude.{Bool, true, false, cond, not, ◌&&◌, List, [], ◌∷◌, ℕ, zero, suc, ◌+◌, ◌-◌, ◌*◌, eqb, leb, length, get_or, drop, replicate}
+use Rattle.std.specs.Prelude.{Option, Some, None}
 use Rattle.std.proofs.lemmas.List.Edits.{sets}
 use Rattle.record.specs.Layout.{record_size}
-use Rattle.transcript.specs.declared.command.Words.{Words}
 
 abbrev pub space : ℕ
 space = 32
@@ -39,9 +39,9 @@ led_ok (b ∷ (c ∷ s)) = not (eqb b zero_digit)
 unfoldable pub numeral_ok : List ℕ → Bool
 numeral_ok s = led_ok s && (all_digits s && leb (value_of s) largest)
 
--- a numeral's value, and one above the largest where there is no numeral
-unfoldable pub numeral_value : List ℕ → ℕ
-numeral_value s = cond (numeral_ok s) (value_of s) (largest + 1)
+-- a numeral's value, and none where there is no numeral
+unfoldable pub numeral_value : List ℕ → Option ℕ
+numeral_value s = cond (numeral_ok s) (Some (value_of s)) None
 
 -- the bytes before the first space
 unfoldable pub up_to_space : List ℕ → List ℕ
@@ -69,8 +69,6 @@ words_in (suc k) s = value_of (first_word s) ∷ words_in k (after_word s)
 abbrev pub placed : List ℕ → List ℕ
 placed values = sets (replicate record_size 0) 0 values
 
-abbrev pub unscanned : Words
-unscanned = record { ok = false; words = replicate record_size 0 }
-
-unfoldable pub scanned : ℕ → List ℕ → Words
-scanned k s = cond (words_ok k s) (record { ok = true; words = placed (words_in k s) }) unscanned
+-- the array of those words, and none where s is not k words
+unfoldable pub scanned : ℕ → List ℕ → Option (List ℕ)
+scanned k s = cond (words_ok k s) (Some (placed (words_in k s))) None

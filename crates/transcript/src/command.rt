@@ -1,16 +1,15 @@
 // One line of input, without its line feed, to a command.
 ghost use Rattle.std.specs.Prelude.{◌≡◌, ◌≤◌, length, drop};
 ghost use Rattle.record.specs.Layout.{record_size};
-ghost use Rattle.transcript.specs.Grammar.{scanned, unscanned};
-ghost use Rattle.transcript.specs.Commands.{kind_of, word_count, other_form, command_of};
+ghost use Rattle.transcript.specs.Grammar.{scanned};
+ghost use Rattle.transcript.specs.Commands.{kind_of, word_count, command_with, command_of};
 
-use super::numeral::{LARGEST, SPACE, numeral, word_end};
+use super::numeral::{SPACE, numeral, word_end};
 use record::layout::RECORD_SIZE;
 
-// Other is a line of another form.
+// What a line's letter says.
 #[derive(Clone, Copy)]
-pub enum Kind {
-    Other,
+enum Kind {
     Open,
     Vertex,
     First,
@@ -18,29 +17,26 @@ pub enum Kind {
     NoVote,
 }
 
-// The words that the kind does not have are 0.
+// A state opened for so many members, a record as a vertex or as a first message, or a note of a round and its signer.
 #[derive(Drop)]
-pub struct Command {
-    pub kind: Kind,
-    pub words: [u32; RECORD_SIZE],
+pub enum Command {
+    Open(u32),
+    Vertex([u32; RECORD_SIZE]),
+    First([u32; RECORD_SIZE]),
+    Timeout(u32, u32),
+    NoVote(u32, u32),
 }
 
-#[derive(Drop)]
-pub struct Words {
-    pub ok: bool,
-    pub words: [u32; RECORD_SIZE],
-}
-
-fn kind_of(letter: u8) -> Kind
+fn kind_of(letter: u8) -> Option<Kind>
     ensures { result ≡ kind_of letter }
 {
     match letter {
-        b'O' => Kind::Open,
-        b'V' => Kind::Vertex,
-        b'F' => Kind::First,
-        b'T' => Kind::Timeout,
-        b'N' => Kind::NoVote,
-        _ => Kind::Other,
+        b'O' => Some(Kind::Open),
+        b'V' => Some(Kind::Vertex),
+        b'F' => Some(Kind::First),
+        b'T' => Some(Kind::Timeout),
+        b'N' => Some(Kind::NoVote),
+        _ => None,
     }
 }
 
@@ -48,7 +44,6 @@ fn word_count(kind: Kind) -> usize
     ensures { result ≡ word_count kind }
 {
     match kind {
-        Kind::Other => 0,
         Kind::Open => 1,
         Kind::Vertex => RECORD_SIZE,
         Kind::First => RECORD_SIZE,
@@ -57,26 +52,8 @@ fn word_count(kind: Kind) -> usize
     }
 }
 
-fn other() -> Command
-    ensures { result ≡ other_form }
-{
-    Command {
-        kind: Kind::Other,
-        words: [0; RECORD_SIZE],
-    }
-}
-
-fn no_words() -> Words
-    ensures { result ≡ unscanned }
-{
-    Words {
-        ok: false,
-        words: [0; RECORD_SIZE],
-    }
-}
-
 // Reads that many words, each after a space, and nothing more.
-fn read_words(line: &[u8], count: usize) -> Words
+fn read_words(line: &[u8], count: usize) -> Option<[u32; RECORD_SIZE]>
     requires { (count ≤ record_size) × (1 ≤ length line.now) }
     ensures { result ≡ scanned count (drop 1 line.now) }
 {
@@ -84,42 +61,40 @@ fn read_words(line: &[u8], count: usize) -> Words
     let mut at: usize = 1;
     for i in 0..count {
         if line.len() <= at {
-            return no_words();
+            return None;
         }
         if line[at] != SPACE {
-            return no_words();
+            return None;
         }
         let start = at + 1;
         let end = word_end(line, start);
-        let value = numeral(&line[start..end]);
-        if LARGEST < value {
-            return no_words();
-        }
-        words[i] = value as u32;
+        words[i] = numeral(&line[start..end])?;
         at = end;
     }
     if at != line.len() {
-        return no_words();
+        return None;
     }
-    Words { ok: true, words }
+    Some(words)
 }
 
-// The command of a line, whatever bytes it has.
-pub fn parse(line: &[u8]) -> Command
+// The command of that kind, of those of the words that it has.
+fn command_with(kind: Kind, words: [u32; RECORD_SIZE]) -> Command
+    ensures { result ≡ command_with kind words }
+{
+    match kind {
+        Kind::Open => Command::Open(words[0]),
+        Kind::Vertex => Command::Vertex(words),
+        Kind::First => Command::First(words),
+        Kind::Timeout => Command::Timeout(words[0], words[1]),
+        Kind::NoVote => Command::NoVote(words[0], words[1]),
+    }
+}
+
+// The command of a line, whatever bytes it has. A line of another form has none.
+pub fn parse(line: &[u8]) -> Option<Command>
     ensures { result ≡ command_of line.now }
 {
-    if line.len() == 0 {
-        return other();
-    }
-    let kind = kind_of(line[0]);
-    let count = word_count(kind);
-    if count == 0 {
-        return other();
-    }
-    let found = read_words(line, count);
-    if !found.ok {
-        return other();
-    }
-    let words = found.words;
-    Command { kind, words }
+    let kind = kind_of(*line.first()?)?;
+    let words = read_words(line, word_count(kind))?;
+    Some(command_with(kind, words))
 }

@@ -1,17 +1,12 @@
 // Decimal numerals without leading zeros.
-ghost use Rattle.std.specs.Prelude.{◌≡◌, ◌+◌, ◌-◌, ◌*◌, ◌≤◌, length, drop};
+ghost use Rattle.std.specs.Prelude.{◌≡◌, ◌+◌, ◌≤◌, length, drop};
 ghost use Rattle.transcript.specs.Grammar.{is_digit, led_ok, numeral_value, up_to_space};
 
-// The largest number of a line.
-pub const LARGEST: u64 = 4294967295;
-// What `numeral` answers where there is none.
-pub const NO_NUMERAL: u64 = 4294967296;
+pub const SPACE: u8 = b' ';
 
-pub const SPACE: u8 = 32;
+pub const ZERO: u8 = b'0';
 
-pub const ZERO: u8 = 48;
-
-const NINE: u8 = 57;
+const NINE: u8 = b'9';
 
 fn is_digit(b: u8) -> bool
     ensures { result ≡ is_digit b }
@@ -20,12 +15,6 @@ fn is_digit(b: u8) -> bool
         return false;
     }
     b <= NINE
-}
-
-fn wide(b: u8) -> u64
-    ensures { result ≡ b }
-{
-    b as u64
 }
 
 // Not empty, and no zero before another byte.
@@ -41,24 +30,22 @@ fn is_led(s: &[u8]) -> bool
     s[0] != ZERO
 }
 
-// The value of a numeral.
-pub fn numeral(s: &[u8]) -> u64
+// The value of a numeral, or none where the bytes are no numeral that a word holds.
+pub fn numeral(s: &[u8]) -> Option<u32>
     ensures { result ≡ numeral_value s.now }
 {
     if !is_led(s) {
-        return NO_NUMERAL;
+        return None;
     }
-    let mut value: u64 = 0;
+    let mut value: u32 = 0;
     for b in s {
         if !is_digit(*b) {
-            return NO_NUMERAL;
+            return None;
         }
-        value = value * 10 + wide(*b - ZERO);
-        if LARGEST < value {
-            return NO_NUMERAL;
-        }
+        let digit = u32::from(*b - ZERO);
+        value = value.checked_mul(10)?.checked_add(digit)?;
     }
-    value
+    Some(value)
 }
 
 // The index of the first space from an index on, or the length.

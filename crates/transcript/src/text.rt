@@ -5,9 +5,9 @@ ghost use Rattle.transcript.specs.Text.{digit_count, item_size, decimal, items, 
 
 use super::numeral::{SPACE, ZERO};
 
-const LINE_FEED: u8 = 10;
+pub const LINE_FEED: u8 = b'\n';
 
-const QUESTION_MARK: u8 = 63;
+const QUESTION_MARK: u8 = b'?';
 
 // The most digits of a number, and with a space before them.
 const DIGITS: usize = 10;

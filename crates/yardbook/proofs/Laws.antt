@@ -29,7 +29,8 @@ pub answered_with : (a : Result Added Refusal) (r : Answer) (l s : List ℕ) (e 
 answered_with a r l s e d f = ap (λ (x : Answer). plain_with x l s) d ∙ f
 
 -- so for a proposal
-pub answered_proposal : (p : Result (List ℕ) Refusal) (r : Proposal) (l : List ℕ) (o : Proposed) → r ≡ proposal_plain p → told_proposal p l ≡ o → proposed r l ≡ o
+pub answered_proposal : (p : Result (List ℕ) Refusal) (r : Proposal) (l : List ℕ) (o : Proposed) → r ≡ proposal_plain p → told_proposal p l ≡ o
+    → proposed r l ≡ o
 answered_proposal p r l o e d = ap (λ (x : Proposal). proposed x l) e ∙ d
 
 -- what is known of a list that is handed over

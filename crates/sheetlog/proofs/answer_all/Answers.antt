@@ -1,6 +1,6 @@
-use Rattle.std.proofs.Common.{refl, rules, arith, [], ◌++◌, take, ◌<◌, length, length-append}
+use Rattle.std.proofs.Common.{refl, rules, arith, [], ◌++◌, take, length-append}
 use Rattle.std.proofs.KnownBytes.{Consumes-nil, Consumes-trans}
-use Rattle.sheetlog.proofs.Streams.{answered_none, answered_more, answered_all, answered_few}
+use Rattle.sheetlog.proofs.Streams.{answered_none, answered_more}
 use Rattle.sheetlog.proofs.answer_all.Goals as goal
 
 pub loop-turn-init : goal.loop-turn-init
@@ -29,16 +29,3 @@ loop-turn-preserved g c =
         omega (arith, so_far.3, length-append so_far.0 more, c.in_ok-n.ensures.bound.1),
       );
     }
-
-pub returns-then-n-eq0-clause-answered : goal.returns-then-n-eq0-clause-answered
-returns-then-n-eq0-clause-answered g c = λ few.
-    let so_far = c.loop-turn.invariant.answered in
-    let room : 0 < length c.read.new.buf = omega arith in
-    answered_all (g.R.Read.remaining c.args.reader.now) (g.R.Read.remaining c.loop-turn.reader) (g.R.Read.remaining c.read.new.self)
-    so_far.0 c.args.state.now c.read.new.buf c.in_ok-n.n c.if-n-eq0.true so_far.1 c.in_ok-n.ensures.bytes.0
-    (c.in_ok-n.ensures.bytes.1 c.if-n-eq0.true room) so_far.2
-
-pub returns-clause-answered : goal.returns-clause-answered
-returns-clause-answered g c = λ few.
-    let so_far = c.loop-turn.invariant.answered in
-    answered_few (g.R.Read.remaining c.args.reader.now) (g.R.Read.remaining c.loop-turn.reader) so_far.0 _ _ so_far.1 so_far.3 (omega arith)

@@ -1,11 +1,7 @@
-use Rattle.std.proofs.Common.{refl, arith}
+use Rattle.std.proofs.Common.{arith}
 use Rattle.std.proofs.lemmas.Result.{on_ok_weaker}
 use Rattle.sheetlog.proofs.Streams.{whole_output}
 use Rattle.sheetlog.proofs.run.Goals as goal
-
--- the buffers have the sizes of the definitions
-pub answer_all-requires : goal.answer_all-requires
-answer_all-requires g c = record { line_size = refl; kept = omega arith; replies = omega arith }
 
 pub returns : goal.returns
 returns g c =

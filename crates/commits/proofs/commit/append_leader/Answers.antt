@@ -10,4 +10,4 @@ overflow_add-id c =
 pub returns : goal.returns
 unfolding append_leader
 returns c =
-    rw (c.wide.ensures, c.leader_at.ensures)
+    rw c.leader_at.ensures

@@ -4,8 +4,8 @@ use Rattle.commits.specs.Commit.{most_commits}
 use Prim.Native.Nat.{◌-◌}
 use Rattle.commits.proofs.commit.commit_all.Given as goal
 
-abbrev pub invariant-loop : goal.invariant-loop
-invariant-loop l = Onward l.initial.state l.state
+abbrev pub invariant-loop-group : goal.invariant-loop-group
+invariant-loop-group l = Onward l.initial.state l.state
 
-abbrev pub decreases-loop : goal.decreases-loop
-decreases-loop l = most_commits - reach l.state
+abbrev pub decreases-loop-group : goal.decreases-loop-group
+decreases-loop-group l = most_commits - reach l.state

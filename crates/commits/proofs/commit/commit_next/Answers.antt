@@ -16,7 +16,7 @@ append_leader-requires c =
 
 pub order_leaders-requires : goal.order_leaders-requires
 order_leaders-requires c =
-    (known (goal.at.order_leaders-requires c).Start).led _ _ c.append_leader.ensures c.wide-first.ensures
+    (known (goal.at.order_leaders-requires c).Start).led _ c.append_leader.ensures
 
 pub shape_of-state : goal.shape_of-state
 shape_of-state c =
@@ -24,7 +24,7 @@ shape_of-state c =
 
 pub returns : goal.returns
 returns c =
-    (known (goal.at.returns c).Start).done _ _ _ c.append_leader.ensures c.wide-first.ensures c.order_leaders.ensures
+    (known (goal.at.returns c).Start).done _ _ c.append_leader.ensures c.order_leaders.ensures
 
 pub bounds-state-3 : goal.bounds-state-3
 bounds-state-3 c = let z = c.requires.at.going.standing.size in search rules

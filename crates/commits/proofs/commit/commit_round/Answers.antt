@@ -34,7 +34,7 @@ taken_runs-runs-requires c =
 
 pub order_leaders-requires : goal.order_leaders-requires
 order_leaders-requires c =
-    (known (goal.at.order_leaders-requires c).After-taken_of).led _ _ c.append_runs.ensures c.wide-first.ensures
+    (known (goal.at.order_leaders-requires c).After-taken_of).led _ c.append_runs.ensures
 
 pub shape_of-state : goal.shape_of-state
 shape_of-state c =
@@ -42,7 +42,7 @@ shape_of-state c =
 
 pub returns : goal.returns
 returns c =
-    (known (goal.at.returns c).After-taken_of).done _ _ _ c.append_runs.ensures c.wide-first.ensures c.order_leaders.ensures
+    (known (goal.at.returns c).After-taken_of).done _ _ c.append_runs.ensures c.order_leaders.ensures
 
 pub bounds-state-3 : goal.bounds-state-3
 bounds-state-3 c = let z = c.requires.at.going.standing.size in search rules

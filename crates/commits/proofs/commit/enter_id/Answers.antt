@@ -13,4 +13,4 @@ bounds-state-4-2 c =
 pub returns : goal.returns
 unfolding enter add_member
 returns c =
-    rw (c.wide.ensures, c.add_member.ensures, c.masks_at-at.ensures)
+    rw (c.add_member.ensures, c.masks_at-at.ensures)

@@ -14,7 +14,7 @@ roomy c = (known (goal.at.At-loop-r c).Start).kept _ _ c.loop-r.invariant
 
 pub loop-r-preserved : goal.loop-r-preserved
 loop-r-preserved c =
-    (known (goal.at.loop-r-preserved c).Start).more _ _ _ _ _ _ (omega arith) c.loop-r.invariant refl c.history_of-masks.ensures c.wide.ensures
+    (known (goal.at.loop-r-preserved c).Start).more _ _ _ _ _ (omega arith) c.loop-r.invariant refl c.history_of-masks.ensures
     c.order_round.ensures
 
 pub returns : goal.returns

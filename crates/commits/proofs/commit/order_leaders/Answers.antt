@@ -4,11 +4,11 @@ use Rattle.commits.proofs.commit.order_leaders.Goals as goal
 
 pub order_leader-requires : goal.order_leader-requires
 order_leader-requires c =
-    ordering_ready _ _ _ c.requires _ _ _ c.loop-i.invariant c.loop-i.auto.i c.wide-count.ensures c.loop-i-test.true
+    ordering_ready _ _ _ c.requires _ _ c.loop-i.invariant c.loop-i.auto.i c.loop-i-test.true
 
 pub loop-i-preserved : goal.loop-i-preserved
 loop-i-preserved c =
-    ordering_next _ _ _ c.requires _ _ _ _ c.loop-i.invariant c.loop-i.auto.i c.wide-count.ensures c.loop-i-test.true c.order_leader.ensures
+    ordering_next _ _ _ c.requires _ _ _ c.loop-i.invariant c.loop-i.auto.i c.loop-i-test.true c.order_leader.ensures
 
 pub returns : goal.returns
-returns c = ordering_end _ _ _ c.requires _ _ _ c.loop-i.invariant c.wide-count.ensures (omega arith)
+returns c = ordering_end _ _ _ c.requires _ _ c.loop-i.invariant (omega arith)

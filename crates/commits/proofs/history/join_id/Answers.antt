@@ -4,4 +4,4 @@ use Rattle.commits.proofs.history.join_id.Goals as goal
 pub returns : goal.returns
 unfolding join
 returns c =
-    rw (c.with-more.ensures, c.wide-at.ensures)
+    rw c.with-more.ensures

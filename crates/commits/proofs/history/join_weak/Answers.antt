@@ -1,5 +1,4 @@
 use Rattle.commits.proofs.Laws.{WeakWord, Cell, cell_known, join_weak_none, join_weak_more}
-use mathlib.Core.Path.{◌≡◌}
 use native.Mathlib.Omega.{arith}
 use borrow.Author.Rules.{rules}
 use Rattle.commits.proofs.history.join_weak.Goals as goal
@@ -12,9 +11,8 @@ known c =
 
 pub returns : goal.returns
 returns c =
-    let e : c.loop-i.i ≡ c.wide-count.result = omega arith in
     let k = known (goal.at.returns c).After-cell_at-at in
-    cc
+    grind arith
 
 weak : (c : In-loop-i) → WeakWord c.args.state.now c.args.round c.args.member c.cell_at-at.result c.loop-i.i
 weak c = (known (goal.at.In-loop-i c).After-cell_at-at).weak _ (omega arith)

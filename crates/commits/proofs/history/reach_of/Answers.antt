@@ -8,7 +8,7 @@ use native.Mathlib.Omega.{arith}
 use Rattle.commits.proofs.history.reach_of.Goals as goal
 
 pub loop-r-init : goal.loop-r-init
-loop-r-init c = reach_start _ _ _ _ _ c.wide.ensures c.requires.3
+loop-r-init c = reach_start _ _ _ _ c.requires.3
 
 pub loop-r-preserved : goal.loop-r-preserved
 loop-r-preserved c =

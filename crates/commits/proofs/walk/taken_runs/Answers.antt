@@ -15,7 +15,7 @@ small c =
 
 pub loop-t-init : goal.loop-t-init
 loop-t-init c =
-    (c.requires.order, (known (goal.at.loop-t-init c).Start).begun _ _ _ c.wide.ensures c.leader_of.ensures c.power-reached.ensures)
+    (c.requires.order, (known (goal.at.loop-t-init c).Start).begun _ _ c.leader_of.ensures c.power-reached.ensures)
 
 pub has_bit-requires : goal.has_bit-requires
 has_bit-requires c = small c
@@ -27,8 +27,8 @@ pub loop-t-preserved-then-has_bit : goal.loop-t-preserved-then-has_bit
 loop-t-preserved-then-has_bit c =
     let k = known (goal.at.loop-t-preserved-then-has_bit c).Start in (
       omega arith,
-      k.took _ _ _ _ _ _ _ _ (omega arith) c.loop-t.invariant.1 c.parents_of-below.ensures c.leader_of-leader.ensures
-          (sym c.has_bit.ensures ∙ c.if-has_bit.true) c.run_in.ensures c.wide-then-has_bit.ensures c.power-reached-then-has_bit.ensures,
+      k.took _ _ _ _ _ _ _ (omega arith) c.loop-t.invariant.1 c.parents_of-below.ensures c.leader_of-leader.ensures
+          (sym c.has_bit.ensures ∙ c.if-has_bit.true) c.run_in.ensures c.power-reached-then-has_bit.ensures,
     )
 
 pub loop-t-preserved : goal.loop-t-preserved

@@ -27,7 +27,7 @@ asked : (c : After-check_first) → c.check_first.result
     ≡ first_no (first_questions c.args.state.now (round_of c.args.rec.now) (source_of c.args.rec.now) (body_of c.args.rec.now))
 asked c =
     state_past c.args.state.now _ c.check_state.ensures (after (goal.at.After-check_first c).Start)
-    (was_ok c.in_ok-check_state.was) _ c.check_first.ensures
+    (was_ok c.in_ok-check_state.was) _ (rw c.of-group.ensures at c.check_first.ensures)
 
 -- and stopped nothing
 known : (c : In_ok-check_first) → FirstTaken c.args.state.now c.args.rec.now
@@ -61,7 +61,7 @@ pub bounds-rec : goal.bounds-rec
 bounds-rec c = let k = known (goal.at.bounds-rec c).In_ok-check_first in search rules
 
 pub hear_record-requires : goal.hear_record-requires
-hear_record-requires c = (known (goal.at.hear_record-requires c).In_ok-check_first).hearing
+hear_record-requires c = rw c.of-group.ensures ((known (goal.at.hear_record-requires c).In_ok-check_first).hearing)
 
 pub settle-requires : goal.settle-requires
 settle-requires c =

@@ -16,14 +16,14 @@ slice_bounds-weak-items-end c = let k = known (goal.at.slice_bounds-weak-items-e
 
 pub loop-weak-preserved : goal.loop-weak-preserved
 loop-weak-preserved c =
-    (known (goal.at.loop-weak-preserved c).Start).weak_more c.wide-end.result _ (omega arith) c.loop-weak.invariant _ c.is_marked.ensures
+    (known (goal.at.loop-weak-preserved c).Start).weak_more _ (omega arith) c.loop-weak.invariant _ c.is_marked.ensures
     c.if-not-is_marked.false
 
 pub returns-then-not-is_marked : goal.returns-then-not-is_marked
 returns-then-not-is_marked c =
-    (known (goal.at.returns-then-not-is_marked c).Start).weak_lacks _ _ c.wide-end.ensures (omega arith) c.loop-weak.invariant _ c.is_marked.ensures
+    (known (goal.at.returns-then-not-is_marked c).Start).weak_lacks _ (omega arith) c.loop-weak.invariant _ c.is_marked.ensures
     c.if-not-is_marked.true
 
 pub first_missing_strong-requires-clause-weak_held : goal.first_missing_strong-requires-clause-weak_held
 first_missing_strong-requires-clause-weak_held c =
-    (known (goal.at.first_missing_strong-requires-clause-weak_held c).Start).weak_all _ _ c.wide-end.ensures (omega arith) c.loop-weak.invariant
+    (known (goal.at.first_missing_strong-requires-clause-weak_held c).Start).weak_all _ (omega arith) c.loop-weak.invariant

@@ -8,7 +8,7 @@ use Rattle.ordering.proofs.steps.settle.Goals.{After-commit_all}
 
 pub commit_all-requires : goal.commit_all-requires
 commit_all-requires c =
-    (going _ (formed _ c.requires.0 c.requires.1), c.requires.2, c.requires.3)
+    (going _ (formed _ c.requires.0 c.requires.1), c.requires.2)
 
 known : (c : After-commit_all) → Settled c.args.state.now c.commit_all.new.state
 known c = settled _ _ (formed _ c.requires.0 c.requires.1) c.commit_all.ensures

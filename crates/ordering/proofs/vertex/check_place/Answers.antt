@@ -1,6 +1,8 @@
 -- `check_place` meets its contract. Assumes nothing.
 use Rattle.ordering.proofs.Turns.{PlaceKnown, place_known}
+use mathlib.Core.Path.{sym, ◌∙◌}
 use borrow.Author.Rules.{rules}
+use Rattle.record.proofs.Below.{below_is, below_off}
 use Rattle.ordering.proofs.vertex.check_place.Goals as goal
 use Rattle.ordering.proofs.vertex.check_place.Goals.{Start}
 
@@ -22,11 +24,13 @@ returns-then-same_body c = (known (goal.at.returns-then-same_body c).Start).same
 pub returns-then-has_bit : goal.returns-then-has_bit
 returns-then-has_bit c = (known (goal.at.returns-then-has_bit c).Start).other (cc) (cc)
 
-pub first_missing-id-requires : goal.first_missing-id-requires
-first_missing-id-requires c = record { source = c.args.source; placing = c.requires }
+pub first_missing-requires : goal.first_missing-requires
+first_missing-requires c = record { source = c.args.source; placing = c.requires }
 
-pub returns-then-lacks : goal.returns-then-lacks
-returns-then-lacks c = (known (goal.at.returns-then-lacks c).Start).lacking _ (cc) (search) (search)
+pub returns-in-Some : goal.returns-in-Some
+returns-in-Some c =
+    let w = below_is _ _ _ (sym c.in-Some.is ∙ c.first_missing.ensures) in
+    (known (goal.at.returns-in-Some c).Start).lacking _ (cc) w.0 w.1
 
 pub returns : goal.returns
-returns c = (known (goal.at.returns c).Start).free (cc) (search rules)
+returns c = (known (goal.at.returns c).Start).free (cc) (below_off _ _ (sym c.in_default.is ∙ c.first_missing.ensures))

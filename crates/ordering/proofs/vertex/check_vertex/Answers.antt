@@ -14,14 +14,14 @@ abbrev rest : Start → List Question
 rest s = place_questions (s.args.state.now) (round_of (s.args.rec.now)) (source_of (s.args.rec.now)) (body_of (s.args.rec.now))
 
 -- the record's questions are passed
-known : (c : In_ok-check) → let s : Start = (goal.at.In_ok-check c).Start in RecordKnown c.args.n c.args.rec.now (rest s)
+known : (c : In_ok-check) → let s : Start = (goal.at.In_ok-check c).Start in RecordKnown c.args.group.n c.args.rec.now (rest s)
 known c = record_known _ _ _ _ c.check.ensures (was_ok c.in_ok-check.was)
 
 pub returns-in_err-check : goal.returns-in_err-check
 returns-in_err-check c =
     let s : Start = (goal.at.returns-in_err-check c).Start in
     raised _ c.from_residual.ensures.1 ∙ sym c.in_err-check.was
-    ∙ record_stops c.args.n c.args.rec.now (rest s) _ c.check.ensures (was_err c.in_err-check.was)
+    ∙ record_stops c.args.group.n c.args.rec.now (rest s) _ c.check.ensures (was_err c.in_err-check.was)
 
 pub bounds-rec-0 : goal.bounds-rec-0
 bounds-rec-0 c = let k = known (goal.at.bounds-rec-0 c).In_ok-check in search rules

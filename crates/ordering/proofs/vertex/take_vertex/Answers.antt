@@ -6,7 +6,7 @@ use Rattle.record.specs.Refusals.{number_of, Question, first_no}
 use Rattle.record.specs.Layout.{round_of, source_of, body_of}
 use Rattle.replica.specs.State.{member_count}
 use Rattle.replica.proofs.Formed.{WellFormed}
-use mathlib.Core.Path.{◌≡◌, refl, sym, ap, ◌∙◌}
+use mathlib.Core.Path.{◌≡◌, sym, ap, ◌∙◌}
 use mathlib.Core.List.{List}
 use borrow.Author.Rules.{rules}
 use Rattle.record.proofs.Turn.{raised, was_err, was_ok}
@@ -27,7 +27,7 @@ asked : (c : After-check_vertex) → c.check_vertex.result
     ≡ first_no (vertex_questions c.args.state.now (round_of c.args.rec.now) (source_of c.args.rec.now) (body_of c.args.rec.now))
 asked c =
     state_past c.args.state.now _ c.check_state.ensures (after (goal.at.After-check_vertex c).Start)
-    (was_ok c.in_ok-check_state.was) _ c.check_vertex.ensures
+    (was_ok c.in_ok-check_state.was) _ (rw c.of-group.ensures at c.check_vertex.ensures)
 
 pub returns-in_err-check_state : goal.returns-in_err-check_state
 returns-in_err-check_state c =
@@ -50,7 +50,7 @@ returns-in_err-check_vertex c =
 pub admit_vertex-requires : goal.admit_vertex-requires
 admit_vertex-requires c =
     let a : After-check_vertex = (goal.at.admit_vertex-requires c).After-check_vertex in
-    record { members = refl; quorum = c.quorum_of-quorum.ensures; passed = ap number_of (sym (asked a)) ∙ was_ok c.in_ok-check_vertex.was }
+    record { members = c.of-group.ensures; passed = ap number_of (sym (asked a)) ∙ was_ok c.in_ok-check_vertex.was }
 
 pub returns : goal.returns
 returns c = c.admit_vertex.ensures

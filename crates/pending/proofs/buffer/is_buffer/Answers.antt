@@ -5,7 +5,7 @@ use Rattle.pending.proofs.buffer.is_buffer.Goals as goal
 
 pub returns : goal.returns
 returns c =
-    all_rise c.args.n c.args.buffer.now _ c.records_ok.ensures (search) (search rules) (search rules) _ c.slot_at-rest.ensures _
+    all_rise c.args.group.n c.args.buffer.now _ c.records_ok.ensures (search) (search rules) (search rules) _ c.slot_at-rest.ensures _
     c.is_zero.ensures
 
 pub returns-then-buffer-ne-BUFFER_SIZE : goal.returns-then-buffer-ne-BUFFER_SIZE

@@ -6,4 +6,4 @@ use Rattle.pending.proofs.buffer.records_ok.Given as goal
 
 abbrev pub invariant-loop-j : goal.invariant-loop-j
 invariant-loop-j l =
-    records_ok l.n l.last (records_from l.buffer l.j (count_of l.buffer - l.j)) ≡ records_ok l.n 0 (records_in l.buffer)
+    records_ok l.group.n l.last (records_from l.buffer l.j (count_of l.buffer - l.j)) ≡ records_ok l.group.n 0 (records_in l.buffer)

@@ -10,9 +10,9 @@ S : (s : Start) → WellFormed (s.args.state.now)
 S s = (vertex_written _ _ _ _ s.requires.0.passed).first
 
 -- the vertex is admitted
-known : (c : After-admit_vertex) → Admitting c.args.state.now c.args.buffer.now c.args.rec.now c.args.n c.args.quorum c.admit_vertex.new.state
+known : (c : After-admit_vertex) → Admitting c.args.state.now c.args.buffer.now c.args.rec.now c.args.group.n c.admit_vertex.new.state
 known c =
-    admitting _ _ _ _ _ _ c.admit_vertex.result c.requires.0 c.requires.1 c.admit_vertex.ensures
+    admitting _ _ _ _ _ c.admit_vertex.result c.requires.0 c.requires.1 c.admit_vertex.ensures
 
 pub release-requires : goal.release-requires
 release-requires c = ((known (goal.at.release-requires c).After-admit_vertex).standing, c.requires.1)

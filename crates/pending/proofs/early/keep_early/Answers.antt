@@ -9,9 +9,9 @@ use Rattle.record.proofs.Booleans.{passed, failed}
 use Rattle.pending.specs.Buffer.{records_in, some, same_record, same_id}
 use Rattle.pending.specs.Inner.{Sound, PlaceOf, rank}
 use Rattle.pending.proofs.Order.{Formed, formed}
-use Rattle.pending.proofs.Calling.{early_other, early_same, early_id, early_full, early_put}
+use Rattle.pending.proofs.Calling.{early_other, early_waits, waits_none, early_full, early_put}
 use Rattle.pending.proofs.early.keep_early.Goals as goal
-use Rattle.pending.proofs.early.keep_early.Goals.{After-rank_of-j, Else-has_id, Else-has_record, Else-not-is_missing}
+use Rattle.pending.proofs.early.keep_early.Goals.{After-rank_of-j, In_default, Else-not-is_missing}
 
 pub returns-then-not-is_missing : goal.returns-then-not-is_missing
 returns-then-not-is_missing c =
@@ -34,27 +34,22 @@ place c =
     let e : Else-not-is_missing = (goal.at.After-rank_of-j c).Else-not-is_missing in
     record { sound = sound e; bounded = c.requires.bounded (missing e); place = c.rank_of-j.ensures ∙ ap (rank (records_in c.args.buffer.now)) c.id_of.ensures }
 
--- the same record does not wait
-other : (c : Else-has_record) → some (same_record c.args.rec.now) (records_in c.args.buffer.now) ≡ false
-other c = sym c.has_record.ensures ∙ cc
+-- no record of its id waits
+none : (c : In_default) → (some (same_record c.args.rec.now) (records_in c.args.buffer.now) ≡ false)
+    × (some (same_id c.args.rec.now) (records_in c.args.buffer.now) ≡ false)
+none c =
+    let w = waits_none c.args.buffer.now c.args.rec.now c.args.why (sym c.in_default.is ∙ c.check_waiting.ensures) in
+    (w.0, w.1)
 
--- nor one of its id
-new : (c : Else-has_id) → some (same_id c.args.rec.now) (records_in c.args.buffer.now) ≡ false
-new c = sym c.has_id.ensures ∙ cc
-
-pub returns-then-has_record : goal.returns-then-has_record
-returns-then-has_record c =
-    early_same c.args.buffer.now c.args.rec.now c.args.why (missing (goal.at.returns-then-has_record c).Else-not-is_missing) (sym c.has_record.ensures ∙ cc)
-
-pub returns-then-has_id : goal.returns-then-has_id
-returns-then-has_id c =
-    early_id c.args.buffer.now c.args.rec.now c.args.why (missing (goal.at.returns-then-has_id c).Else-not-is_missing)
-    (other (goal.at.returns-then-has_id c).Else-has_record) (sym c.has_id.ensures ∙ cc)
+pub returns-in-Err : goal.returns-in-Err
+returns-in-Err c =
+    early_waits c.args.buffer.now c.args.rec.now c.args.why (missing (goal.at.returns-in-Err c).Else-not-is_missing) _ (sym c.in-Err.is
+    ∙ c.check_waiting.ensures)
 
 pub returns-then-buffer-eq-BUFFER_SLOTS : goal.returns-then-buffer-eq-BUFFER_SLOTS
 returns-then-buffer-eq-BUFFER_SLOTS c =
     early_full c.args.buffer.now c.args.rec.now c.args.why (missing (goal.at.returns-then-buffer-eq-BUFFER_SLOTS c).Else-not-is_missing)
-    (other (goal.at.returns-then-buffer-eq-BUFFER_SLOTS c).Else-has_record) (new (goal.at.returns-then-buffer-eq-BUFFER_SLOTS c).Else-has_id) (omega arith)
+    (none (goal.at.returns-then-buffer-eq-BUFFER_SLOTS c).In_default).0 (none (goal.at.returns-then-buffer-eq-BUFFER_SLOTS c).In_default).1 (omega arith)
 
 pub put_in-requires : goal.put_in-requires
 put_in-requires c = let f = (F (goal.at.put_in-requires c).Else-not-is_missing).few in (place (goal.at.put_in-requires c).After-rank_of-j, omega arith)
@@ -62,8 +57,8 @@ put_in-requires c = let f = (F (goal.at.put_in-requires c).Else-not-is_missing).
 pub returns : goal.returns
 returns c =
     let f = (F (goal.at.returns c).Else-not-is_missing).few in
-    early_put c.args.buffer.now c.args.rec.now c.args.why (missing (goal.at.returns c).Else-not-is_missing) (other (goal.at.returns c).Else-has_record)
-    (new (goal.at.returns c).Else-has_id) (omega arith) _ c.put_in.ensures
+    early_put c.args.buffer.now c.args.rec.now c.args.why (missing (goal.at.returns c).Else-not-is_missing) (none (goal.at.returns c).In_default).0
+    (none (goal.at.returns c).In_default).1 (omega arith) _ c.put_in.ensures
 
 pub id_of-requires : goal.id_of-requires
 id_of-requires c = c.requires.bounded (missing c)
@@ -71,11 +66,8 @@ id_of-requires c = c.requires.bounded (missing c)
 pub rank_of-j-requires : goal.rank_of-j-requires
 rank_of-j-requires c = sound (goal.at.rank_of-j-requires c).Else-not-is_missing
 
-pub has_record-requires : goal.has_record-requires
-has_record-requires c = place c
-
-pub has_id-requires : goal.has_id-requires
-has_id-requires c = place (goal.at.has_id-requires c).After-rank_of-j
+pub check_waiting-requires : goal.check_waiting-requires
+check_waiting-requires c = place c
 
 pub bounds-buffer-0 : goal.bounds-buffer-0
 bounds-buffer-0 c = let f = F (goal.at.bounds-buffer-0 c).Else-not-is_missing in search rules

@@ -34,10 +34,10 @@ state c = state_formed _ _ c.check_state.ensures (was_ok c.in_ok-check_state.was
 decide : (c : After-check_early) → c.check_early.result ≡ first_no (buffered_questions c.args.state.now c.args.buffer.now c.args.rec.now)
 decide c =
     let s : Start = (goal.at.After-check_early c).Start in
-    state_past c.args.state.now _ c.check_state.ensures (after s) (was_ok c.in_ok-check_state.was) _ c.check_early.ensures
+    state_past c.args.state.now _ c.check_state.ensures (after s) (was_ok c.in_ok-check_state.was) _ (rw c.of-group.ensures at c.check_early.ensures)
 
 known : (c : After-check_early) → Asked c.args.state.now c.args.buffer.now c.args.rec.now c.check_early.result
-known c = asked _ _ _ (state (goal.at.After-check_early c).In_ok-check_state) _ c.check_early.ensures
+known c = asked _ _ _ (state (goal.at.After-check_early c).In_ok-check_state) _ (rw c.of-group.ensures at c.check_early.ensures)
 
 pub returns-in-Err : goal.returns-in-Err
 returns-in-Err c =
@@ -47,7 +47,7 @@ returns-in-Err c =
 pub admit_with-requires : goal.admit_with-requires
 admit_with-requires c =
     let k = known (goal.at.admit_with-requires c).After-check_early in
-    (record { members = refl; quorum = c.quorum_of-quorum.ensures; passed = k.passes (cc) }, k.buffer (cc))
+    (record { members = c.of-group.ensures; passed = k.passes (cc) }, rw c.of-group.ensures (k.buffer (cc)))
 
 pub returns : goal.returns
 returns c =

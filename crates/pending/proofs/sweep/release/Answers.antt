@@ -15,10 +15,10 @@ use Rattle.pending.proofs.Swept.{going_start, going_trying, step, sweep_done}
 use Rattle.pending.proofs.sweep.release.Goals as goal
 use Rattle.pending.proofs.sweep.release.Goals.{After-slot_at-end, Start}
 
-F : (s : Start) → Formed s.args.n (s.args.buffer.now)
+F : (s : Start) → Formed s.args.group.n (s.args.buffer.now)
 F s = order.formed _ _ s.requires.1
 
-G : (s : Start) → Good s.args.n (s.args.state.now)
+G : (s : Start) → Good s.args.group.n (s.args.state.now)
 G s = record { formed = formed _ s.requires.0.size s.requires.0.formed; members = sym s.requires.0.members }
 
 pub loop-j-init : goal.loop-j-init
@@ -27,13 +27,13 @@ loop-j-init c = let s : Start = (goal.at.loop-j-init c).Start in going_start _ _
 pub sweep_one-kept-requires : goal.sweep_one-kept-requires
 sweep_one-kept-requires c =
     let s : Start = (goal.at.sweep_one-kept-requires c).Start in
-    going_trying c.args.n c.args.quorum c.args.state.now c.args.buffer.now c.loop-j.state c.loop-j.buffer c.loop-j.kept c.loop-j.j (F s) c.requires.0.quorum
+    going_trying c.args.group.n c.args.state.now c.args.buffer.now c.loop-j.state c.loop-j.buffer c.loop-j.kept c.loop-j.j (F s)
     c.loop-j.invariant (omega arith)
 
 pub loop-j-preserved : goal.loop-j-preserved
 loop-j-preserved c =
     let s : Start = (goal.at.loop-j-preserved c).Start in
-    step c.args.n c.args.state.now c.args.buffer.now c.loop-j.state c.loop-j.buffer c.loop-j.kept c.loop-j.j (F s) c.loop-j.invariant (omega arith) _ _ _
+    step c.args.group.n c.args.state.now c.args.buffer.now c.loop-j.state c.loop-j.buffer c.loop-j.kept c.loop-j.j (F s) c.loop-j.invariant (omega arith) _ _ _
     c.sweep_one-kept.ensures
 
 pub slot_at-free-requires : goal.slot_at-free-requires
@@ -68,7 +68,7 @@ pub returns : goal.returns
 returns c =
     let s : Start = (goal.at.returns c).Start in let b : After-slot_at-end = (goal.at.returns c).After-slot_at-end in
     let e : c.loop-j.j ≡ count_of c.args.buffer.now = omega arith in
-    sweep_done c.args.n c.args.state.now c.args.buffer.now c.loop-j.state c.loop-j.buffer _ _ c.loop-j.kept _ _ (F s) (G s) (rw e at c.loop-j.invariant)
+    sweep_done c.args.group.n c.args.state.now c.args.buffer.now c.loop-j.state c.loop-j.buffer _ _ c.loop-j.kept _ _ (F s) (G s) (rw e at c.loop-j.invariant)
     c.slot_at-free.ensures c.slot_at-end.ensures (cleared c.loop-j.buffer c.clear.new.words _ _ (bounds b).0 (bounds b).1 c.clear.ensures) refl
 
 pub bounds-buffer-0 : goal.bounds-buffer-0

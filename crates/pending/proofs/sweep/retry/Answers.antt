@@ -5,8 +5,8 @@ use Rattle.pending.proofs.Trying.{Tried, tried}
 use Rattle.pending.proofs.sweep.retry.Goals as goal
 use Rattle.pending.proofs.sweep.retry.Goals.{Start}
 
-known : (s : Start) → Tried s.args.state.now s.args.n s.args.quorum s.args.rec.now
-known s = tried _ _ _ _ s.requires
+known : (s : Start) → Tried s.args.state.now s.args.group.n s.args.rec.now
+known s = tried _ _ _ s.requires
 
 pub check_place-requires : goal.check_place-requires
 check_place-requires c = let k = known (goal.at.check_place-requires c).Start in k.placing

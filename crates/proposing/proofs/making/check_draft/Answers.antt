@@ -2,11 +2,11 @@
 use Rattle.proposing.proofs.Asking.{draft_timeouts, draft_no_votes, draft_made, draft_first, draft_few, draft_done}
 use Rattle.proposing.proofs.making.check_draft.Goals as goal
 
-pub returns-then-not-quorum_if : goal.returns-then-not-quorum_if
-returns-then-not-quorum_if c = search draft_timeouts
+pub returns-then-not-is_enough : goal.returns-then-not-is_enough
+returns-then-not-is_enough c = search draft_timeouts
 
-pub returns-then-not-quorum_if-2 : goal.returns-then-not-quorum_if-2
-returns-then-not-quorum_if-2 c = search draft_no_votes
+pub returns-then-not-is_enough-2 : goal.returns-then-not-is_enough-2
+returns-then-not-is_enough-2 c = search draft_no_votes
 
 pub returns-then-marks_round : goal.returns-then-marks_round
 returns-then-marks_round c = search draft_made

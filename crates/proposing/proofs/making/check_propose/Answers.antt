@@ -31,10 +31,10 @@ pub returns-then-round-gt-ROUNDS : goal.returns-then-round-gt-ROUNDS
 returns-then-round-gt-ROUNDS c = let z = was_ok c.in_ok-check_member.was in search propose_late
 
 pub draft_of-requires : goal.draft_of-requires
-draft_of-requires c = ready c
+draft_of-requires c = rw c.of-group.ensures (ready c)
 
 pub check_draft-requires : goal.check_draft-requires
-check_draft-requires c = (ready (goal.at.check_draft-requires c).Else-round-gt-ROUNDS, c.draft_of.ensures)
+check_draft-requires c = (rw c.of-group.ensures (ready (goal.at.check_draft-requires c).Else-round-gt-ROUNDS), c.draft_of.ensures)
 
 pub returns : goal.returns
 returns c = let z = was_ok c.in_ok-check_member.was in search propose_asked

@@ -1,4 +1,5 @@
-use mathlib.Core.Path.{◌≡◌, sym, ◌∙◌}
+use Rattle.std.specs.Prelude.{Some}
+use mathlib.Core.Path.{◌≡◌, ap, sym, ◌∙◌}
 use mathlib.Core.Bool.{true, false}
 use Prim.Native.Nat.{◌≤◌}
 use Rattle.record.proofs.Booleans.{cond_true, cond_false}
@@ -13,7 +14,7 @@ known c = c.requires.2 c.if-not-wanted.false
 pub returns : goal.returns
 returns c =
     let w : c.args.wanted ≡ true = c.if-not-wanted.false in
-    c.mask_of.ensures ∙ sym (cond_true _ _ w)
+    ap Some c.mask_of.ensures ∙ sym (cond_true _ _ w)
 
 pub returns-then-not-wanted : goal.returns-then-not-wanted
 returns-then-not-wanted c = let w : c.args.wanted ≡ false = c.if-not-wanted.true in sym (cond_false _ _ w)

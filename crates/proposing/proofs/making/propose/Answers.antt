@@ -19,11 +19,11 @@ returns-in_err-check_propose c =
 pub bounds-state-1 : goal.bounds-state-1
 bounds-state-1 c = let k = ready (goal.at.bounds-state-1 c).In_ok-check_propose in search rules
 
-pub slice_reshared_read-record_of : goal.slice_reshared_read-record_of
-slice_reshared_read-record_of c = let k = ready (goal.at.slice_reshared_read-record_of c).In_ok-check_propose in search rules
+pub bounds-state-0 : goal.bounds-state-0
+bounds-state-0 c = let k = ready (goal.at.bounds-state-0 c).In_ok-check_propose in search rules
 
 pub record_of-words-requires : goal.record_of-words-requires
-record_of-words-requires c = ready (goal.at.record_of-words-requires c).In_ok-check_propose
+record_of-words-requires c = rw c.of-group.ensures (ready (goal.at.record_of-words-requires c).In_ok-check_propose)
 
 pub mark_round-requires : goal.mark_round-requires
 mark_round-requires c = let k = ready (goal.at.mark_round-requires c).In_ok-check_propose in search rules

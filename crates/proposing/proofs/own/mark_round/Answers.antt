@@ -4,4 +4,4 @@ use Rattle.proposing.proofs.own.mark_round.Goals as goal
 pub returns : goal.returns
 unfolding mark_round
 returns c =
-    rw c.with_bit-marked.ensures
+    rw c.power.ensures

@@ -34,7 +34,8 @@ pub may_sign-requires : goal.may_sign-requires
 may_sign-requires c = opened c.args.state.now (known (goal.at.may_sign-requires c).In_ok-check_member)
 
 pub returns-then-not-may_sign : goal.returns-then-not-may_sign
-returns-then-not-may_sign c = sign_not c.args.state.now _ c.check_member.ensures (was_ok c.in_ok-check_member.was) _ c.may_sign.ensures (ap not c.if-not-may_sign.true)
+returns-then-not-may_sign c = sign_not c.args.state.now _ c.check_member.ensures (was_ok c.in_ok-check_member.was) _ c.may_sign.ensures (ap not
+    c.if-not-may_sign.true)
 
 pub bounds-state-7 : goal.bounds-state-7
 bounds-state-7 c = let k = known (goal.at.bounds-state-7 c).In_ok-check_member in search rules

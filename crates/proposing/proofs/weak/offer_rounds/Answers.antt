@@ -6,7 +6,7 @@ use Rattle.proposing.proofs.weak.offer_rounds.Goals as goal
 
 pub loop-t-preserved : goal.loop-t-preserved
 loop-t-preserved c =
-    rounds_more _ _ _ _ _ _ _ _ _ c.loop-t.invariant c.mask_of.ensures c.wide.ensures c.offer_round.ensures
+    rounds_more _ _ _ _ _ _ _ _ c.loop-t.invariant c.mask_of.ensures c.offer_round.ensures
 
 pub returns : goal.returns
 returns c =

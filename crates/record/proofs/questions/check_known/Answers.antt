@@ -3,10 +3,9 @@ use Rattle.record.specs.Questions.{masks_ok, signer_questions, record_questions}
 use Rattle.record.specs.Handed.{handed_strong, handed_timeouts, handed_no_votes, handed_questions, handed_refusal}
 use Rattle.record.specs.Layout.{strong_of, timeouts_of, no_votes_of}
 use Rattle.record.specs.Refusals.{Verdict, first_no}
-use Rattle.record.specs.declared.questions.Terms.{Terms}
 use Rattle.record.proofs.Parts.{strong_asked}
 use Rattle.record.proofs.Turn.{next, stop, done, known}
-use mathlib.Core.Path.{◌∙◌, sym, ◌≡◌, ap}
+use mathlib.Core.Path.{◌∙◌, sym, ◌≡◌}
 use Prim.Native.Nat.{ℕ}
 use lib.ListN.{drop}
 use Rattle.record.proofs.questions.check_known.Goals as goal
@@ -16,32 +15,35 @@ use Rattle.record.proofs.questions.check_known.Goals.{Else-not-no_votes_ok, Else
 -- the questions from the one at k on decide
 abbrev Left : Start → ℕ → Type 0
 Left s k =
-    (r : Verdict) → r ≡ first_no (drop k (handed_questions (s.args.terms.n) (s.args.quorum) (s.args.round) s.args.source (s.args.body.now)))
-    → r ≡ handed_refusal (s.args.terms.n) (s.args.quorum) (s.args.round) s.args.source (s.args.body.now)
+    (r : Verdict) → r ≡ first_no (drop k (handed_questions (s.args.terms.now.group.n) s.args.terms.now.group.quorum s.args.terms.now.round
+    s.args.source (s.args.body.now)))
+    → r ≡ handed_refusal (s.args.terms.now.group.n) s.args.terms.now.group.quorum s.args.terms.now.round s.args.source (s.args.body.now)
 
 from_masks : (c : Start) → Left c 3
 unfolding handed_questions record_questions signer_questions
 from_masks c r = known _ _ _ c.args.body.now _ c.requires.round_low c.requires.round_high c.requires.source_low c.requires.size
 
 -- what each test asks
-masks : (c : After-masks_ok) → c.masks_ok.result ≡ masks_ok c.args.terms.n c.args.body.now
+masks : (c : After-masks_ok) → c.masks_ok.result ≡ masks_ok c.args.terms.now.group.n c.args.body.now
 unfolding masks_ok strong_of timeouts_of no_votes_of
 masks c = c.masks_ok.ensures
 
 -- 7 is answered yes of the strong mask before 8 is asked
-strong : (c : After-strong_ok) → c.strong_ok.result ≡ handed_strong c.args.quorum c.args.round (strong_of c.args.body.now)
+strong : (c : After-strong_ok) → c.strong_ok.result ≡ handed_strong c.args.terms.now.group.quorum c.args.terms.now.round (strong_of c.args.body.now)
 unfolding strong_of
 strong c =
     strong_asked _ _ _ _ _ (sym (masks (goal.at.After-strong_ok c).After-masks_ok) ∙ c.if-not-masks_ok.false) c.strong_ok.ensures
 
-timeouts : (c : After-quorum_if) → c.quorum_if.result ≡ handed_timeouts c.args.terms.n c.args.quorum c.args.round c.args.body.now
+timeouts : (c : After-quorum_if) → c.quorum_if.result ≡ handed_timeouts c.args.terms.now.group.n c.args.terms.now.group.quorum c.args.terms.now.round
+    c.args.body.now
 unfolding handed_timeouts strong_of timeouts_of
 timeouts c = cc
 
-no_votes : (c : After-no_votes_ok) → c.no_votes_ok.result ≡ handed_no_votes c.args.terms.n c.args.quorum c.args.round c.args.source c.args.body.now
+no_votes : (c : After-no_votes_ok) → c.no_votes_ok.result ≡ handed_no_votes c.args.terms.now.group.n c.args.terms.now.group.quorum
+    c.args.terms.now.round c.args.source c.args.body.now
 unfolding handed_no_votes strong_of no_votes_of
 no_votes c =
-    rw (c.lacks_leader-lack.ensures, ap (λ (t : Terms). t.leader) c.requires.terms_are) at c.no_votes_ok.ensures
+    rw (c.lacks_leader-lack.ensures, c.args.terms.now.leader_is) at c.no_votes_ok.ensures
 
 from_strong : (c : Else-not-masks_ok) → Left (goal.at.Else-not-masks_ok c).Start 4
 unfolding handed_questions record_questions signer_questions

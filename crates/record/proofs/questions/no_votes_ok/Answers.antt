@@ -9,4 +9,4 @@ returns-then-leads c =
 
 pub returns : goal.returns
 returns c =
-    wanted_not c.args.quorum c.args.lack _ c.args.no_votes (ne_eqb _ _ c.if-leads.false)
+    wanted_not c.args.terms.now.group.quorum c.args.lack _ c.args.no_votes (ne_eqb _ _ c.if-leads.false)

@@ -6,9 +6,9 @@ use Rattle.record.proofs.questions.used_slots.Goals as goal
 pub returns-then-count-gt-WEAK_SLOTS : goal.returns-then-count-gt-WEAK_SLOTS
 unfolding used_slots weak_count_of
 returns-then-count-gt-WEAK_SLOTS c =
-    simp (lt-leb _ _ (rw c.wide-count.ensures at c.if-count-gt-WEAK_SLOTS.true))
+    simp (lt-leb _ _ c.if-count-gt-WEAK_SLOTS.true)
 
 pub returns : goal.returns
 unfolding used_slots weak_count_of
 returns c =
-    simp (le-leb _ _ (rw c.wide-count.ensures at c.if-count-gt-WEAK_SLOTS.false)) c.wide-count.ensures
+    simp (le-leb _ _ c.if-count-gt-WEAK_SLOTS.false)

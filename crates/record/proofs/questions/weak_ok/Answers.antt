@@ -24,6 +24,6 @@ pub weak_ids_ok-requires : goal.weak_ids_ok-requires
 unfolding weak_count_of
 weak_ids_ok-requires c = let u = used_few c.args.body.now in search rules
 
-pub slots_zero-requires : goal.slots_zero-requires
+pub slots_zero-requires-2 : goal.slots_zero-requires-2
 unfolding weak_count_of
-slots_zero-requires c = let u = used_few c.args.body.now in search rules
+slots_zero-requires-2 c = let u = used_few c.args.body.now in search rules

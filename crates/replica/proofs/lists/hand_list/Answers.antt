@@ -28,4 +28,4 @@ pub slice_bounds-result-end-2 : goal.slice_bounds-result-end-2
 slice_bounds-result-end-2 c = let k = known (goal.at.slice_bounds-result-end-2 c).Else-is_err in search rules
 
 pub returns : goal.returns
-returns c = search (known (goal.at.returns c).Else-is_err).done
+returns c = (known (goal.at.returns c).Else-is_err).done

@@ -3,4 +3,4 @@ use Rattle.replica.proofs.Marks.{Reading}
 use Rattle.replica.proofs.wellformed.journal_ok.Given as goal
 
 abbrev pub invariant-loop-x : goal.invariant-loop-x
-invariant-loop-x l = Reading l.state l.count l.x-index l.marks
+invariant-loop-x l = Reading l.state l.x-index l.marks

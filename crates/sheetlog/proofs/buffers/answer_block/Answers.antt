@@ -1,4 +1,4 @@
-use Rattle.sheetlog.proofs.Feeding.{holds_none, holds_turn, holds_all}
+use Rattle.sheetlog.proofs.Feeding.{holds_none, holds_turn}
 use borrow.Author.Rules.{rules}
 use Rattle.sheetlog.proofs.buffers.answer_block.Goals as goal
 
@@ -9,7 +9,3 @@ loop-b-init c =
 pub loop-b-preserved : goal.loop-b-preserved
 loop-b-preserved c =
     (search rules, holds_turn _ _ _ _ c.loop-b-test.true c.loop-b.invariant.1 c.take_byte-fill.ensures.holds)
-
-pub returns : goal.returns
-returns c =
-    holds_all _ _ _ _ c.loop-b-test.false c.loop-b.invariant.1

@@ -15,9 +15,6 @@ journal_few : (c : After-hand_journal) → length c.hand_journal.result.now ≤ 
 journal_few c = part_few c.args.state c.hand_journal.result (hand_journal c.args.state.now 0)
     c.hand_journal.ensures
 
-pub put_list-last-requires : goal.put_list-last-requires
-put_list-last-requires c = omega (arith, rest_few c.args.rest.now, leaders_few c)
-
 pub put_list-requires : goal.put_list-requires
 put_list-requires c =
     omega (arith, rest_few c.args.rest.now, list_few 76 c.hand_leaders.result.now, leaders_few (goal.at.put_list-requires c).After-hand_leaders, journal_few c)

@@ -1,4 +1,7 @@
-use Rattle.transcript.proofs.Numerals.{not_led, counting, no_digit, DigitRead, digit_read, counted}
+use Prim.Native.Nat.{◌+◌}
+use mathlib.Core.Path.{refl}
+use native.Mathlib.Omega.{arith}
+use Rattle.transcript.proofs.Numerals.{not_led, no_digit, DigitRead, digit_read, counted}
 use borrow.Author.Rules.{rules}
 use Rattle.transcript.proofs.numeral.numeral.Goals as goal
 use Rattle.transcript.proofs.numeral.numeral.Goals.{Else-not-is_digit}
@@ -10,23 +13,25 @@ known c = search digit_read
 pub returns-then-not-is_led : goal.returns-then-not-is_led
 returns-then-not-is_led c = search not_led
 
-pub loop-b-init : goal.loop-b-init
-loop-b-init c = search counting
-
 pub returns-then-not-is_digit : goal.returns-then-not-is_digit
 returns-then-not-is_digit c = search no_digit
 
 pub overflow_sub-b : goal.overflow_sub-b
 overflow_sub-b c = let k = known c in search rules
 
-pub overflow_add-value : goal.overflow_add-value
-overflow_add-value c = let k = known (goal.at.overflow_add-value c).Else-not-is_digit in search rules
+pub returns-in_err-checked_mul : goal.returns-in_err-checked_mul
+returns-in_err-checked_mul c =
+    let k = known (goal.at.returns-in_err-checked_mul c).Else-not-is_digit in
+    rw c.from_residual.ensures (k.over _ refl (omega (arith, c.in_err-checked_mul.ensures)))
 
-pub returns-then-value-gt-LARGEST : goal.returns-then-value-gt-LARGEST
-returns-then-value-gt-LARGEST c = search (known (goal.at.returns-then-value-gt-LARGEST c).Else-not-is_digit).over
+pub returns-in_err-value : goal.returns-in_err-value
+returns-in_err-value c =
+    let k = known (goal.at.returns-in_err-value c).Else-not-is_digit in
+    rw c.from_residual-in_err-value.ensures (k.over (c.in_ok-checked_mul.field-0 + c.from-digit.result) (omega arith) (omega (arith, c.in_err-value.ensures)))
 
 pub loop-b-preserved : goal.loop-b-preserved
-loop-b-preserved c = search (known (goal.at.loop-b-preserved c).Else-not-is_digit).next
+loop-b-preserved c =
+    (known (goal.at.loop-b-preserved c).Else-not-is_digit).next _ (omega arith) (omega arith)
 
 pub returns : goal.returns
 returns c = search counted

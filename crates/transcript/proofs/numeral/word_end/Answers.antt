@@ -1,10 +1,6 @@
 use native.Mathlib.Omega.{arith}
-use mathlib.Core.Path.{refl}
 use Rattle.transcript.proofs.Words.{word_stop, word_next, word_none}
 use Rattle.transcript.proofs.numeral.word_end.Goals as goal
-
-pub loop-i-init : goal.loop-i-init
-loop-i-init c = refl
 
 pub returns-then-line-i-eq-SPACE : goal.returns-then-line-i-eq-SPACE
 returns-then-line-i-eq-SPACE c =

@@ -1,4 +1,3 @@
-use mathlib.Core.List.{append-nil}
 use native.Mathlib.Omega.{arith}
 use mathlib.Core.Path.{◌≡◌, refl}
 use Prim.Native.Nat.{◌+◌, ◌-◌}
@@ -8,9 +7,6 @@ use Rattle.transcript.proofs.text.digits_of.Goals as goal
 
 pub returns-then-n-eq0 : goal.returns-then-n-eq0
 returns-then-n-eq0 c = (refl, omega arith, decimal_zero _ c.if-n-eq0.true)
-
-pub loop-i-init : goal.loop-i-init
-loop-i-init c = (refl, append-nil _)
 
 pub returns-then-rest-eq0 : goal.returns-then-rest-eq0
 returns-then-rest-eq0 c =

@@ -1,4 +1,3 @@
-use Rattle.transcript.proofs.Digits.{items_all}
 use lib.ListN.{get_or}
 use native.Mathlib.Omega.{arith}
 use Rattle.transcript.proofs.Digits.{appended_none, appended_item, items_none, decimal_few}
@@ -6,9 +5,6 @@ use Rattle.transcript.proofs.text.put_items.Goals as goal
 
 pub loop-number-init : goal.loop-number-init
 loop-number-init c = (omega arith, rw items_none (appended_none _ _))
-
-pub put_byte-start-requires : goal.put_byte-start-requires
-put_byte-start-requires c = omega arith
 
 pub loop-number-preserved : goal.loop-number-preserved
 loop-number-preserved c = (
@@ -20,7 +16,3 @@ loop-number-preserved c = (
   ),
   appended_item _ _ _ _ _ _ c.loop-number-test.true c.loop-number.invariant.1 c.put_byte-start.ensures c.put_number-end.ensures,
 )
-
-pub returns : goal.returns
-returns c =
-    items_all _ _ _ _ c.loop-number-test.false c.loop-number.invariant.1

@@ -2,4 +2,4 @@ use Rattle.record.proofs.members.Members.with.Goals as goal
 
 pub returns : goal.returns
 returns c =
-    rw c.with_bit.ensures
+    rw c.power.ensures

@@ -2,4 +2,4 @@ use Rattle.record.proofs.members.Members.without.Goals as goal
 
 pub returns : goal.returns
 returns c =
-    rw c.without_bit.ensures
+    rw c.power.ensures

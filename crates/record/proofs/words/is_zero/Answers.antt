@@ -1,7 +1,7 @@
 use borrow.Author.Rules.{rules}
 use Rattle.record.specs.Below.{all}
-use Rattle.replica.proofs.Laws.{zero_more}
-use Rattle.replica.proofs.wellformed.is_zero.Goals as goal
+use Rattle.record.proofs.Zeros.{zero_more}
+use Rattle.record.proofs.words.is_zero.Goals as goal
 
 pub loop-word-init : goal.loop-word-init
 unfolding all

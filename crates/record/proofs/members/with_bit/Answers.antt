@@ -1,5 +1,0 @@
-use Rattle.record.proofs.members.with_bit.Goals as goal
-
-pub returns : goal.returns
-returns c =
-    rw c.power.ensures

@@ -155,30 +155,24 @@ still l m C =
 abbrev ended : Outcome → List ℕ → Proposed
 ended o rec = record { outcome = o; made = rec }
 
+-- question 5 of the current round, and those behind it
+module _ (l : List ℕ) where
+  pub making_late : rounds < current_round l → Err Round ≡ first_no (making_questions l)
+  making_late k = unfold making_questions in stop _ _ none
+    where
+      none : is_round (current_round l) ≡ false
+      none = unfold is_round in and_fails_right (leb 1 (current_round l)) (lt-leb (current_round l) rounds k)
+
+  pub making_asked : 1 ≤ current_round l → current_round l ≤ rounds → (r : Verdict) → r ≡ first_no (drop 1 (making_questions l)) → r ≡ first_no (making_questions l)
+  making_asked h k r d = unfold making_questions in next _ _ (round_in (current_round l) h k) (unfold making_questions in d)
+
 -- all questions
 module _ (l : List ℕ) (why : Verdict) (e : why ≡ first_no (member_questions l)) where
   pub propose_stopped : (number_of why ≡ 0 → ⊥) → why ≡ propose_refusal l
   propose_stopped h = e ∙ front_no (member_questions l) (making_questions l) (λ d. h (ap number_of e ∙ d))
 
-  module _ (h : number_of why ≡ 0) where
-    past_member : {r : Verdict} → r ≡ first_no (making_questions l) → r ≡ propose_refusal l
-    past_member d = d ∙ front_yes (member_questions l) (making_questions l) (member_numbered l) (sym (ap number_of e) ∙ h)
-
-    pub propose_late : rounds < current_round l → Err Round ≡ propose_refusal l
-    propose_late k = past_member late
-      where
-        none : is_round (current_round l) ≡ false
-        none = unfold is_round in and_fails_right (leb 1 (current_round l)) (lt-leb (current_round l) rounds k)
-
-        late : Err Round ≡ first_no (making_questions l)
-        late = unfold making_questions in stop _ _ none
-
-    pub propose_asked : current_round l ≤ rounds → (r : Verdict) → r ≡ first_no (drop 1 (making_questions l)) → r ≡ propose_refusal l
-    propose_asked k r d = past_member in_round
-      where
-        in_round : r ≡ first_no (making_questions l)
-        in_round = unfold making_questions in
-            next _ _ (round_in (current_round l) (member_known l why e h).state.front.round_low k) (unfold making_questions in d)
+  pub propose_past : number_of why ≡ 0 → {r : Verdict} → r ≡ first_no (making_questions l) → r ≡ propose_refusal l
+  propose_past h d = d ∙ front_yes (member_questions l) (making_questions l) (member_numbered l) (sym (ap number_of e) ∙ h)
 
 -- the call
 module _ (l digest : List ℕ) (why : Verdict) (e : why ≡ propose_refusal l) where

@@ -4,9 +4,9 @@ ghost use Rattle.record.specs.Members.{rounds};
 ghost use Rattle.record.specs.Refusals.{first_no, or_zero};
 ghost use Rattle.record.specs.Layout.{record_words};
 ghost use Rattle.replica.specs.Layout.{state_size, kinds};
-ghost use Rattle.replica.specs.State.{mask_of};
-ghost use Rattle.proposing.specs.Making.{made_strong, made_record, making_questions, propose_refusal, told_proposal, propose_vertex};
-ghost use Rattle.proposing.specs.Inner.{Current, draft_of, enough_in};
+ghost use Rattle.replica.specs.State.{current_round, mask_of};
+ghost use Rattle.proposing.specs.Making.{made_strong, made_record, making_questions, told_proposal, propose_vertex};
+ghost use Rattle.proposing.specs.Inner.{Opened, Current, draft_of, enough_in};
 
 use super::own::{check_member, mark_round, marks_round};
 use super::weak::offer_rounds;
@@ -141,12 +141,11 @@ fn plain_record(
     words
 }
 
-// All questions of making.
-fn check_propose(state: &[u32]) -> Result<(), Refusal>
-    ensures { result ≡ propose_refusal state.now }
+// The questions of making but the member's own, 1, 3 and 16, which are passed.
+fn check_propose(state: &[u32], group: Group) -> Result<(), Refusal>
+    requires { Opened state.now group.n (current_round state.now) }
+    ensures { result ≡ first_no (making_questions state.now) }
 {
-    check_member(state)?;
-    let group = Group::of(state[MEMBER_COUNT]);
     let round = state[CURRENT_ROUND];
     if ROUNDS < round {
         return Err(Refusal::Round);
@@ -174,15 +173,16 @@ fn record_of(
     words
 }
 
-// Makes our own vertex of the current round, with the digest: the words of its record.
+// Makes our own vertex of the current round, with the digest: the words of its record. The group is worked out once.
 pub fn propose(
     state: &mut [u32],
     digest: &[u32; DIGEST_SIZE],
 ) -> Result<[u32; RECORD_SIZE], Refusal>
     ensures { told_proposal result state.new ≡ propose_vertex state.old digest.now }
 {
-    check_propose(state)?;
+    check_member(state)?;
     let group = Group::of(state[MEMBER_COUNT]);
+    check_propose(state, group)?;
     let round = state[CURRENT_ROUND];
     let words = record_of(state, group, round, digest);
     mark_round(state, MADE, round);

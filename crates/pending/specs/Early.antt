@@ -23,10 +23,11 @@ later_questions l s n rec = (buffer_ok n s, Buffer) ∷ admission_questions l n 
 abbrev pub buffered_questions : List ℕ → List ℕ → List ℕ → List Question
 buffered_questions l s rec = state_questions l ++ later_questions l s (member_count l) rec
 
--- In place of 14: a waiting record of the same id gives 12 if it is the same and 13 if not, 32 others give 20, and else it is 14.
+-- a waiting record of the same id gives 12 if it is the same and 13 if not
 abbrev pub waiting_questions : List (List ℕ) → List ℕ → List Question
 waiting_questions recs rec = (not (some (same_record rec) recs), Duplicate) ∷ (not (some (same_id rec) recs), Conflict) ∷ []
 
+-- In place of 14: a waiting record of the same id gives 12 or 13, 32 others give 20, and else it is 14.
 abbrev pub early_questions : List (List ℕ) → List ℕ → Refusal → List Question
 early_questions recs rec why = waiting_questions recs rec ++ ((ltb (length recs) buffer_slots, BufferFull) ∷ (false, why) ∷ [])
 

@@ -27,7 +27,7 @@ use Rattle.record.proofs.Masks.{within_lt, meets_count}
 
 -- ---- the first no
 
--- a question answered yes is no_refusal over, and one answered no gives its refusal
+-- a question answered yes is passed over, and one answered no gives its refusal
 pub next : {t : Bool} {r : Verdict} (why : Refusal) (rest : List Question) → t ≡ true → r ≡ first_no rest → r ≡ first_no ((t, why) ∷ rest)
 unfolding first_no
 next {t = true} why rest e h = h

@@ -63,11 +63,12 @@ abbrev pub number_of : {T : Type 0} → Result T Refusal → ℕ
 number_of (Ok x) = 0
 number_of (Err why) = refusal_number why
 
--- the id that goes with the number: with 14 the missing parent's, and else 0
+-- a number, and 0 where there is none
 abbrev pub or_zero : Option ℕ → ℕ
 or_zero None = 0
 or_zero (Some x) = x
 
+-- the id that goes with the number: with 14 the missing parent's, and else 0
 abbrev pub id_in : {T : Type 0} → Result T Refusal → ℕ
 id_in (Ok x) = 0
 id_in (Err why) = or_zero (missing_in why)

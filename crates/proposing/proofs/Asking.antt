@@ -163,7 +163,8 @@ module _ (l : List ℕ) where
       none : is_round (current_round l) ≡ false
       none = unfold is_round in and_fails_right (leb 1 (current_round l)) (lt-leb (current_round l) rounds k)
 
-  pub making_asked : 1 ≤ current_round l → current_round l ≤ rounds → (r : Verdict) → r ≡ first_no (drop 1 (making_questions l)) → r ≡ first_no (making_questions l)
+  pub making_asked : 1 ≤ current_round l → current_round l ≤ rounds → (r : Verdict) → r ≡ first_no (drop 1 (making_questions l))
+      → r ≡ first_no (making_questions l)
   making_asked h k r d = unfold making_questions in next _ _ (round_in (current_round l) h k) (unfold making_questions in d)
 
 -- all questions

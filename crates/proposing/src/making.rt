@@ -141,7 +141,7 @@ fn plain_record(
     words
 }
 
-// The questions of making but the member's own, 1, 3 and 16, which are passed.
+// Questions 5, 9, 10, 12 and 18, of a member's state: 1, 3 and 16 are passed.
 fn check_propose(state: &[u32], group: Group) -> Result<(), Refusal>
     requires { Opened state.now group.n (current_round state.now) }
     ensures { result ≡ first_no (making_questions state.now) }
